@@ -1,0 +1,5 @@
+pub mod ChoiceLaws
+pub mod BytesLaws
+pub mod ListsLaws
+pub mod Copying
+pub mod Zeros

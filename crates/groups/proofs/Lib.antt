@@ -1,0 +1,6 @@
+pub mod Steps
+pub mod Sizes
+pub mod Output
+pub mod ReadBack
+pub mod ShortestOnly
+pub mod Cases

@@ -1,0 +1,86 @@
+-- What one byte does: laws of `groups` and `readFrom`, one for each way on, and the bounds that go with them.
+use mathlib.Core.Path.{_≡_, refl, sym}
+use mathlib.Core.Bool.{Bool, true, false}
+use mathlib.Core.Logic.{_⊎_, inl, inr}
+use mathlib.Core.List.{List, [], _∷_}
+use Prim.Native.Nat.{ℕ, zero, suc, _+_, _*_, _/_, _%_, _^_, _≤_, _<_}
+use native.Mathlib.Nat.{mul-le-mul-right, pow-le-pow-right}
+use native.Mathlib.Numerals.{add-one}
+use native.Mathlib.Omega.{arith}
+use borrow.Author.Tests.{lt-ltb, le-ltb, le-leb, lt-leb, ltb-true, ltb-false}
+use lib.Dec.{ltb}
+use lib.ListN.{length, getD}
+use Rattle.refusal.specs.declared.Refusal.the-variants.{BytesEnd, NotShortest}
+use Rattle.groups.specs.declared.Number.{Number}
+use Rattle.groups.specs.declared.Number.the-variants.{Refused}
+use Rattle.groups.specs.Groups.{groups}
+use Rattle.groups.specs.Reading.{ended, readFrom, readAt}
+
+-- groups: the last one, and one with another after it
+pub groups-last : (k x : ℕ) → x < 128 → groups (suc k) x ≡ x ∷ []
+unfolding groups
+groups-last k x h = rw (lt-ltb x 128 h)
+
+pub groups-more : (k x : ℕ) → 128 ≤ x → groups (suc k) x ≡ (128 + x % 128) ∷ groups k (x / 128)
+unfolding groups
+groups-more k x h = rw (le-ltb x 128 h)
+
+-- the number's bound goes down with it
+pub rest-below : (left next x : ℕ) → left ≡ suc next → x < 128 ^ left → x / 128 < 128 ^ next
+rest-below left next x n h = let below : x < 128 ^ suc next = rw n at h in omega arith
+
+-- where another group follows, two are left
+pub two-left : (k x : ℕ) → 128 ≤ x → x < 128 ^ k → 1 < k
+two-left zero x m h = omega arith
+two-left (suc zero) x m h = omega arith
+two-left (suc (suc k)) x m h = omega arith
+
+-- reading: no byte is allowed, and the bytes end
+pub read-none : (bytes : List ℕ) (at i low left : ℕ) → left ≡ 0 → readFrom bytes at i low left ≡ Refused NotShortest
+unfolding readFrom
+read-none bytes at i low left n = rw n
+
+pub read-end : (bytes : List ℕ) (at i low left next : ℕ) → left ≡ suc next → length bytes ≤ at → readFrom bytes at i low left ≡ Refused BytesEnd
+unfolding readFrom
+read-end bytes at i low left next n e = rw (n, le-leb (length bytes) at e)
+
+-- reading a byte of group i: the last, and one with another after it
+module _ (bytes : List ℕ) (at i low left next byte weight : ℕ) (n : left ≡ suc next) (here : at < length bytes) (b : byte ≡ getD bytes at 0) (w : weight ≡ 128 ^ i) where
+  pub read-last : byte < 128 → readFrom bytes at i low left ≡ ended byte i (low + byte % 128 * weight) (at + 1)
+  unfolding readFrom
+  read-last h = rw (n, w, ← b, lt-leb (length bytes) at here, lt-ltb byte 128 h)
+
+  pub read-more : 128 ≤ byte → readFrom bytes at i low left ≡ readFrom bytes (at + 1) (i + 1) (low + byte % 128 * weight) next
+  unfolding readFrom
+  read-more h = rw (n, w, ← b, lt-leb (length bytes) at here, le-ltb byte 128 h)
+
+-- a group added to what is read stays below the next weight
+pub added-below : (byte low weight : ℕ) → low < weight → low + byte % 128 * weight < weight * 128
+added-below byte low weight h = omega (arith, mul-le-mul-right {m = byte % 128} {n = 127} weight (omega arith))
+
+-- the weight of one of nine groups
+pub weight-le : (weight i : ℕ) → weight ≡ 128 ^ i → i < 9 → weight ≤ 2 ^ 56
+weight-le weight i w h = rw w (pow-le-pow-right {n = 128} (omega arith) {i = i} {j = 8} (omega arith))
+
+pub next-weight : (weight i : ℕ) → weight ≡ 128 ^ i → weight * 128 ≡ 128 ^ (i + 1)
+next-weight weight i w = rw (w, add-one i) (omega arith)
+
+-- what reading from the start gives
+pub read-whole : (bytes : List ℕ) (at limit most : ℕ) (answer : Number) → limit ≡ most → readFrom bytes at 0 0 limit ≡ answer → answer ≡ readAt bytes at most
+unfolding readAt
+read-whole bytes at limit most answer l r = rw (← l) (sym r)
+
+-- one of the two tests holds
+pub lt-or-le : (x bound : ℕ) → (x < bound) ⊎ (bound ≤ x)
+lt-or-le x bound = cases (ltb x bound) refl
+  where
+    cases : (t : Bool) → ltb x bound ≡ t → (x < bound) ⊎ (bound ≤ x)
+    cases true e = inl (ltb-true x bound e)
+    cases false e = inr (ltb-false x bound e)
+
+-- a group and the number of those after it, at any weight
+pub add-group : (q r weight : ℕ) → r * weight + q * (weight * 128) ≡ (q * 128 + r) * weight
+add-group q r weight = omega arith
+
+pub small : (x : ℕ) → x < 128 → x % 128 ≡ x
+small x h = omega arith

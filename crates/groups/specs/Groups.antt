@@ -1,0 +1,14 @@
+-- Document 01: numbers 'in seven-bit groups, low group first, top bit set where another follows, shortest form'.
+use Prim.Native.Nat.{ℕ, zero, suc, _+_, _/_, _%_}
+use mathlib.Core.List.{List, [], _∷_}
+use lib.Dec.{ltb}
+use Rattle.base.specs.Choice.{pick}
+
+-- a number below 128 ^ k in its groups, at most k
+unfoldable pub groups : ℕ → ℕ → List ℕ
+groups zero x = []
+groups (suc k) x = pick (ltb x 128) (x ∷ []) ((128 + x % 128) ∷ groups k (x / 128))
+
+-- ten groups hold every number of 64 bits
+abbrev pub groupsOf : ℕ → List ℕ
+groupsOf x = groups 10 x

@@ -1,0 +1,134 @@
+// Numbers in seven-bit groups, read at a place of the caller's bytes and written there.
+use refusal::Outcome;
+use refusal::Refusal;
+ghost use mathlib.Core.Path.{_≡_};
+ghost use Prim.Native.Nat.{_+_, _<_, min};
+ghost use lib.Dec.{leb};
+ghost use lib.ListN.{length, take};
+ghost use Rattle.groups.specs.Groups.{groupsOf};
+ghost use Rattle.groups.specs.Reading.{maxGroups, ended, readAt};
+ghost use Rattle.groups.specs.Writing.{putAt, outputAfter};
+
+// A place in the caller's bytes.
+pub struct Cursor {
+    pub at: usize,
+}
+
+// What reading a number gives: its value and the place after it, or the refusal.
+pub enum Number {
+    Value(u64, Cursor),
+    Refused(Refusal),
+}
+
+// What writing a number gives: done with the count of bytes written, or refused with 0.
+pub struct Put {
+    pub outcome: Outcome,
+    pub count: usize,
+}
+
+// A number's groups: the first `count` of ten bytes.
+struct Laid {
+    bytes: [u8; 10],
+    count: usize,
+}
+
+// A byte as a number.
+fn wide(byte: u8) -> u64
+    ensures { λ r. ⌜ (r ≡ byte) × (r < 256) ⌝ }
+{
+    byte as u64
+}
+
+// How many groups may be read: at most nine, so that the number fits 64 bits.
+fn allowed(most: usize) -> usize
+    ensures { λ r. ⌜ r ≡ min most maxGroups ⌝ }
+{
+    if most < 9 { most } else { 9 }
+}
+
+// The number that ends with this byte, after i others. The last of several is not 0.
+fn last(byte: u64, i: usize, value: u64, end: usize) -> Number
+    ensures { λ r. ⌜ r ≡ ended byte i value end ⌝ }
+{
+    if byte == 0 {
+        if 0 < i {
+            return Number::Refused(Refusal::NotShortest);
+        }
+    }
+    Number::Value(value, Cursor { at: end })
+}
+
+// Reads the number at a place, of at most `most` groups, and of no more than nine, whose value fits 64 bits.
+// A place past the end is refused as bytes that end are.
+pub fn read(bytes: &[u8], from: Cursor, most: usize) -> Number
+    ensures { λ r. ⌜ r ≡ readAt (now (bytes .entry)) (from .at) (min most maxGroups) ⌝ }
+{
+    let limit = allowed(most);
+    let mut at = from.at;
+    let mut low: u64 = 0;
+    let mut weight: u64 = 1;
+    let mut i = 0;
+    while i < limit {
+        if bytes.len() <= at {
+            return Number::Refused(Refusal::BytesEnd);
+        }
+        let byte = wide(bytes[at]);
+        low += byte % 128 * weight;
+        at += 1;
+        if byte < 128 {
+            return last(byte, i, low, at);
+        }
+        weight *= 128;
+        i += 1;
+    }
+    Number::Refused(Refusal::NotShortest)
+}
+
+// The groups of a number, low group first, the top bit set where another follows.
+fn lay(value: u64) -> Laid
+    ensures { λ r. ⌜ (take (r .count) (r .bytes) ≡ groupsOf value) × (r .count ≡ length (groupsOf value)) ⌝ }
+{
+    let mut bytes = [0u8; 10];
+    let mut rest = value;
+    let mut i = 0;
+    while 128 <= rest {
+        bytes[i] = (128 + rest % 128) as u8;
+        rest /= 128;
+        i += 1;
+    }
+    bytes[i] = rest as u8;
+    Laid {
+        bytes,
+        count: i + 1,
+    }
+}
+
+// Whether so many bytes from a place on fit a length.
+fn has_room(len: usize, at: usize, count: usize) -> bool
+    ensures { λ r. ⌜ r ≡ leb (at + count) len ⌝ }
+{
+    if len < count {
+        return false;
+    }
+    at <= len - count
+}
+
+// Writes a number's groups over `out` from a place on, or nothing where they do not fit.
+pub fn write(value: u64, out: &mut [u8], at: usize) -> Put
+    ensures { λ r. ⌜ (r ≡ putAt (now (out .entry)) at value) × (now (out .exit) ≡ outputAfter (now (out .entry)) at value) ⌝ }
+{
+    let groups = lay(value);
+    let bytes = groups.bytes;
+    let count = groups.count;
+    if !has_room(out.len(), at, count) {
+        return Put {
+            outcome: Outcome::Refused(Refusal::ShortOutput),
+            count: 0,
+        };
+    }
+    base::put(out, at, &bytes[..count]);
+    Put {
+        outcome: Outcome::Done,
+        count,
+    }
+}

@@ -1,0 +1,28 @@
+use Prim.Native.Nat.{_+_}
+use lib.ListN.{length}
+use mathlib.Core.Path.{_≡_, refl, sym, ap, _∙_}
+use mathlib.Core.Bool.{true, false}
+use native.Mathlib.Omega.{arith}
+use borrow.Author.Tests.{leb-false}
+use Rattle.base.specs.Limits.{maxHashed}
+use Rattle.sha256.specs.Portions.{updateOutcome, updateState}
+use borrow.Author.Needs.{needs}
+use Rattle.sha256.proofs.Hash.update.Statement.{statement}
+use Rattle.sha256.proofs.Hash.update.Tie as tie
+
+too-many-requires : tie.Need-too-many-requires
+too-many-requires c κs = search needs
+
+returns : tie.Need-returns
+unfolding updateOutcome updateState
+returns c = rw (sym (c .before .too-many .ensures) ∙ c .if1 .taken) (refl, refl)
+
+pushed-requires : tie.Need-pushed-requires
+pushed-requires c κs = omega (arith, leb-false (maxHashed + 1) (c .before .before .before .args .self .taken + length (c .before .before .before .args .part .now)) (sym (c .before .too-many .ensures) ∙ c .if1 .left))
+
+returns-2 : tie.Need-returns-2
+unfolding updateOutcome updateState
+returns-2 c = rw (sym (c .before .before .too-many .ensures) ∙ c .before .if1 .left) (refl, c .pushed .ensures)
+
+pub update-spec : {M : Type 1} → statement M
+update-spec = tie.close (tie.spec too-many-requires returns pushed-requires returns-2)

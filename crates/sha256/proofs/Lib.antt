@@ -1,0 +1,6 @@
+pub mod Rounds
+pub mod Gather
+pub mod Blocks
+pub mod Pushing
+pub mod Digests
+pub mod Portions

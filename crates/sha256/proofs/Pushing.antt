@@ -1,0 +1,157 @@
+-- Pushing bytes into a state: one by one as it is defined, and in chunks as the code does.
+use Prim.Native.Nat.{ℕ, zero, suc, _+_, _-_, _*_, _/_, _%_, _≤_, _<_}
+use mathlib.Core.Path.{_≡_, refl, sym, ap, _∙_}
+use mathlib.Core.Bool.{Bool, true, false}
+use mathlib.Core.List.{List, [], _∷_, _++_, append-nil}
+use native.Mathlib.Nat.{add-zero, zero-add, mul-suc}
+use native.Mathlib.Omega.{arith}
+use borrow.Author.Tests.{eq-eqb, ne-eqb}
+use lib.Dec.{eqb}
+use lib.ListN.{length, take, drop, set, replicate, length-drop, take-append-drop}
+use lib.Seq.{sets, sets-eq, length-take-le, drop-length, take-add}
+use Rattle.sha256.specs.declared.Words.{Words}
+use Rattle.sha256.specs.declared.Hash.{Hash}
+use Rattle.sha256.specs.Padding.{words}
+use Rattle.sha256.specs.Compression.{compressed}
+use Rattle.sha256.specs.Digest.{block, hashAfter}
+use Rattle.base.specs.Choice.{pick}
+use Rattle.sha256.specs.Portions.{cleared, pushed, pushedAll}
+use Rattle.sha256.proofs.Blocks.{words-take}
+
+-- ---- one byte
+
+abbrev stepped : Hash → ℕ → Hash
+stepped s byte = record { words = s .words; tail = set (s .tail) (s .taken % 64) byte; taken = s .taken + 1 }
+
+pushed-within : (s : Hash) (byte : ℕ) → s .taken % 64 < 63 → pushed s byte ≡ stepped s byte
+unfolding pushed
+pushed-within s byte h = rw (ne-eqb (s .taken % 64) 63 (λ e. omega arith))
+
+pushed-full : (s : Hash) (byte : ℕ) → s .taken % 64 ≡ 63
+    → pushed s byte ≡ cleared (compressed (s .words) (words 16 (set (s .tail) (s .taken % 64) byte))) (s .taken + 1)
+unfolding pushed
+pushed-full s byte h = rw (eq-eqb (s .taken % 64) 63 h)
+
+pick-taken : (t : Bool) (x y : Hash) (n : ℕ) → x .taken ≡ n → y .taken ≡ n → pick t x y .taken ≡ n
+pick-taken true x y n p q = p
+pick-taken false x y n p q = q
+
+pushed-taken : (s : Hash) (byte : ℕ) → pushed s byte .taken ≡ s .taken + 1
+unfolding pushed
+pushed-taken s byte = pick-taken (eqb (s .taken % 64) 63) _ _ _ refl refl
+
+-- ---- many
+
+pub pushedAll-append : (s : Hash) (a b : List ℕ) → pushedAll s (a ++ b) ≡ pushedAll (pushedAll s a) b
+unfolding pushedAll
+pushedAll-append s [] b = refl
+pushedAll-append s (byte ∷ a) b = pushedAll-append (pushed s byte) a b
+
+pub pushedAll-taken : (s : Hash) (bytes : List ℕ) → pushedAll s bytes .taken ≡ s .taken + length bytes
+unfolding pushedAll
+pushedAll-taken s [] = sym (add-zero (s .taken))
+pushedAll-taken s (byte ∷ bytes) = omega (arith, pushedAll-taken (pushed s byte) bytes, pushed-taken s byte)
+
+-- bytes that leave the tail short of full
+pub pushedAll-within : (s : Hash) (bytes : List ℕ) → s .taken % 64 + length bytes < 64
+    → pushedAll s bytes ≡ record { words = s .words; tail = sets (s .tail) (s .taken % 64) bytes; taken = s .taken + length bytes }
+unfolding pushedAll
+pushedAll-within s [] h = rw (add-zero (s .taken))
+pushedAll-within s (byte ∷ bytes) h =
+    let at : (s .taken + 1) % 64 ≡ suc (s .taken % 64) = omega arith in
+    let all : s .taken + 1 + length bytes ≡ s .taken + suc (length bytes) = omega arith in
+    rw (
+      pushed-within s byte (omega arith),
+      pushedAll-within (stepped s byte) bytes (omega arith),
+      at,
+      all,
+    )
+
+-- bytes that fill the tail to its end
+full-step : (s : Hash) (byte : ℕ) (bytes : List ℕ) → s .taken % 64 < 63
+    → pushedAll (stepped s byte) bytes ≡
+    cleared (compressed (s .words) (words 16 (sets (set (s .tail) (s .taken % 64) byte) ((s .taken + 1) % 64) bytes))) (s .taken + 1 + length bytes)
+    → pushedAll s (byte ∷ bytes) ≡
+    cleared (compressed (s .words) (words 16 (sets (s .tail) (s .taken % 64) (byte ∷ bytes)))) (s .taken + length (byte ∷ bytes))
+unfolding pushedAll
+full-step s byte bytes h e =
+    let at : (s .taken + 1) % 64 ≡ suc (s .taken % 64) = omega arith in
+    let all : s .taken + 1 + length bytes ≡ s .taken + suc (length bytes) = omega arith in
+    rw (pushed-within s byte h, e, at, all)
+
+pub pushedAll-full : (s : Hash) (bytes : List ℕ) → s .taken % 64 + length bytes ≡ 64
+    → pushedAll s bytes ≡ cleared (compressed (s .words) (words 16 (sets (s .tail) (s .taken % 64) bytes))) (s .taken + length bytes)
+unfolding pushedAll
+pushedAll-full s [] h = absurd (omega arith)
+pushedAll-full s (byte ∷ []) h = pushed-full s byte (omega arith)
+pushedAll-full s (byte ∷ (next ∷ bytes)) h =
+    full-step s byte (next ∷ bytes) (omega arith) (pushedAll-full (stepped s byte) (next ∷ bytes) (omega arith))
+
+-- bytes that fill the tail and go on
+pub pushedAll-beyond : (s : Hash) (bytes : List ℕ) → 64 ≤ s .taken % 64 + length bytes
+    → pushedAll s bytes ≡
+    pushedAll
+    (cleared (compressed (s .words) (words 16 (sets (s .tail) (s .taken % 64) (take (64 - s .taken % 64) bytes)))) (s .taken + (64 - s .taken % 64)))
+    (drop (64 - s .taken % 64) bytes)
+pushedAll-beyond s bytes h =
+    let room : ℕ = 64 - s .taken % 64 in
+    let n : length (take room bytes) ≡ room = length-take-le room bytes (omega arith) in
+    ap (pushedAll s) (sym (take-append-drop room bytes)) ∙
+    pushedAll-append s (take room bytes) (drop room bytes) ∙
+    ap (λ (t : Hash). pushedAll t (drop room bytes)) (pushedAll-full s (take room bytes) (omega arith) ∙ rw n)
+
+-- ---- whole blocks, from the start of one
+
+sets-whole : (l s : List ℕ) → length l ≡ length s → sets l 0 s ≡ s
+sets-whole l s h =
+    sets-eq s l 0 (omega arith) ∙ rw (zero-add (length s), ← h, drop-length l) (append-nil s)
+
+pushedAll-block : (v : Words) (taken : ℕ) (l : List ℕ) → taken % 64 ≡ 0 → 64 ≤ length l
+    → pushedAll (cleared v taken) (take 64 l) ≡ cleared (compressed v (words 16 l)) (taken + 64)
+pushedAll-block v taken l m h =
+    let n : length (take 64 l) ≡ 64 = length-take-le 64 l h in
+    pushedAll-full (cleared v taken) (take 64 l) (omega arith) ∙
+    rw (n, m, sets-whole (replicate 64 0) (take 64 l) (sym n), words-take l h)
+
+blocks-step : (s : Hash) (v : Words) (taken : ℕ) (bytes : List ℕ) (k : ℕ) → pushedAll s (take (64 * k) bytes) ≡ cleared v taken
+    → taken % 64 ≡ 0 → 64 * k + 64 ≤ length bytes
+    → pushedAll s (take (64 * suc k) bytes) ≡ cleared (compressed v (block bytes k)) (taken + 64)
+blocks-step s v taken bytes k e m h =
+    rw (
+      mul-suc 64 k,
+      take-add (64 * k) 64 bytes,
+      pushedAll-append s (take (64 * k) bytes) (take 64 (drop (64 * k) bytes)),
+      e,
+    )
+    (pushedAll-block v taken (drop (64 * k) bytes) m (simp length-drop (omega arith)))
+
+pub pushedAll-blocks : (v : Words) (taken : ℕ) (bytes : List ℕ) (k : ℕ) → taken % 64 ≡ 0 → 64 * k ≤ length bytes
+    → pushedAll (cleared v taken) (take (64 * k) bytes) ≡ cleared (hashAfter v bytes k) (taken + 64 * k)
+unfolding pushedAll hashAfter
+pushedAll-blocks v taken bytes zero m h = ap (cleared v) (sym (add-zero taken))
+pushedAll-blocks v taken bytes (suc k) m h =
+    blocks-step (cleared v taken) (hashAfter v bytes k) (taken + 64 * k) bytes k
+    (pushedAll-blocks v taken bytes k m (omega arith))
+    (omega arith)
+    (omega arith) ∙
+    ap (cleared (hashAfter v bytes (suc k))) (omega arith)
+
+-- bytes of any number, from the start of a block: whole blocks, and the rest in the tail
+pub pushedAll-cleared : (v : Words) (taken : ℕ) (bytes : List ℕ) → taken % 64 ≡ 0
+    → pushedAll (cleared v taken) bytes ≡
+    record {
+      words = hashAfter v bytes (length bytes / 64);
+      tail = sets (replicate 64 0) 0 (drop (64 * (length bytes / 64)) bytes);
+      taken = taken + length bytes;
+    }
+pushedAll-cleared v taken bytes m =
+    let q : ℕ = length bytes / 64 in
+    let r : List ℕ = drop (64 * q) bytes in
+    let n : length r ≡ length bytes - 64 * q = length-drop (64 * q) bytes in
+    let at : (taken + 64 * q) % 64 ≡ 0 = omega arith in
+    let all : taken + 64 * q + length r ≡ taken + length bytes = omega arith in
+    ap (pushedAll (cleared v taken)) (sym (take-append-drop (64 * q) bytes)) ∙
+    pushedAll-append (cleared v taken) (take (64 * q) bytes) r ∙
+    ap (λ (s : Hash). pushedAll s r) (pushedAll-blocks v taken bytes q m (omega arith)) ∙
+    pushedAll-within (cleared (hashAfter v bytes q) (taken + 64 * q)) r (omega arith) ∙
+    rw (at, all)

@@ -1,0 +1,48 @@
+use Prim.Native.Nat.{_+_}
+use mathlib.Core.Path.{_≡_, refl, sym, ap, _∙_}
+use native.Mathlib.Omega.{arith}
+use borrow.Author.Tests.{leb-false}
+use lib.ListN.{length}
+use Rattle.sha256.specs.declared.Hash.{Hash}
+use Rattle.sha256.specs.Padding.{padding}
+use Rattle.sha256.specs.Digest.{digestOf}
+use Rattle.base.specs.Limits.{maxHashed}
+use Rattle.sha256.specs.Portions.{newHash, pushedAll, digestOutcome, digestAnswer}
+use Rattle.sha256.proofs.Pushing.{pushedAll-taken}
+use Rattle.sha256.proofs.Digests.{digest-pushed}
+use borrow.Author.Needs.{needs}
+use Rattle.sha256.proofs.digest.Statement.{statement}
+use Rattle.sha256.proofs.digest.Tie as tie
+
+too-many-requires : tie.Need-too-many-requires
+too-many-requires c κs = search needs
+
+returns : tie.Need-returns
+unfolding digestOutcome digestAnswer
+returns c = rw (sym (c .before .too-many .ensures) ∙ c .if1 .taken) (refl, refl)
+
+aligned-requires : tie.Need-aligned-requires
+aligned-requires c κs = search needs
+
+closed-requires : tie.Need-closed-requires
+closed-requires c κs =
+    let m = c .before .before .before .before .args .message .now in
+    omega (
+      arith,
+      ap (λ (s : Hash). s .taken) (c .aligned .ensures) ∙ pushedAll-taken newHash m,
+      leb-false (maxHashed + 1) (0 + length m) (sym (c .before .before .too-many .ensures) ∙ c .before .if1 .left),
+    )
+
+returns-2 : tie.Need-returns-2
+unfolding digestOutcome digestAnswer
+returns-2 c =
+    rw (sym (c .before .before .before .too-many .ensures) ∙ c .before .before .if1 .left) (
+      refl,
+      c .closed .ensures ∙
+          ap (λ (s : Hash). digestOf (pushedAll s (padding (s .taken)) .words)) (c .before .aligned .ensures) ∙
+          digest-pushed (c .before .before .before .before .before .args .message .now),
+    )
+
+pub digest-spec : {M : Type 1} → statement M
+digest-spec =
+    tie.close (tie.spec too-many-requires returns aligned-requires closed-requires returns-2)

@@ -1,0 +1,7 @@
+pub mod Words
+pub mod Constants
+pub mod Padding
+pub mod Compression
+pub mod Block
+pub mod Digest
+pub mod Portions

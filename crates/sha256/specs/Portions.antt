@@ -1,0 +1,73 @@
+-- Document 01: hashing in portions, for every state. A state is eight words, a tail of 64 bytes and the number of bytes taken.
+use Prim.Native.Nat.{ℕ, _+_, _%_}
+use mathlib.Core.Path.{_≡_}
+use mathlib.Core.Bool.{Bool}
+use mathlib.Core.List.{List, [], _∷_, _++_}
+use lib.ListN.{length, set}
+use lib.Dec.{leb, eqb}
+use Rattle.base.specs.Choice.{pick}
+use Rattle.base.specs.Bytes.{zeros}
+use Rattle.base.specs.Limits.{maxHashed}
+use Rattle.refusal.specs.declared.Refusal.the-variants.{TooManyBytes}
+use Rattle.refusal.specs.declared.Outcome.{Outcome}
+use Rattle.refusal.specs.declared.Outcome.the-variants.{Done, Refused}
+use Rattle.sha256.specs.declared.Words.{Words}
+use Rattle.sha256.specs.declared.Hash.{Hash}
+use Rattle.sha256.specs.Constants.{initial}
+use Rattle.sha256.specs.Padding.{padding, words}
+use Rattle.sha256.specs.Compression.{compressed}
+use Rattle.sha256.specs.Digest.{digestOf, digest}
+
+-- a state whose tail is empty
+abbrev pub cleared : Words → ℕ → Hash
+cleared v taken = record { words = v; tail = zeros 64; taken = taken }
+
+-- a state that has taken nothing
+abbrev pub newHash : Hash
+newHash = cleared initial 0
+
+-- one byte more: it goes to the tail, and a full tail is compressed and cleared
+unfoldable pub pushed : Hash → ℕ → Hash
+pushed s byte =
+    let tail : List ℕ = set (s .tail) (s .taken % 64) byte in
+    pick (eqb (s .taken % 64) 63)
+    (cleared (compressed (s .words) (words 16 tail)) (s .taken + 1))
+    (record { words = s .words; tail = tail; taken = s .taken + 1 })
+
+unfoldable pub pushedAll : Hash → List ℕ → Hash
+pushedAll s [] = s
+pushedAll s (byte ∷ bytes) = pushedAll (pushed s byte) bytes
+
+-- 5: over 2^61 − 1 bytes in all
+abbrev pub tooMany : Hash → ℕ → Bool
+tooMany s more = leb (maxHashed + 1) (s .taken + more)
+
+-- row 'Hashing', a portion: its outcome, and the state afterwards
+unfoldable pub updateOutcome : Hash → List ℕ → Outcome
+updateOutcome s part = pick (tooMany s (length part)) (Refused TooManyBytes) Done
+
+unfoldable pub updateState : Hash → List ℕ → Hash
+updateState s part = pick (tooMany s (length part)) s (pushedAll s part)
+
+-- portions one after another: the state after them, and that each is done
+unfoldable pub updatedAll : Hash → List (List ℕ) → Hash
+updatedAll s [] = s
+updatedAll s (part ∷ parts) = updatedAll (updateState s part) parts
+
+unfoldable pub AllDone : Hash → List (List ℕ) → Type 0
+AllDone s [] = Unit
+AllDone s (part ∷ parts) = (updateOutcome s part ≡ Done) × AllDone (updateState s part) parts
+
+-- row 'Hashing', the end: its outcome, and the digest, 32 zero bytes where it is refused
+unfoldable pub finishOutcome : Hash → Outcome
+finishOutcome s = pick (tooMany s 0) (Refused TooManyBytes) Done
+
+unfoldable pub finishDigest : Hash → List ℕ
+finishDigest s = pick (tooMany s 0) (zeros 32) (digestOf (pushedAll s (padding (s .taken)) .words))
+
+-- one call for a whole message: its outcome, and the digest, 32 zero bytes where it is refused
+unfoldable pub digestOutcome : List ℕ → Outcome
+digestOutcome message = pick (tooMany newHash (length message)) (Refused TooManyBytes) Done
+
+unfoldable pub digestAnswer : List ℕ → List ℕ
+digestAnswer message = pick (tooMany newHash (length message)) (zeros 32) (digest message)

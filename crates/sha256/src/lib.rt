@@ -1,0 +1,170 @@
+// SHA-256 (FIPS 180-4): in portions, in one call, and of bytes that are padded already.
+mod absorb; // absorb.rt: whole blocks, straight from a slice
+mod bits; // bits.rt: the operations on words of sections 3.2 and 4.1.2
+mod block; // block.rt: a block's sixteen words, and the message schedule
+mod compress; // compress.rt: rounds, and the compression of a block
+mod encode; // encode.rt: numbers as bytes, and the padding
+mod push; // push.rt: bytes pushed into a state
+
+ghost use Prim.Native.Nat.{_+_};
+ghost use mathlib.Core.Path.{_≡_};
+ghost use lib.Dec.{leb};
+ghost use lib.ListN.{length};
+ghost use Rattle.sha256.specs.Constants.{initial};
+ghost use Rattle.sha256.specs.Padding.{blocks};
+ghost use Rattle.sha256.specs.Digest.{hashAfter, digestOf};
+ghost use Rattle.base.specs.Limits.{maxHashed};
+ghost use Rattle.sha256.specs.Portions.{newHash, updateOutcome, updateState, finishOutcome, finishDigest, digestOutcome, digestAnswer};
+use absorb::absorb;
+use encode::digest_bytes;
+use push::aligned;
+use push::closed;
+use push::pushed;
+use refusal::Outcome;
+use refusal::Refusal;
+
+// The eight hash words, or the working variables a to h.
+#[repr(C)]
+pub struct Words {
+    pub a: u32,
+    pub b: u32,
+    pub c: u32,
+    pub d: u32,
+    pub e: u32,
+    pub f: u32,
+    pub g: u32,
+    pub h: u32,
+}
+
+// A hash under way: the hash words, the bytes that wait for their block to fill, and how many
+// bytes were taken in all.
+#[repr(C)]
+pub struct Hash {
+    pub words: Words,
+    pub tail: [u8; 64],
+    pub taken: u64,
+}
+
+// A portion's outcome, and the state afterwards: the state as it was, if refused.
+pub struct Updated {
+    pub outcome: Outcome,
+    pub hash: Hash,
+}
+
+// The end's outcome, the digest, and the state as it was.
+pub struct Finished {
+    pub outcome: Outcome,
+    pub digest: [u8; 32],
+    pub hash: Hash,
+}
+
+// The outcome of one call, and the digest: 32 zero bytes, if refused.
+pub struct Digested {
+    pub outcome: Outcome,
+    pub digest: [u8; 32],
+}
+
+// 5.3.3: the initial hash value.
+const INITIAL: Words = Words {
+    a: 0x6a09e667,
+    b: 0xbb67ae85,
+    c: 0x3c6ef372,
+    d: 0xa54ff53a,
+    e: 0x510e527f,
+    f: 0x9b05688c,
+    g: 0x1f83d9ab,
+    h: 0x5be0cd19,
+};
+
+// The most bytes that can be hashed: their number in bits fits in 64.
+const LIMIT: u64 = 0x1fff_ffff_ffff_ffff;
+
+// Whether some bytes and more of them are too many.
+fn too_many(taken: u64, more: usize) -> bool
+    ensures { λ r. ⌜ r ≡ leb (maxHashed + 1) (taken + more) ⌝ }
+{
+    if LIMIT < taken {
+        return true;
+    }
+    if LIMIT - taken < more as u64 {
+        return true;
+    }
+    false
+}
+
+impl Hash {
+    // A state that has taken nothing.
+    pub fn new() -> Hash
+        ensures { λ r. ⌜ r ≡ newHash ⌝ }
+    {
+        let tail = [0u8; 64];
+        Hash {
+            words: INITIAL,
+            tail,
+            taken: 0,
+        }
+    }
+
+    // Takes a portion of the message, of any length.
+    pub fn update(self, part: &[u8]) -> Updated
+        ensures { λ r. ⌜ (r .outcome ≡ updateOutcome self (now (part .entry))) × (r .hash ≡ updateState self (now (part .entry))) ⌝ }
+    {
+        if too_many(self.taken, part.len()) {
+            return Updated {
+                outcome: Outcome::Refused(Refusal::TooManyBytes),
+                hash: self,
+            };
+        }
+        let hash = pushed(self, part);
+        Updated {
+            outcome: Outcome::Done,
+            hash,
+        }
+    }
+
+    // The digest of all that was taken.
+    pub fn finish(self) -> Finished
+        ensures { λ r. ⌜ (r .outcome ≡ finishOutcome self) × ((r .digest ≡ finishDigest self) × (r .hash ≡ self)) ⌝ }
+    {
+        if too_many(self.taken, 0) {
+            let digest = [0u8; 32];
+            return Finished {
+                outcome: Outcome::Refused(Refusal::TooManyBytes),
+                digest,
+                hash: self,
+            };
+        }
+        let digest = closed(self);
+        Finished {
+            outcome: Outcome::Done,
+            digest,
+            hash: self,
+        }
+    }
+}
+
+// The digest of a whole message.
+pub fn digest(message: &[u8]) -> Digested
+    ensures { λ r. ⌜ (r .outcome ≡ digestOutcome (now (message .entry))) × (r .digest ≡ digestAnswer (now (message .entry))) ⌝ }
+{
+    if too_many(0, message.len()) {
+        let digest = [0u8; 32];
+        return Digested {
+            outcome: Outcome::Refused(Refusal::TooManyBytes),
+            digest,
+        };
+    }
+    let all = aligned(INITIAL, 0, message);
+    let digest = closed(all);
+    Digested {
+        outcome: Outcome::Done,
+        digest,
+    }
+}
+
+// The digest of bytes that are padded already. Bytes beyond the last whole block are ignored.
+pub fn digest_padded(bytes: &[u8]) -> [u8; 32]
+    ensures { λ r. ⌜ r ≡ digestOf (hashAfter initial (now (bytes .entry)) (blocks (now (bytes .entry)))) ⌝ }
+{
+    digest_bytes(absorb(INITIAL, bytes))
+}

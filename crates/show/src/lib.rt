@@ -1,0 +1,22 @@
+// Lines for the programs of the gate, whose output is compared with a stored one.
+use libc::STDOUT_FILENO;
+
+// Writes bytes in hexadecimal.
+pub fn hex(bytes: &[u8]) {
+    let mut i = 0;
+    while i < bytes.len() {
+        let byte = bytes[i];
+        io::print_hex(STDOUT_FILENO, byte as u64, 2);
+        i += 1;
+    }
+}
+
+// Writes a number in decimal.
+pub fn number(x: u64) {
+    io::print_decimal(STDOUT_FILENO, x);
+}
+
+// Writes text as it is.
+pub fn text(bytes: &[u8]) {
+    io::write_all(STDOUT_FILENO, bytes);
+}

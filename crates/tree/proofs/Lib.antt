@@ -1,0 +1,9 @@
+pub mod Order
+pub mod Among
+pub mod Parents
+pub mod HeldLaws
+pub mod Slots
+pub mod Labelling
+pub mod DocumentRule
+pub mod OpeningLaws
+pub mod Clash

@@ -1,0 +1,49 @@
+-- The paper's Definition 1: a node's label is the hash of its input over its parents' labels. The rule that makes the
+-- input is a parameter; document 01's layout is one instance.
+use mathlib.Core.Path.{_≡_}
+use Prim.Native.Nat.{ℕ, zero, suc, _-_, _/_}
+use mathlib.Core.List.{List, [], _∷_, _++_, map}
+use Rattle.base.specs.Choice.{pick, odd}
+use Rattle.base.specs.Bytes.{bigEndian, joined}
+use Rattle.tree.specs.Nodes.{Node, node, InTree, leftChild, rightChild, parents}
+
+-- a label, as bytes
+abbrev pub Label : Type 0
+Label = List ℕ
+
+-- A rule of labels: the hash input of a node over its parents' labels, and the hash.
+pub record Rule : Type 0 where
+  pub input : Node → List Label → List ℕ
+  pub hash : List ℕ → Label
+
+abbrev pub labelBy : Rule → Node → List Label → Label
+labelBy r v labels = r .hash (r .input v labels)
+
+-- Document 01: 'statement (32 bytes), level (1 byte), position (8 bytes, big-endian), then the parents' labels'.
+unfoldable pub inputHead : List ℕ → Node → List ℕ
+inputHead statement v = statement ++ v .level ∷ bigEndian 8 (v .position)
+
+unfoldable pub documentInput : List ℕ → Node → List Label → List ℕ
+documentInput statement v labels = inputHead statement v ++ joined labels
+
+-- Definition 1 as an equation on every node of the tree of depth n
+abbrev pub IsLabelling : Rule → ℕ → (Node → Label) → Type 0
+IsLabelling r n labelOf = (v : Node) → InTree n v → labelOf v ≡ labelBy r v (map labelOf (parents n v))
+
+-- The label of a node of height h, by recursion; `aboves` are the labels of the left siblings on its way, smallest level first.
+unfoldable pub labelBelow : Rule → ℕ → Node → List Label → Label
+labelBelow r zero v aboves = labelBy r v aboves
+labelBelow r (suc h) v aboves =
+    let left : Label = labelBelow r h (leftChild v) aboves in
+    labelBy r v (left ∷ labelBelow r h (rightChild v) (aboves ++ left ∷ []) ∷ [])
+
+-- the labels of the left siblings on the way of level l, position p, smallest level first
+unfoldable pub labelsAbove : Rule → ℕ → ℕ → ℕ → List Label
+labelsAbove r n zero p = []
+labelsAbove r n (suc l) p =
+    let aboves : List Label = labelsAbove r n l (p / 2) in
+    aboves ++ pick (odd p) (labelBelow r (n - suc l) (node (suc l) (p - 1)) aboves ∷ []) []
+
+-- the label of a node of the tree of depth n
+unfoldable pub label : Rule → ℕ → Node → Label
+label r n v = labelBelow r (n - v .level) v (labelsAbove r n (v .level) (v .position))

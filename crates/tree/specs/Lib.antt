@@ -1,0 +1,9 @@
+pub mod Nodes
+pub mod Walk
+pub mod Labels
+pub mod Rules
+pub mod Held
+pub mod Store
+pub mod Openings
+pub mod TreeOpening
+pub mod Disagreement

@@ -1,0 +1,12 @@
+pub mod Lists
+pub mod Subtrees
+pub mod OrderLaws
+pub mod ChainBelow
+pub mod Sorting
+pub mod Counting
+pub mod Parents
+pub mod Once
+pub mod Plan
+pub mod Turns
+pub mod Bound
+pub mod Table
