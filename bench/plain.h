@@ -7,4 +7,14 @@
 /* SHA-256 of a message (FIPS 180-4). */
 void plain_sha256(const uint8_t *message, size_t len, uint8_t digest[32]);
 
+/* A run of document 01: the same fields as the proved one's. */
+struct plain_run {
+    uint8_t statement[32];
+    uint64_t depth, memory, made;
+    uint8_t held[1312];
+};
+
+/* Labels the smaller of the budget and what remains. */
+void plain_advance(struct plain_run *run, uint64_t budget, uint8_t *store);
+
 #endif

@@ -3,3 +3,4 @@ pub mod BytesLaws
 pub mod ListsLaws
 pub mod Copying
 pub mod Zeros
+pub mod WrittenLaws

@@ -9,8 +9,9 @@ pub fn put(dst: &mut [u8], at: usize, src: &[u8])
     requires { ⌜ at + length (now src) ≤ length (now dst) ⌝ }
     ensures { λ _. ⌜ now (dst .exit) ≡ written (now (dst .entry)) at (now (src .entry)) ⌝ }
 {
+    let count = src.len();
     let mut i = 0;
-    while i < src.len() {
+    while i < count {
         dst[at + i] = src[i];
         i += 1;
     }

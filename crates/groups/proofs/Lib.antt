@@ -3,4 +3,3 @@ pub mod Sizes
 pub mod Output
 pub mod ReadBack
 pub mod ShortestOnly
-pub mod Cases

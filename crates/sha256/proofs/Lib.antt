@@ -1,3 +1,4 @@
+pub mod Bitwise
 pub mod Rounds
 pub mod Gather
 pub mod Blocks

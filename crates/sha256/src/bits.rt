@@ -15,22 +15,29 @@ pub fn choose(x: u32, y: u32, z: u32) -> u32
     (x & y) ^ (!x & z)
 }
 
+// The exclusive or of x and y serves the next round too, as its y and z.
 pub fn majority(x: u32, y: u32, z: u32) -> u32
     ensures { λ r. ⌜ r ≡ maj x y z ⌝ }
 {
-    (x & y) ^ (x & z) ^ (y & z)
+    y ^ ((x ^ y) & (y ^ z))
 }
 
+// Each rotation goes on from the one inside it: 2, 2 + 11 and 2 + 11 + 9.
 pub fn big0(x: u32) -> u32
     ensures { λ r. ⌜ r ≡ bigSigma0 x ⌝ }
 {
-    (x >> 2 | x << 30) ^ (x >> 13 | x << 19) ^ (x >> 22 | x << 10)
+    let y = x ^ (x >> 9 | x << 23);
+    let z = x ^ (y >> 11 | y << 21);
+    z >> 2 | z << 30
 }
 
+// 6, 6 + 5 and 6 + 5 + 14.
 pub fn big1(x: u32) -> u32
     ensures { λ r. ⌜ r ≡ bigSigma1 x ⌝ }
 {
-    (x >> 6 | x << 26) ^ (x >> 11 | x << 21) ^ (x >> 25 | x << 7)
+    let y = x ^ (x >> 14 | x << 18);
+    let z = x ^ (y >> 5 | y << 27);
+    z >> 6 | z << 26
 }
 
 pub fn small0(x: u32) -> u32

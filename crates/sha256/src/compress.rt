@@ -92,7 +92,7 @@ const K3: Block = Block {
 fn turn(k: u32, w: u32, v: Words) -> Words
     ensures { λ r. ⌜ r ≡ round k w v ⌝ }
 {
-    let t1 = add(add(add(add(v.h, big1(v.e)), choose(v.e, v.f, v.g)), k), w);
+    let t1 = add(add(add(v.h, add(k, w)), choose(v.e, v.f, v.g)), big1(v.e));
     let t2 = add(big0(v.a), majority(v.a, v.b, v.c));
     Words {
         a: add(t1, t2),

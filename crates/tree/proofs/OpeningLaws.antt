@@ -171,7 +171,7 @@ module _ (r : Rule) (n leaf : ℕ) (given : Given) (rootLabel : Label) (right : 
       let le : v .level ≤ n = way-level n leaf v w in
       known-hash-at (n - v .level) (v .level) (v .position) (omega arith) (way-position n leaf v w)
 
-sibling-differs : (q : ℕ) (b : Bool) → odd q ≡ b → sibling q ≡ q → ⊥
+pub sibling-differs : (q : ℕ) (b : Bool) → odd q ≡ b → sibling q ≡ q → ⊥
 sibling-differs q true o e =
     let m : q % 2 ≡ 1 = odd-true q o in
     let e₁ : q - 1 ≡ q = rw o at e in

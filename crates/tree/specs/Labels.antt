@@ -1,8 +1,9 @@
 -- The paper's Definition 1: a node's label is the hash of its input over its parents' labels. The rule that makes the
 -- input is a parameter; document 01's layout is one instance.
 use mathlib.Core.Path.{_≡_}
-use Prim.Native.Nat.{ℕ, zero, suc, _-_, _/_}
+use Prim.Native.Nat.{ℕ, zero, suc, _+_, _-_, _*_, _/_}
 use mathlib.Core.List.{List, [], _∷_, _++_, map}
+use lib.ListN.{length}
 use Rattle.base.specs.Choice.{pick, odd}
 use Rattle.base.specs.Bytes.{bigEndian, joined}
 use Rattle.tree.specs.Nodes.{Node, node, InTree, leftChild, rightChild, parents}
@@ -25,6 +26,10 @@ inputHead statement v = statement ++ v .level ∷ bigEndian 8 (v .position)
 
 unfoldable pub documentInput : List ℕ → Node → List Label → List ℕ
 documentInput statement v labels = inputHead statement v ++ joined labels
+
+-- the length of a node's input: 41 bytes, and 32 for each parent
+unfoldable pub inputSize : ℕ → Node → ℕ
+inputSize n v = 41 + 32 * length (parents n v)
 
 -- Definition 1 as an equation on every node of the tree of depth n
 abbrev pub IsLabelling : Rule → ℕ → (Node → Label) → Type 0

@@ -9,4 +9,3 @@ pub mod Once
 pub mod Plan
 pub mod Turns
 pub mod Bound
-pub mod Table

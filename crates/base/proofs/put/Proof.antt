@@ -10,13 +10,13 @@ use Rattle.base.proofs.put.Statement.{statement}
 use Rattle.base.proofs.put.Tie as tie
 
 abbrev Inv-loop : tie.InvT-loop
-Inv-loop dst₀ at src i₀ dst i = (i ≤ length src) × (dst ≡ paste dst₀ at src i) × (length dst ≡ length dst₀)
+Inv-loop dst₀ at src count i₀ dst i = (count ≡ length src) × (i ≤ length src) × (dst ≡ paste dst₀ at src i) × (length dst ≡ length dst₀)
 
 abbrev μ-loop : tie.MeasureT-loop
-μ-loop dst₀ at src i₀ dst i = length src - i
+μ-loop dst₀ at src count i₀ dst i = length src - i
 
 loop-holds : tie.Need-loop-holds Inv-loop μ-loop
-loop-holds c = (omega arith, paste-zero _ (c .args .at) (c .args .src .now), refl)
+loop-holds c = (refl, omega arith, paste-zero _ (c .args .at) (c .args .src .now), refl)
 
 shared-slice-read-dst : tie.Need-shared-slice-read-dst Inv-loop μ-loop
 shared-slice-read-dst c = search needs
@@ -25,7 +25,7 @@ add-dst : tie.Need-add-dst Inv-loop μ-loop
 add-dst c = search needs
 
 slice-write-dst : tie.Need-slice-write-dst Inv-loop μ-loop
-slice-write-dst c = omega (arith, c .before .before .loop .inv .2)
+slice-write-dst c = omega (arith, c .before .before .loop .inv .3)
 
 add-i : tie.Need-add-i Inv-loop μ-loop
 add-i c = search needs
@@ -35,16 +35,17 @@ loop-less c = search needs
 
 loop-again : tie.Need-loop-again Inv-loop μ-loop
 loop-again c = (
+  refl,
   search needs,
-  copied-one _ _ _ _ _ (c .before .before .loop .inv .1) (omega arith) (omega arith),
-  simp length-set (c .before .before .loop .inv .2),
+  copied-one _ _ _ _ _ (c .before .before .loop .inv .2) (omega arith) (omega arith),
+  simp length-set (c .before .before .loop .inv .3),
 )
 
 same-length : tie.Need-same-length Inv-loop μ-loop
-same-length c = c .before .loop .inv .2
+same-length c = c .before .loop .inv .3
 
 returns : tie.Need-returns Inv-loop μ-loop
-returns c = copied-all _ _ _ _ _ (c .before .loop .inv .1) (omega arith) (c .loop-test .left)
+returns c = let a = c .before .before .args in copied-all _ _ (a .at) (a .src .now) (c .before .loop .i) (c .before .loop .inv .2) (omega arith) (omega arith)
 
 pub put-spec : {M : Type 1} → statement M
 put-spec =

@@ -1,3 +1,4 @@
+-- `sha256::digest_padded` meets its contract.
 use mathlib.Core.Path.{_∙_, ap}
 use Rattle.sha256.specs.Digest.{digestOf}
 use borrow.Author.Needs.{needs}

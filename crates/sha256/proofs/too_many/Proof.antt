@@ -1,3 +1,4 @@
+-- `sha256::too_many` meets its contract.
 use Prim.Native.Nat.{_+_}
 use Rattle.base.specs.Limits.{maxHashed}
 use mathlib.Core.Path.{sym}

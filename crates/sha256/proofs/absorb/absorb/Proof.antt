@@ -1,5 +1,6 @@
+-- `sha256::absorb::absorb` meets its contract. The invariant: v is the hash words after the first i blocks.
 use Prim.Native.Nat.{_≤_, _-_, _*_, _/_}
-use mathlib.Core.Path.{_≡_, refl, sym, ap, _∙_}
+use mathlib.Core.Path.{_≡_, refl, ap, _∙_}
 use native.Mathlib.Omega.{arith}
 use borrow.Author.Needs.{needs}
 use lib.ListN.{length}

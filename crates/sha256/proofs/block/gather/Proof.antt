@@ -1,3 +1,4 @@
+-- `sha256::block::gather` meets its contract. Each word is read where `words-sixteen` says that it lies.
 use borrow.Author.Needs.{needs}
 use mathlib.Core.Path.{sym}
 use native.Mathlib.Omega.{arith}

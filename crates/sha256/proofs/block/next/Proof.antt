@@ -1,3 +1,4 @@
+-- `sha256::block::next` meets its contract. Each word is what the schedule says, over the words before it.
 use borrow.Author.Needs.{needs}
 use Rattle.sha256.proofs.block.next.Statement.{statement}
 use Rattle.sha256.proofs.block.next.Tie as tie

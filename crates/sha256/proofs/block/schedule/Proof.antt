@@ -1,3 +1,4 @@
+-- `sha256::block::schedule` meets its contract.
 use borrow.Author.Needs.{needs}
 use Rattle.sha256.specs.Compression.{scheduled}
 use Rattle.sha256.proofs.block.schedule.Statement.{statement}

@@ -1,3 +1,4 @@
+-- `sha256::compress::compress` meets its contract. Four times sixteen rounds, and the sums.
 use borrow.Author.Needs.{needs}
 use mathlib.Core.Path.{_∙_}
 use Rattle.sha256.proofs.Rounds.{compressed-sixteens}

@@ -1,3 +1,4 @@
+-- `sha256::compress::sixteen` meets its contract. Each round goes on from the one before.
 use borrow.Author.Needs.{needs}
 use Rattle.sha256.specs.Block.{sixteenRounds}
 use Rattle.sha256.proofs.compress.sixteen.Statement.{statement}

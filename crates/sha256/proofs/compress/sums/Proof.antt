@@ -1,3 +1,4 @@
+-- `sha256::compress::sums` meets its contract.
 use borrow.Author.Needs.{needs}
 use Rattle.sha256.proofs.compress.sums.Statement.{statement}
 use Rattle.sha256.proofs.compress.sums.Tie as tie

@@ -1,3 +1,4 @@
+-- `sha256::encode::digest_bytes` meets its contract. Eight words of four digits of base 256.
 use native.Mathlib.Nat.{div-div-eq-div-mul}
 use Rattle.base.specs.Bytes.{bigEndian}
 use Rattle.sha256.specs.Digest.{digestOf}

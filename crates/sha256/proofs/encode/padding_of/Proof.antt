@@ -1,3 +1,4 @@
+-- `sha256::encode::padding_of` meets its contract. The padding lies in an array of zero bytes.
 use Prim.Native.Nat.{_+_}
 use Rattle.sha256.specs.Padding.{zeroBytes}
 use mathlib.Core.Path.{refl, _∙_, ap}

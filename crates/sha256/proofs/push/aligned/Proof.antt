@@ -1,6 +1,5 @@
-use mathlib.Core.Path.{_≡_, sym, _∙_}
-use native.Mathlib.Omega.{arith}
-use lib.ListN.{length}
+-- `sha256::push::aligned` meets its contract. By the law of bytes from the start of a block.
+use mathlib.Core.Path.{sym, _∙_}
 use Rattle.sha256.proofs.Blocks.{part-from}
 use Rattle.sha256.proofs.Pushing.{pushedAll-cleared}
 use borrow.Author.Needs.{needs}

@@ -1,3 +1,4 @@
+-- `sha256::push::beyond` meets its contract. By the law of bytes that fill the tail and go on.
 use Prim.Native.Nat.{_-_, _%_}
 use mathlib.Core.Path.{_≡_, sym, _∙_}
 use native.Mathlib.Omega.{arith}

@@ -1,3 +1,4 @@
+-- `sha256::push::closed` meets its contract.
 use Rattle.sha256.specs.declared.Hash.{Hash}
 use Rattle.sha256.specs.Digest.{digestOf}
 use Rattle.sha256.specs.Portions.{pushedAll}

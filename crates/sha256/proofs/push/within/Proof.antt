@@ -1,3 +1,4 @@
+-- `sha256::push::within` meets its contract. By the law of bytes that leave the tail short of full.
 use mathlib.Core.Path.{_≡_, sym, _∙_}
 use native.Mathlib.Omega.{arith}
 use lib.ListN.{length}

@@ -1,0 +1,68 @@
+/* Labelling: the proved run beside the plain C one, same input, one run after the other.
+   Prints the median over the rounds of labels a second, and the ratio to plain C. */
+#define _POSIX_C_SOURCE 200809L
+#include "plain.h"
+#include <stdio.h>
+#include <stdlib.h>
+#include <string.h>
+#include <time.h>
+
+struct run_started { uint64_t refusal; struct plain_run run; };
+struct run_advanced { uint64_t refusal, labels; struct plain_run run; };
+struct run_started mastdock_run_start(const uint8_t statement[32], uint64_t depth, uint64_t memory,
+                                      const uint8_t *store, size_t len);
+struct run_advanced mastdock_run_advance(struct plain_run run, uint64_t budget, uint8_t *store, size_t len);
+
+enum { DEPTH = 18, MEMORY = 10, STORE = 32 * ((2 << MEMORY) - 1), ROUNDS = 9 };
+static const uint64_t ALL = ((uint64_t)2 << DEPTH) - 1;
+
+static double now(void) {
+    struct timespec t;
+    clock_gettime(CLOCK_MONOTONIC, &t);
+    return (double)t.tv_sec + 1e-9 * (double)t.tv_nsec;
+}
+
+static int by_value(const void *a, const void *b) {
+    double x = *(const double *)a, y = *(const double *)b;
+    return (x > y) - (x < y);
+}
+
+static double proved(uint64_t budget, uint8_t *store, uint8_t root[32]) {
+    uint8_t statement[32] = {1, 2, 3};
+    double start = now();
+    struct plain_run run = mastdock_run_start(statement, DEPTH, MEMORY, store, STORE).run;
+    while (run.made < ALL)
+        run = mastdock_run_advance(run, budget, store, STORE).run;
+    memcpy(root, run.held, 32);
+    return now() - start;
+}
+
+static double plain(uint64_t budget, uint8_t *store, uint8_t root[32]) {
+    struct plain_run run = {.statement = {1, 2, 3}, .depth = DEPTH, .memory = MEMORY};
+    double start = now();
+    while (run.made < ALL)
+        plain_advance(&run, budget, store);
+    memcpy(root, run.held, 32);
+    return now() - start;
+}
+
+static int compare(const char *name, uint64_t budget) {
+    static uint8_t a[STORE], b[STORE];
+    uint8_t x[32], y[32];
+    double p[ROUNDS], c[ROUNDS];
+    for (int r = 0; r < ROUNDS; r++) {
+        p[r] = proved(budget, a, x);
+        c[r] = plain(budget, b, y);
+        if (memcmp(x, y, 32) || memcmp(a, b, STORE)) {
+            printf("the roots or stores differ\n");
+            return 1;
+        }
+    }
+    qsort(p, ROUNDS, sizeof(double), by_value);
+    qsort(c, ROUNDS, sizeof(double), by_value);
+    printf("%-28s proved %8.0f labels/s  plain C %8.0f labels/s  ratio %.2f\n", name, (double)ALL / p[ROUNDS / 2],
+           (double)ALL / c[ROUNDS / 2], c[ROUNDS / 2] / p[ROUNDS / 2]);
+    return 0;
+}
+
+int main(void) { return compare("depth 18, one budget", ALL) || compare("depth 18, budget 1 a call", 1); }

@@ -1,0 +1,72 @@
+-- What stands in a list after a part is written over it.
+use mathlib.Core.Path.{_≡_, sym, ap, _∙_}
+use mathlib.Core.Logic.{_⊎_, inl, inr}
+use mathlib.Core.List.{List, _++_, append-assoc}
+use Prim.Native.Nat.{ℕ, _+_, _-_, _≤_, _<_}
+use native.Mathlib.Omega.{arith}
+use lib.ListN.{length, getD, take, drop, length-append, length-take, length-drop, List·getD-append}
+use lib.Seq.{take-at, drop-at, drop-append-add, length-take-le, getD-append-add, getD-take, getD-drop, ext-getD}
+use Rattle.base.proofs.Copying.{length-written}
+use Rattle.base.specs.Bytes.{written}
+
+-- a part written over another of its length
+pub written-over :
+    (a b c part : List ℕ) (at : ℕ) → length a ≡ at → length b ≡ length part → written (a ++ (b ++ c)) at part ≡ a ++ (part ++ c)
+unfolding written
+written-over a b c part at e f =
+    let there : drop (at + length part) (a ++ (b ++ c)) ≡ c = rw (← e, drop-append-add) (drop-at b c (length part) f) in
+    rw (there, take-at a (b ++ c) at e) (append-assoc a part c)
+
+-- two parts side by side, one after the other
+pub written-two :
+    (a b c d first second : List ℕ) (at size : ℕ) → length a ≡ at → length first ≡ size → length b ≡ size
+    → length c ≡ length second
+    → written (written (a ++ (b ++ (c ++ d))) at first) (at + size) second ≡ a ++ (first ++ (second ++ d))
+written-two a b c d first second at size e f g h =
+    rw (written-over a b (c ++ d) first at e (g ∙ sym f), ← append-assoc a first (c ++ d))
+    (written-over (a ++ first) c d second (at + size) (rw (length-append, e, f)) h ∙ append-assoc a first (second ++ d))
+
+-- what was written stands there, and all else as before
+module _ (bytes part : List ℕ) (at : ℕ) (fits : at + length part ≤ length bytes) where
+  pub written-here : (size : ℕ) → length part ≡ size → take size (drop at (written bytes at part)) ≡ part
+  unfolding written
+  written-here size e =
+      rw (append-assoc, drop-at (take at bytes) _ at (length-take-le at bytes (omega arith)))
+      (take-at part _ size e)
+
+  pub written-else : (i : ℕ) → (i < at) ⊎ (at + length part ≤ i) → getD (written bytes at part) i 0 ≡ getD bytes i 0
+  unfolding written
+  written-else i (inl a) =
+      let e : length (take at bytes) ≡ at = length-take-le at bytes (omega arith) in
+      rw append-assoc
+      (List·getD-append (take at bytes) _ 0 i (omega arith) ∙ getD-take at bytes i 0 a)
+  written-else i (inr a) =
+      let e : length (take at bytes ++ part) ≡ at + length part =
+      length-append (take at bytes) part ∙ ap (λ (c : ℕ). c + length part) (length-take-le at bytes (omega arith)) in
+      let j : ℕ = i - (at + length part) in
+      let f : i ≡ length (take at bytes ++ part) + j = omega arith in
+      let g : at + length part + j ≡ i = omega arith in
+      ap (λ (x : ℕ). getD (take at bytes ++ part ++ drop (at + length part) bytes) x 0) f
+      ∙ getD-append-add (take at bytes ++ part) (drop (at + length part) bytes) j 0
+      ∙ getD-drop (at + length part) bytes j 0
+      ∙ ap (λ (x : ℕ). getD bytes x 0) g
+
+  pub written-apart :
+      (from size : ℕ) → (from + size ≤ at) ⊎ (at + length part ≤ from)
+      → take size (drop from (written bytes at part)) ≡ take size (drop from bytes)
+  written-apart from size apart =
+      ext-getD 0 _ _
+      (simp (length-take, length-drop, length-written bytes at part fits))
+      (λ i small.
+      let a : i < size = omega (arith, rw length-take at small) in
+      rw (
+        getD-take size (drop from (written bytes at part)) i 0 a,
+        getD-take size (drop from bytes) i 0 a,
+        getD-drop from (written bytes at part) i 0,
+        getD-drop from bytes i 0,
+      )
+      (written-else (from + i) (go i a apart)))
+    where
+      go : (i : ℕ) → i < size → (from + size ≤ at) ⊎ (at + length part ≤ from) → (from + i < at) ⊎ (at + length part ≤ from + i)
+      go i a (inl b) = inl (omega arith)
+      go i a (inr b) = inr (omega arith)

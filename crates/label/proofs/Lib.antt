@@ -1,0 +1,4 @@
+pub mod Filled
+pub mod OneStep
+pub mod Padded
+pub mod Walking

@@ -1,0 +1,60 @@
+-- The next node of a subtree: where it lies, and what one step gives, by its kind.
+use mathlib.Core.Path.{_≡_, refl}
+use mathlib.Core.List.{List, [], _++_, append-assoc, append-nil}
+use Prim.Native.Nat.{ℕ, _+_, _-_, _*_, _%_, _^_, _≤_, _<_}
+use native.Mathlib.Nat.{mod-lt}
+use native.Mathlib.Omega.{arith}
+use borrow.Author.Tests.{eq-eqb, ne-eqb}
+use lib.Bits.{bitAnd, and-mask}
+use lib.Count.{ones, ones-le}
+use lib.ListN.{take, drop}
+use lib.Pow.{pow-pos}
+use Rattle.base.specs.Bytes.{zeros, written}
+use Rattle.sha256.specs.Digest.{digest}
+use Rattle.tree.specs.Nodes.{Node, node}
+use Rattle.tree.specs.Walk.{nodesIn}
+use Rattle.tree.specs.Labels.{inputHead}
+use Rattle.tree.proofs.Order.{Inside, order-at, inside-level}
+use Rattle.label.specs.Step.{nextNode, hashedLabels, nextLabel, heldWith}
+use Rattle.label.proofs.Walking.{full}
+
+-- the one-bits below a mask
+pub masked : (below p : ℕ) → below ≤ 40 → ones (bitAnd p ((1 * 2 ^ below) % 2 ^ 64 - 1)) ≡ ones (p % 2 ^ below)
+masked below p small = rw (full below small, and-mask p below)
+
+pub place-le : (below p : ℕ) → ones (p % 2 ^ below) ≤ below
+place-le below p = ones-le below (p % 2 ^ below) (mod-lt p (pow-pos below))
+
+-- the two labels of an inner node are all that it hashes
+pub two-hashed : (head held : List ℕ) (at : ℕ)
+    → digest (head ++ [] ++ take (at + 64 - at) (drop at held)) ≡ digest (head ++ take 64 (drop at held))
+two-hashed head held at = let e : at + 64 - at ≡ 64 = omega arith in rw (append-nil head, e)
+
+module _ (height level position made l p : ℕ) (few : made < nodesIn height) (is : node l p ≡ nextNode height (node level position) made) where
+  next-inside : Inside height (node level position) (node l p)
+  next-inside = rw is (order-at height (node level position) made few)
+
+  pub next-level : (level ≤ l) × (l ≤ level + height)
+  next-level = let s : Inside height (node level position) (node l p) = next-inside in omega (arith, inside-level s)
+
+  -- the node's place is this one
+  module _ (place : ℕ) (placed : place ≡ ones (p % 2 ^ (l - level))) (statement front held : List ℕ) where
+    pub leaf-label : l ≡ level + height
+        → digest (inputHead statement (node l p) ++ front ++ take (32 * place) held) ≡ nextLabel statement height (node level position) front held made
+    unfolding nextLabel hashedLabels
+    leaf-label leaf = rw (placed, ← is, eq-eqb l (level + height) leaf, append-assoc)
+
+    pub inner-label : (l ≡ level + height → ⊥)
+        → digest (inputHead statement (node l p) ++ take 64 (drop (32 * place) held)) ≡ nextLabel statement height (node level position) front held made
+    unfolding nextLabel hashedLabels
+    inner-label inner = rw (placed, ← is, ne-eqb l (level + height) inner)
+
+    pub leaf-held : (label : List ℕ) → l ≡ level + height
+        → written held (32 * place) label ≡ heldWith height (node level position) held (node l p) label
+    unfolding heldWith
+    leaf-held label leaf = rw (placed, eq-eqb l (level + height) leaf)
+
+    pub inner-held : (label : List ℕ) → (l ≡ level + height → ⊥)
+        → written (written held (32 * place) label) (32 * place + 32) (zeros 32) ≡ heldWith height (node level position) held (node l p) label
+    unfolding heldWith
+    inner-held label inner = rw (placed, ne-eqb l (level + height) inner)

@@ -1,0 +1,23 @@
+-- `label::next::place` meets its contract: a mask of ones is the rest of a division.
+use native.Mathlib.Omega.{arith}
+use borrow.Author.Needs.{needs}
+use lib.Pow.{pow-pos}
+use Rattle.label.proofs.OneStep.{masked, place-le}
+use Rattle.label.proofs.Walking.{full}
+use Rattle.label.proofs.next.place.Statement.{statement}
+use Rattle.label.proofs.next.place.Tie as tie
+
+shl-mask : tie.Need-shl-mask
+shl-mask c = search needs
+
+sub-mask : tie.Need-sub-mask
+sub-mask c = omega (arith, full (c .args .below) (c .pre), pow-pos (c .args .below))
+
+cast-result : tie.Need-cast-result
+cast-result c = omega (arith, masked (c .args .below) (c .args .position) (c .pre), place-le (c .args .below) (c .args .position))
+
+returns : tie.Need-returns
+returns c = masked (c .args .below) (c .args .position) (c .pre)
+
+pub place-spec : {M : Type 1} → statement M
+place-spec = tie.close (tie.spec shl-mask sub-mask cast-result returns)

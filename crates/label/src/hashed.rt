@@ -1,0 +1,43 @@
+// Document 01, 'The tree': a label is SHA-256 of the statement, the level, the position and the parents' labels.
+ghost use mathlib.Core.Path.{_≡_};
+ghost use mathlib.Core.List.{_++_};
+ghost use Prim.Native.Nat.{_+_, _-_, _<_, _≤_};
+ghost use lib.ListN.{length, take};
+ghost use Rattle.sha256.specs.Digest.{digest};
+ghost use Rattle.tree.specs.Nodes.{node};
+ghost use Rattle.tree.specs.Labels.{inputHead};
+ghost use Rattle.base.specs.Bytes.{zeros};
+use base::big_endian;
+use base::put;
+use sha256::digest_padded;
+
+// Pads a message of len bytes that stands at the front of zeros, and hashes it (FIPS 180-4, 5.1.1).
+fn hash_front(input: &mut [u8], len: usize) -> [u8; 32]
+    requires { ⌜ len ≤ 1321 ⌝ }
+    requires { ⌜ now input ≡ take len (now input) ++ zeros (1344 - len) ⌝ }
+    ensures { λ r. ⌜ r ≡ digest (take len (now (input .entry))) ⌝ }
+{
+    let end = 64 * ((len + 8) / 64 + 1);
+    let count = big_endian(8 * len as u64);
+    put(input, len, &[128]);
+    put(input, end - 8, &count);
+    digest_padded(&input[..end])
+}
+
+// The label of a node whose parents' labels are those of front, then those of rest. A zeroed local buffer takes the input,
+// and its blocks are hashed where they lie. Its callers know that it fits.
+pub fn label(statement: [u8; 32], level: u64, position: u64, front: &[u8], rest: &[u8]) -> [u8; 32]
+    requires { ⌜ level < 256 ⌝ }
+    requires { ⌜ length (now front) + length (now rest) ≤ 1280 ⌝ }
+    ensures { λ r. ⌜ r ≡ digest (inputHead statement (node level position) ++ now (front .entry) ++ now (rest .entry)) ⌝ }
+{
+    let place = big_endian(position);
+    let mut input = [0u8; 1344];
+    put(&mut input, 0, &statement);
+    put(&mut input, 32, &[(level % 256) as u8]);
+    put(&mut input, 33, &place);
+    put(&mut input, 41, front);
+    let at = 41 + front.len();
+    put(&mut input, at, rest);
+    hash_front(&mut input, at + rest.len())
+}

@@ -1,0 +1,92 @@
+// One step of labelling a subtree in order, for runs and openings alike.
+ghost use mathlib.Core.Path.{_≡_};
+ghost use mathlib.Core.List.{_++_};
+ghost use Prim.Native.Nat.{_+_, _*_, _%_, _^_, _<_, _≤_};
+ghost use lib.Count.{ones};
+ghost use lib.ListN.{length, take, drop};
+ghost use Rattle.base.specs.Bytes.{zeros, written};
+ghost use Rattle.sha256.specs.Digest.{digest};
+ghost use Rattle.tree.specs.Nodes.{node};
+ghost use Rattle.tree.specs.Walk.{nodesIn};
+ghost use Rattle.tree.specs.Labels.{inputHead};
+ghost use Rattle.label.specs.Step.{nextNode, nextLabel, heldWith};
+use crate::hashed::label;
+use crate::walk::Place;
+use crate::walk::next_node;
+use base::put;
+
+// A node with its label.
+pub struct Labelled {
+    pub level: u64,
+    pub position: u64,
+    pub label: [u8; 32],
+}
+
+// The place of a node's label among the held ones, this many levels below the subtree's own node.
+fn place(below: u64, position: u64) -> usize
+    requires { ⌜ below ≤ 40 ⌝ }
+    ensures { λ r. ⌜ r ≡ ones (position % 2 ^ below) ⌝ }
+{
+    let mask = (1u64 << below) - 1;
+    u64::count_ones(position & mask) as usize
+}
+
+// A leaf hashes what is in front of the subtree and the held labels before its place, and takes that place.
+fn label_leaf(statement: [u8; 32], w: Place, front: &[u8], held: &mut [u8], at: usize) -> [u8; 32]
+    requires { ⌜ (w .level < 256) × (length (now front) + at ≤ 1280) × (length (now held) ≡ 1312) ⌝ }
+    ensures { λ r. ⌜ r ≡ digest (inputHead statement (node (w .level) (w .position)) ++ now (front .entry) ++ take at (now (held .entry))) ⌝ }
+    ensures { λ r. ⌜ now (held .exit) ≡ written (now (held .entry)) at r ⌝ }
+{
+    let label = label(statement, w.level, w.position, front, &held[..at]);
+    put(held, at, &label);
+    label
+}
+
+// An inner node hashes the two held labels from its place on, takes that place, and the second is given up.
+fn label_inner(statement: [u8; 32], w: Place, held: &mut [u8], at: usize) -> [u8; 32]
+    requires { ⌜ (w .level < 256) × (at + 64 ≤ 1312) × (length (now held) ≡ 1312) ⌝ }
+    ensures { λ r. ⌜ r ≡ digest (inputHead statement (node (w .level) (w .position)) ++ take 64 (drop at (now (held .entry)))) ⌝ }
+    ensures { λ r. ⌜ now (held .exit) ≡ written (written (now (held .entry)) at r) (at + 32) (zeros 32) ⌝ }
+{
+    let end = at + 64;
+    let label = label(statement, w.level, w.position, b"", &held[at..end]);
+    put(held, at, &label);
+    put(held, at + 32, &[0u8; 32]);
+    label
+}
+
+// Labels the next node of the subtree of this height at (level, position), when `made` of its nodes are labelled. Its callers
+// know that one is left, and that front holds at most a label for each level above.
+pub fn label_next(
+    statement: [u8; 32],
+    height: u64,
+    level: u64,
+    position: u64,
+    front: &[u8],
+    held: &mut [u8],
+    made: u64,
+) -> Labelled
+    requires { ⌜ (level + height ≤ 40) × (position < 2 ^ level) × (made < nodesIn height) ⌝ }
+    requires { ⌜ (length (now front) ≤ 32 * level) × (length (now held) ≡ 1312) ⌝ }
+    ensures { λ r. ⌜ node (r .level) (r .position) ≡ nextNode height (node level position) made ⌝ }
+    ensures { λ r. ⌜ r .label ≡ nextLabel statement height (node level position) (now (front .entry)) (now (held .entry)) made ⌝ }
+    ensures { λ r. ⌜ now (held .exit) ≡ heldWith height (node level position) (now (held .entry)) (node (r .level) (r .position)) (r .label) ⌝ }
+{
+    let w = next_node(height, level, position, made);
+    let at = 32 * place(w.level - level, w.position);
+    if w.level == level + height {
+        let label = label_leaf(statement, w, front, held, at);
+        Labelled {
+            level: w.level,
+            position: w.position,
+            label,
+        }
+    } else {
+        let label = label_inner(statement, w, held, at);
+        Labelled {
+            level: w.level,
+            position: w.position,
+            label,
+        }
+    }
+}

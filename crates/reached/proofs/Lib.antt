@@ -1,0 +1,10 @@
+pub mod Step
+pub mod Calls
+pub mod StoreLaws
+pub mod StartLaws
+pub mod RunLaws
+pub mod Parts
+pub mod Places
+pub mod Anew
+pub mod OpeningRun
+pub mod OpeningCalls

@@ -1,0 +1,4 @@
+pub mod Reached
+pub mod Calls
+pub mod Runs
+pub mod Openings

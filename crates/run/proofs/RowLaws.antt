@@ -1,0 +1,116 @@
+-- The tests of the two rows, and what is known of a run that may be continued.
+use mathlib.Core.Path.{_≡_, refl, sym}
+use mathlib.Core.Bool.{Bool, true, false, not}
+use mathlib.Core.List.{List}
+use Prim.Native.Nat.{ℕ, _-_, _≤_, _<_, min}
+use native.Mathlib.Omega.{arith}
+use borrow.Author.Tests.{ltb-true, ltb-false, leb-true, leb-false, lt-ltb, le-ltb, le-leb, lt-leb, not-false}
+use lib.Dec.{ltb, leb}
+use lib.ListN.{length}
+use Rattle.base.specs.Choice.{pick}
+use Rattle.base.specs.Limits.{maxDepth, maxMemory}
+use Rattle.base.proofs.ChoiceLaws.{both-second}
+use Rattle.refusal.specs.declared.Refusal.{Refusal}
+use Rattle.refusal.specs.declared.Refusal.the-variants.{State, ShortStore}
+use Rattle.refusal.specs.declared.Outcome.{Outcome}
+use Rattle.refusal.specs.declared.Outcome.the-variants.{Done, Refused}
+use Rattle.refusal.specs.Row.{outside, either}
+use Rattle.tree.specs.Walk.{nodesIn}
+use Rattle.tree.specs.Store.{storeSize}
+use Rattle.run.specs.declared.Run.{Run}
+use Rattle.run.specs.Rows.{memoryOver, impossible, startRow, continueRow}
+use Rattle.run.specs.Steps.{newRun, noRun, started, stamped, steps, labelsIn, advanced}
+
+not-leb : (a b : ℕ) → ltb b a ≡ not (leb a b)
+not-leb a b = by (leb a b) refl
+  where
+    by : (t : Bool) → leb a b ≡ t → ltb b a ≡ not t
+    by true e = le-ltb b a (leb-true a b e)
+    by false e = lt-ltb b a (leb-false a b e)
+
+-- n not 1..40
+pub no-depth : (n : ℕ) → n < 1 → true ≡ outside 1 maxDepth n
+no-depth n h = rw (lt-leb 1 n h)
+
+pub great-depth : (n : ℕ) → 1 ≤ n → ltb 40 n ≡ outside 1 maxDepth n
+great-depth n h = rw (le-leb 1 n h) (not-leb n 40)
+
+pub depth-inside : (n : ℕ) → outside 1 maxDepth n ≡ false → n ≤ 40
+depth-inside n e = leb-true n 40 (both-second (leb 1 n) (leb n 40) (not-false _ e))
+
+-- m over min(n, 20)
+pub over-depth : (n m : ℕ) → n < m → true ≡ memoryOver n m
+over-depth n m h = sym (lt-ltb (min n 20) m (omega arith))
+
+pub over-memory : (n m : ℕ) → m ≤ n → ltb 20 m ≡ memoryOver n m
+over-memory n m h = by (ltb 20 m) refl
+  where
+    by : (t : Bool) → ltb 20 m ≡ t → t ≡ memoryOver n m
+    by true e = sym (lt-ltb (min n 20) m (omega (arith, ltb-true 20 m e)))
+    by false e = sym (le-ltb (min n 20) m (omega (arith, ltb-false 20 m e)))
+
+pub memory-inside : (n m : ℕ) → memoryOver n m ≡ false → m ≤ 20
+memory-inside n m e = omega (arith, ltb-false (min n 20) m e)
+
+-- neither holds
+neither : (a b : Bool) → either a b ≡ false → (a ≡ false) × (b ≡ false)
+neither true b e = (e, cc)
+neither false b e = (refl, e)
+
+-- a run that can be
+pub record Possible (n m made : ℕ) : Type 0 where
+  pub depth : n ≤ 40
+  pub memory : m ≤ 20
+  pub made-few : made ≤ nodesIn n
+
+pub possible : (n m made : ℕ) → impossible n m made (nodesIn n) ≡ false → Possible n m made
+possible n m made e =
+    let (d, f) = neither (outside 1 maxDepth n) (either (memoryOver n m) (ltb (nodesIn n) made)) e in
+    let (o, l) = neither (memoryOver n m) (ltb (nodesIn n) made) f in
+    record { depth = depth-inside n d; memory = memory-inside n m o; made-few = ltb-false (nodesIn n) made l }
+
+-- a row's first condition does not hold where the answer is Done
+passed : (t : Bool) (r : Refusal) (o : Outcome) → pick t (Refused r) o ≡ Done → (t ≡ false) × (o ≡ Done)
+passed true r o e = (cc, cc)
+passed false r o e = (refl, e)
+
+pub record Whole (run : Run) (store : ℕ) : Type 0 where
+  pub possible : Possible (run .depth) (run .memory) (run .made)
+  pub room : storeSize (run .memory) ≤ store
+
+pub may-go-on : (run : Run) (store : ℕ) → continueRow run store ≡ Done → Whole run store
+unfolding continueRow
+may-go-on run store e =
+    let (a, f) = passed (impossible (run .depth) (run .memory) (run .made) (nodesIn (run .depth))) State _ e in
+    let (b, g) = passed (ltb store (storeSize (run .memory))) ShortStore Done f in
+    record { possible = possible (run .depth) (run .memory) (run .made) a; room = ltb-false store (storeSize (run .memory)) b }
+
+-- what a start and a call give, by their answers
+module _ (statement : List ℕ) (n m store : ℕ) where
+  pub start-done : startRow n m store ≡ Done → newRun statement n m ≡ started statement n m store
+  unfolding started
+  start-done e = rw e
+
+  pub start-refused : (r : Refusal) → startRow n m store ≡ Refused r → noRun ≡ started statement n m store
+  unfolding started
+  start-refused r e = rw e
+
+module _ (run : Run) (store : List ℕ) (budget : ℕ) where
+  pub labels-done : continueRow run (length store) ≡ Done → min budget (nodesIn (run .depth) - run .made) ≡ labelsIn (stamped run store) budget
+  unfolding labelsIn
+  labels-done e = rw e
+
+  pub labels-refused : (r : Refusal) → continueRow run (length store) ≡ Refused r → 0 ≡ labelsIn (stamped run store) budget
+  unfolding labelsIn
+  labels-refused r e = rw e
+
+  pub advanced-by : (k : ℕ) (run' : Run) (store' : List ℕ) → k ≡ labelsIn (stamped run store) budget
+      → run' ≡ steps k (stamped run store) .run → store' ≡ steps k (stamped run store) .store
+      → (run' ≡ advanced (stamped run store) budget .run) × (store' ≡ advanced (stamped run store) budget .store)
+  unfolding advanced
+  advanced-by k run' store' e a b = (rw (← e) a, rw (← e) b)
+
+  pub unchanged : 0 ≡ labelsIn (stamped run store) budget
+      → (run ≡ advanced (stamped run store) budget .run) × (store ≡ advanced (stamped run store) budget .store)
+  unfolding steps
+  unchanged e = advanced-by 0 run store e refl refl

@@ -1,0 +1,21 @@
+-- `run::checks::store_short` meets its contract.
+use native.Mathlib.Omega.{arith}
+use lib.Pow.{pow-mono}
+use Rattle.tree.specs.Walk.{nodesIn}
+use Rattle.tree.proofs.Order.{nodesIn-suc}
+use borrow.Author.Needs.{needs}
+use Rattle.run.proofs.checks.store_short.Statement.{statement}
+use Rattle.run.proofs.checks.store_short.Tie as tie
+
+nodes-requires : tie.Need-nodes-requires
+nodes-requires c κs = search needs
+
+mul-size : tie.Need-mul-size
+mul-size c = omega (arith, c .nodes .ensures, nodesIn-suc (c .before .args .memory), pow-mono {i = c .before .args .memory} {j = 20} (c .before .pre))
+
+returns : tie.Need-returns
+unfolding nodesIn
+returns c = rw (c .nodes .ensures)
+
+pub store-short-spec : {M : Type 1} → statement M
+store-short-spec = tie.close (tie.spec nodes-requires mul-size returns)

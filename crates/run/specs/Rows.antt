@@ -1,0 +1,34 @@
+-- Document 01's rows 'Starting a run' and 'Continuing a run'.
+use Prim.Native.Nat.{ℕ, min}
+use mathlib.Core.Bool.{Bool}
+use mathlib.Core.List.{[], _∷_}
+use lib.Dec.{ltb}
+use Rattle.base.specs.Limits.{maxDepth, maxMemory}
+use Rattle.refusal.specs.declared.Refusal.the-variants.{Depth, MemoryLevel, ShortStore, State}
+use Rattle.refusal.specs.declared.Outcome.{Outcome}
+use Rattle.refusal.specs.Row.{firstOf, outside, either}
+use Rattle.tree.specs.Walk.{nodesIn}
+use Rattle.tree.specs.Store.{storeSize}
+use Rattle.run.specs.declared.Run.{Run}
+
+-- m over min(n, 20)
+abbrev pub memoryOver : ℕ → ℕ → Bool
+memoryOver n m = ltb (min n maxMemory) m
+
+-- 1: n not 1..40; 2: m over min(n, 20); 3: store short
+unfoldable pub startRow : ℕ → ℕ → ℕ → Outcome
+startRow n m store =
+    firstOf ((outside 1 maxDepth n, Depth) ∷ (memoryOver n m, MemoryLevel) ∷ (ltb store (storeSize m), ShortStore) ∷ [])
+
+-- n not 1..40, m over min(n, 20), or more labels made than there are to make
+abbrev pub impossible : ℕ → ℕ → ℕ → ℕ → Bool
+impossible n m made total = either (outside 1 maxDepth n) (either (memoryOver n m) (ltb total made))
+
+-- 4; 3
+unfoldable pub continueRow : Run → ℕ → Outcome
+continueRow run store =
+    firstOf
+    ((impossible (run .depth) (run .memory) (run .made) (nodesIn (run .depth)), State)
+    ∷ (ltb store (storeSize (run .memory)), ShortStore)
+    ∷ []
+    )

@@ -1,0 +1,77 @@
+-- Document 01, 'Runs in lent memory': a new run, one step on a run and its store, and a call with a budget.
+use Prim.Native.Nat.{ℕ, zero, suc, _+_, _-_, min}
+use mathlib.Core.List.{List, []}
+use lib.Dec.{leb}
+use lib.ListN.{length}
+use Rattle.base.specs.Choice.{pick}
+use Rattle.base.specs.Bytes.{zeros, written}
+use Rattle.refusal.specs.Row.{isDone}
+use Rattle.tree.specs.Nodes.{Node, root}
+use Rattle.tree.specs.Walk.{nodesIn}
+use Rattle.tree.specs.Labels.{Label}
+use Rattle.tree.specs.Store.{slot}
+use Rattle.label.specs.Step.{nextNode, nextLabel, heldWith}
+use Rattle.run.specs.declared.Run.{Run}
+use Rattle.run.specs.Rows.{startRow, continueRow}
+
+-- the bytes of held labels in a run: 41 places of 32
+abbrev pub heldSize : ℕ
+heldSize = 1312
+
+-- a run by its fields
+abbrev pub runOf : List ℕ → ℕ → ℕ → ℕ → List ℕ → Run
+runOf statement n m made held = record { statement = statement; depth = n; memory = m; made = made; held = held }
+
+-- 'A new run has made 0 labels and all its places are zero.'
+abbrev pub newRun : List ℕ → ℕ → ℕ → Run
+newRun statement n m = record { statement = statement; depth = n; memory = m; made = 0; held = zeros heldSize }
+
+-- what stands beside a refused start
+abbrev pub noRun : Run
+noRun = newRun (zeros 32) 0 0
+
+unfoldable pub started : List ℕ → ℕ → ℕ → ℕ → Run
+started statement n m store = pick (isDone (startRow n m store)) (newRun statement n m) noRun
+
+-- a run with its store
+pub record Stamped : Type 0 where
+  pub run : Run
+  pub store : List ℕ
+
+abbrev pub stamped : Run → List ℕ → Stamped
+stamped run store = record { run = run; store = store }
+
+-- 'Stored labels are written as made': those of levels 0 to m
+abbrev pub stored : ℕ → List ℕ → Node → Label → List ℕ
+stored m store w label = pick (leb (w .level) m) (written store (slot w) label) store
+
+-- one step: the next node is labelled
+unfoldable pub stepped : Stamped → Stamped
+stepped s =
+    let r : Run = s .run in
+    let w : Node = nextNode (r .depth) root (r .made) in
+    let label : Label = nextLabel (r .statement) (r .depth) root [] (r .held) (r .made) in
+    record {
+      run =
+          record {
+            statement = r .statement;
+            depth = r .depth;
+            memory = r .memory;
+            made = r .made + 1;
+            held = heldWith (r .depth) root (r .held) w label;
+          };
+      store = stored (r .memory) (s .store) w label;
+    }
+
+unfoldable pub steps : ℕ → Stamped → Stamped
+steps zero s = s
+steps (suc k) s = stepped (steps k s)
+
+-- 'A call with a budget labels exactly the smaller of the budget and what remains'; a refused one labels none.
+unfoldable pub labelsIn : Stamped → ℕ → ℕ
+labelsIn s budget =
+    pick (isDone (continueRow (s .run) (length (s .store)))) (min budget (nodesIn (s .run .depth) - s .run .made)) 0
+
+-- the run and its store after a call
+unfoldable pub advanced : Stamped → ℕ → Stamped
+advanced s budget = steps (labelsIn s budget) s

@@ -1,0 +1,86 @@
+// Document 01's rows 'Starting a run' and 'Continuing a run', for every number.
+ghost use mathlib.Core.Path.{_≡_};
+ghost use Prim.Native.Nat.{_≤_};
+ghost use lib.Dec.{ltb};
+ghost use Rattle.base.specs.Limits.{maxDepth};
+ghost use Rattle.refusal.specs.Row.{outside};
+ghost use Rattle.tree.specs.Walk.{nodesIn};
+ghost use Rattle.tree.specs.Store.{storeSize};
+ghost use Rattle.run.specs.Rows.{memoryOver, impossible, startRow, continueRow};
+use crate::Run;
+use refusal::Outcome;
+use refusal::Refusal;
+
+// The number of nodes of a tree.
+pub fn nodes(depth: u64) -> u64
+    requires { ⌜ depth ≤ 40 ⌝ }
+    ensures { λ r. ⌜ r ≡ nodesIn depth ⌝ }
+{
+    2 * (1u64 << depth) - 1
+}
+
+fn depth_outside(depth: u64) -> bool
+    ensures { λ r. ⌜ r ≡ outside 1 maxDepth depth ⌝ }
+{
+    if depth < 1 {
+        return true;
+    }
+    40 < depth
+}
+
+fn memory_over(depth: u64, memory: u64) -> bool
+    ensures { λ r. ⌜ r ≡ memoryOver depth memory ⌝ }
+{
+    if depth < memory {
+        return true;
+    }
+    20 < memory
+}
+
+fn store_short(memory: u64, store: usize) -> bool
+    requires { ⌜ memory ≤ 20 ⌝ }
+    ensures { λ r. ⌜ r ≡ ltb store (storeSize memory) ⌝ }
+{
+    let size = 32 * nodes(memory);
+    (store as u64) < size
+}
+
+fn not_possible(depth: u64, memory: u64, made: u64) -> bool
+    ensures { λ r. ⌜ r ≡ impossible depth memory made (nodesIn depth) ⌝ }
+{
+    if depth_outside(depth) {
+        return true;
+    }
+    if memory_over(depth, memory) {
+        return true;
+    }
+    let all = nodes(depth);
+    all < made
+}
+
+pub fn may_start(depth: u64, memory: u64, store: usize) -> Outcome
+    ensures { λ r. ⌜ r ≡ startRow depth memory store ⌝ }
+{
+    if depth_outside(depth) {
+        return Outcome::Refused(Refusal::Depth);
+    }
+    if memory_over(depth, memory) {
+        return Outcome::Refused(Refusal::MemoryLevel);
+    }
+    if store_short(memory, store) {
+        return Outcome::Refused(Refusal::ShortStore);
+    }
+    Outcome::Done
+}
+
+pub fn may_continue(run: Run, store: usize) -> Outcome
+    ensures { λ r. ⌜ r ≡ continueRow run store ⌝ }
+{
+    if not_possible(run.depth, run.memory, run.made) {
+        return Outcome::Refused(Refusal::State);
+    }
+    if store_short(run.memory, store) {
+        return Outcome::Refused(Refusal::ShortStore);
+    }
+    Outcome::Done
+}

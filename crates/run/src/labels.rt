@@ -1,0 +1,66 @@
+// Labels made in order: one step, and as many as a call was granted.
+ghost use mathlib.Core.Path.{_≡_};
+ghost use Prim.Native.Nat.{_+_, _^_, _<_, _≤_};
+ghost use lib.ListN.{length};
+ghost use Rattle.tree.specs.Nodes.{node};
+ghost use Rattle.tree.specs.Walk.{nodesIn};
+ghost use Rattle.tree.specs.Store.{storeSize};
+ghost use Rattle.run.specs.Steps.{runOf, stamped, stored, stepped, steps};
+use crate::Run;
+use base::put;
+use label::Labelled;
+use label::label_next;
+
+// Writes a label of levels 0 to m to its slot.
+fn keep(store: &mut [u8], memory: u64, w: Labelled)
+    requires { ⌜ (w .level ≤ 40) × (w .position < 2 ^ (w .level)) × (storeSize memory ≤ length (now store)) ⌝ }
+    ensures { λ _. ⌜ now (store .exit) ≡ stored memory (now (store .entry)) (node (w .level) (w .position)) (w .label) ⌝ }
+{
+    if w.level <= memory {
+        let at = 32 * ((1u64 << w.level) - 1 + w.position);
+        let label = w.label;
+        put(store, at as usize, &label);
+    }
+}
+
+// One step. Its caller knows that a node is left and that the store is whole.
+fn label_one(
+    statement: [u8; 32],
+    depth: u64,
+    memory: u64,
+    made: u64,
+    held: &mut [u8],
+    store: &mut [u8],
+)
+    requires { ⌜ (depth ≤ 40) × (made < nodesIn depth) × (length (now held) ≡ 1312) × (storeSize memory ≤ length (now store)) ⌝ }
+    ensures { λ _. ⌜ now (held .exit) ≡ stepped (stamped (runOf statement depth memory made (now (held .entry))) (now (store .entry))) .run .held ⌝ }
+    ensures { λ _. ⌜ now (store .exit) ≡ stepped (stamped (runOf statement depth memory made (now (held .entry))) (now (store .entry))) .store ⌝ }
+{
+    let w = label_next(statement, depth, 0, 0, b"", held, made);
+    keep(store, memory, w);
+}
+
+// As many steps as are asked for. The run's fields are taken apart once and put together at the end.
+pub fn label_many(run: Run, count: u64, store: &mut [u8]) -> Run
+    requires { ⌜ (run .depth ≤ 40) × (run .made + count ≤ nodesIn (run .depth)) × (storeSize (run .memory) ≤ length (now store)) ⌝ }
+    ensures { λ r. ⌜ r ≡ steps count (stamped run (now (store .entry))) .run ⌝ }
+    ensures { λ r. ⌜ now (store .exit) ≡ steps count (stamped run (now (store .entry))) .store ⌝ }
+{
+    let statement = run.statement;
+    let depth = run.depth;
+    let memory = run.memory;
+    let made = run.made;
+    let mut held = run.held;
+    let mut i = 0;
+    while i < count {
+        label_one(statement, depth, memory, made + i, &mut held, store);
+        i += 1;
+    }
+    Run {
+        statement,
+        depth,
+        memory,
+        made: made + count,
+        held,
+    }
+}

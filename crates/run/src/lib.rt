@@ -1,0 +1,112 @@
+// A run in lent memory: labels are made one at a time, as many as a call's budget allows.
+mod checks; // checks.rt: what may be started and continued
+mod labels; // labels.rt: one step, and several
+
+ghost use mathlib.Core.Path.{_≡_};
+ghost use lib.ListN.{length};
+ghost use Rattle.run.specs.Rows.{startRow, continueRow};
+ghost use Prim.Native.Nat.{min};
+ghost use Rattle.run.specs.Steps.{newRun, started, stamped, labelsIn, advanced};
+use checks::may_continue;
+use checks::may_start;
+use checks::nodes;
+use labels::label_many;
+use refusal::Outcome;
+
+// Document 01's run: statement, n, m, the number of labels made, and 41 places of 32 bytes for held labels.
+#[repr(C)]
+pub struct Run {
+    pub statement: [u8; 32],
+    pub depth: u64,
+    pub memory: u64,
+    pub made: u64,
+    pub held: [u8; 1312],
+}
+
+// A refused start's run is all zero.
+pub struct Started {
+    pub outcome: Outcome,
+    pub run: Run,
+}
+
+// What a call did: its outcome, the labels it made, and the run as it now is.
+pub struct Advanced {
+    pub outcome: Outcome,
+    pub labels: u64,
+    pub run: Run,
+}
+
+fn smaller(x: u64, y: u64) -> u64
+    ensures { λ r. ⌜ r ≡ min x y ⌝ }
+{
+    if x < y { x } else { y }
+}
+
+fn new_run(statement: [u8; 32], depth: u64, memory: u64) -> Run
+    ensures { λ r. ⌜ r ≡ newRun statement depth memory ⌝ }
+{
+    let held = [0u8; 1312];
+    Run {
+        statement,
+        depth,
+        memory,
+        made: 0,
+        held,
+    }
+}
+
+impl Run {
+    // A new run, for a store of this length, which it neither reads nor writes.
+    pub fn start(statement: [u8; 32], depth: u64, memory: u64, store: &[u8]) -> Started
+        ensures { λ r. ⌜ r .outcome ≡ startRow depth memory (length (now (store .entry))) ⌝ }
+        ensures { λ r. ⌜ r .run ≡ started statement depth memory (length (now (store .entry))) ⌝ }
+    {
+        let outcome = may_start(depth, memory, store.len());
+        match outcome {
+            Outcome::Done => {
+                let run = new_run(statement, depth, memory);
+                Started { outcome, run }
+            }
+            Outcome::Refused(_) => {
+                let run = new_run([0u8; 32], 0, 0);
+                Started { outcome, run }
+            }
+        }
+    }
+
+    // Labels exactly the smaller of the budget and what remains.
+    pub fn advance(self, budget: u64, store: &mut [u8]) -> Advanced
+        ensures { λ r. ⌜ r .outcome ≡ continueRow self (length (now (store .entry))) ⌝ }
+        ensures { λ r. ⌜ r .labels ≡ labelsIn (stamped self (now (store .entry))) budget ⌝ }
+        ensures { λ r. ⌜ r .run ≡ advanced (stamped self (now (store .entry))) budget .run ⌝ }
+        ensures { λ r. ⌜ now (store .exit) ≡ advanced (stamped self (now (store .entry))) budget .store ⌝ }
+    {
+        let outcome = may_continue(self, store.len());
+        match outcome {
+            Outcome::Done => {
+                let labels = smaller(budget, nodes(self.depth) - self.made);
+                let run = label_many(self, labels, store);
+                Advanced {
+                    outcome,
+                    labels,
+                    run,
+                }
+            }
+            Outcome::Refused(_) => Advanced {
+                outcome,
+                labels: 0,
+                run: self,
+            },
+        }
+    }
+
+    // One label.
+    pub fn step(self, store: &mut [u8]) -> Advanced
+        ensures { λ r. ⌜ r .outcome ≡ continueRow self (length (now (store .entry))) ⌝ }
+        ensures { λ r. ⌜ r .labels ≡ labelsIn (stamped self (now (store .entry))) 1 ⌝ }
+        ensures { λ r. ⌜ r .run ≡ advanced (stamped self (now (store .entry))) 1 .run ⌝ }
+        ensures { λ r. ⌜ now (store .exit) ≡ advanced (stamped self (now (store .entry))) 1 .store ⌝ }
+    {
+        self.advance(1, store)
+    }
+}

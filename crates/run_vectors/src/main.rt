@@ -1,0 +1,253 @@
+// Runs to their end at several budgets and memory levels, and each refusal at its edge. The stored output has the roots and
+// store digests of an independent model.
+ghost use mathlib.Core.Path.{_≡_};
+ghost use Prim.Native.Nat.{_≤_, min};
+use refusal::outcome_number;
+use run::Run;
+use sha256::digest;
+
+// Room for memory level 14 and a byte more, which no run may touch.
+fn dirty_store() -> [u8; 1048545] {
+    [90u8; 1048545]
+}
+
+fn flag(same: bool) {
+    if same {
+        show::text(b" same");
+    } else {
+        show::text(b" changed");
+    }
+}
+
+fn wide(x: u8) -> u64 {
+    x as u64
+}
+
+fn hash(bytes: &[u8]) -> [u8; 32] {
+    let d = digest(bytes);
+    d.digest
+}
+
+// Calls with one budget until all labels are made.
+fn carried(run: Run, all: u64, budget: u64, store: &mut [u8]) -> Run {
+    let mut left = all;
+    let mut state = run;
+    while 0 < left {
+        let step = state.advance(budget, store);
+        let next = step.run;
+        state = next;
+        if step.labels == 0 {
+            return state;
+        }
+        if left < step.labels {
+            return state;
+        }
+        left -= step.labels;
+    }
+    state
+}
+
+// The first bytes of the held labels, and the digest of all places.
+fn first_bytes(held: &[u8], count: usize) {
+    if count <= held.len() {
+        show::hex(&held[..count]);
+    }
+    show::text(b" held ");
+    show::hex(&hash(held));
+}
+
+fn same_places(a: [u8; 1312], b: [u8; 1312]) -> bool {
+    check::same(&a, &b)
+}
+
+// The root, the digest of the held labels, of the store, and the byte behind the store.
+fn line(run: Run, store: &[u8]) {
+    let held = run.held;
+    show::text(b" made ");
+    show::number(run.made);
+    show::text(b" root ");
+    first_bytes(&held, 32);
+    show::text(b" store ");
+    show::hex(&hash(store));
+}
+
+fn to_end(statement: [u8; 32], depth: u64, memory: u64, budget: u64, size: usize) {
+    if 1048544 < size {
+        return;
+    }
+    let mut space = dirty_store();
+    show::text(b"budget ");
+    show::number(budget);
+    let start = Run::start(statement, depth, memory, &space[..size]);
+    let run = start.run;
+    let end = carried(run, 131071, budget, &mut space);
+    line(end, &space[..size]);
+    show::text(b" behind ");
+    show::number(wide(space[size]));
+    show::text(b"\n");
+}
+
+fn vector(report: &[u8], depth: u64, memory: u64, size: usize) {
+    let statement = hash(report);
+    show::text(b"depth ");
+    show::number(depth);
+    show::text(b" memory ");
+    show::number(memory);
+    show::text(b"\n");
+    to_end(statement, depth, memory, 1000000, size);
+    to_end(statement, depth, memory, 1000, size);
+    to_end(statement, depth, memory, 1, size);
+}
+
+// Starting and continuing with these numbers and a store of this length: what is answered, and what is changed.
+fn edge(depth: u64, memory: u64, made: u64, store: &mut [u8]) {
+    show::text(b"n ");
+    show::number(depth);
+    show::text(b" m ");
+    show::number(memory);
+    show::text(b" made ");
+    show::number(made);
+    show::text(b" store ");
+    show::number(store.len() as u64);
+    let start = Run::start([7u8; 32], depth, memory, store);
+    let started = start.outcome;
+    show::text(b": start ");
+    show::number(outcome_number(started));
+    let before = hash(store);
+    let held = [9u8; 1312];
+    let run = Run {
+        statement: [7u8; 32],
+        depth,
+        memory,
+        made,
+        held,
+    };
+    let step = run.advance(1, store);
+    let outcome = step.outcome;
+    show::text(b" continue ");
+    show::number(outcome_number(outcome));
+    show::text(b" labels ");
+    show::number(step.labels);
+    let after = step.run;
+    let kept = after.held;
+    show::text(b" made ");
+    show::number(after.made);
+    flag(same_places(held, kept));
+    flag(check::same(&before, &hash(store)));
+    show::text(b"\n");
+}
+
+// The same with a store of this length.
+fn edge_at(depth: u64, memory: u64, made: u64, len: usize) {
+    if len <= 1048544 {
+        let mut space = dirty_store();
+        edge(depth, memory, made, &mut space[..len]);
+    }
+}
+
+fn edges() {
+    edge_at(0, 0, 0, 32);
+    edge_at(1, 0, 0, 32);
+    edge_at(40, 0, 0, 32);
+    edge_at(41, 0, 0, 32);
+    edge_at(18446744073709551615, 0, 0, 32);
+    edge_at(3, 3, 0, 480);
+    edge_at(3, 4, 0, 992);
+    edge_at(40, 20, 0, 32);
+    edge_at(40, 21, 0, 32);
+    edge_at(14, 14, 0, 1048544);
+    edge_at(14, 14, 0, 1048543);
+    edge_at(3, 1, 0, 96);
+    edge_at(3, 1, 0, 95);
+    edge_at(3, 1, 14, 96);
+    edge_at(3, 1, 15, 96);
+    edge_at(3, 1, 15, 95);
+    edge_at(3, 1, 16, 96);
+    edge_at(3, 1, 16, 95);
+    edge_at(3, 1, 18446744073709551615, 96);
+    edge_at(41, 42, 18446744073709551615, 0);
+}
+
+fn part_1() {
+    vector(b"", 1, 0, 32);
+    vector(b"hull 1", 1, 0, 32);
+    vector(b"hull 1", 1, 1, 96);
+    vector(b"", 2, 1, 96);
+    vector(b"hull 2", 2, 0, 32);
+    vector(b"hull 2", 2, 1, 96);
+    vector(b"hull 2", 2, 2, 224);
+    vector(b"", 3, 3, 480);
+    vector(b"hull 3", 3, 3, 480);
+    vector(b"hull 3", 3, 0, 32);
+    vector(b"hull 3", 3, 1, 96);
+    vector(b"", 4, 3, 480);
+}
+
+fn part_2() {
+    vector(b"hull 4", 4, 3, 480);
+    vector(b"hull 4", 4, 0, 32);
+    vector(b"hull 4", 4, 2, 224);
+    vector(b"hull 4", 4, 4, 992);
+    vector(b"", 5, 1, 96);
+    vector(b"hull 5", 5, 0, 32);
+    vector(b"hull 5", 5, 2, 224);
+    vector(b"hull 5", 5, 5, 2016);
+    vector(b"", 6, 3, 480);
+    vector(b"hull 6", 6, 0, 32);
+    vector(b"hull 6", 6, 3, 480);
+    vector(b"hull 6", 6, 6, 4064);
+}
+
+fn part_3() {
+    vector(b"", 7, 6, 4064);
+    vector(b"hull 7", 7, 6, 4064);
+    vector(b"hull 7", 7, 0, 32);
+    vector(b"hull 7", 7, 3, 480);
+    vector(b"hull 7", 7, 7, 8160);
+    vector(b"", 8, 0, 32);
+    vector(b"hull 8", 8, 7, 8160);
+    vector(b"hull 8", 8, 0, 32);
+    vector(b"hull 8", 8, 4, 992);
+    vector(b"hull 8", 8, 8, 16352);
+    vector(b"", 9, 4, 992);
+    vector(b"hull 9", 9, 3, 480);
+}
+
+fn part_4() {
+    vector(b"hull 9", 9, 0, 32);
+    vector(b"hull 9", 9, 4, 992);
+    vector(b"hull 9", 9, 9, 32736);
+    vector(b"", 10, 9, 32736);
+    vector(b"hull 10", 10, 1, 96);
+    vector(b"hull 10", 10, 0, 32);
+    vector(b"hull 10", 10, 5, 2016);
+    vector(b"hull 10", 10, 10, 65504);
+    vector(b"", 11, 5, 2016);
+    vector(b"hull 11", 11, 0, 32);
+    vector(b"hull 11", 11, 5, 2016);
+    vector(b"hull 11", 11, 11, 131040);
+}
+
+fn part_5() {
+    vector(b"", 12, 0, 32);
+    vector(b"hull 12", 12, 0, 32);
+    vector(b"hull 12", 12, 6, 4064);
+    vector(b"hull 12", 12, 12, 262112);
+    vector(b"", 13, 10, 65504);
+    vector(b"hull 13", 13, 8, 16352);
+    vector(b"", 14, 0, 32);
+    vector(b"hull 14", 14, 14, 1048544);
+    vector(b"", 15, 12, 262112);
+    vector(b"hull 15", 15, 6, 4064);
+    vector(b"", 16, 13, 524256);
+    vector(b"hull 16", 16, 0, 32);
+}
+
+fn main() {
+    part_1();
+    part_2();
+    part_3();
+    part_4();
+    part_5();
+    edges();
+}
