@@ -1,4 +1,23 @@
-// The opening of a leaf in lent memory.
+// The opening of a leaf in lent memory: started from a store, then labelled anew below level m by calls with a budget.
+mod above; // above.rt: the left siblings' labels above level m
+mod checks; // checks.rt: what may be started and continued
+mod labels; // labels.rt: one step, and several
+mod places; // places.rt: labels put in their places
+
+ghost use mathlib.Core.Path.{_≡_};
+ghost use lib.ListN.{length};
+ghost use Rattle.opening.specs.Rows.{openRow, reopenRow};
+ghost use Rattle.opening.specs.Possible.{openOf};
+ghost use Rattle.opening.specs.Steps.{newOpening, started, startedOut, labelsIn, advanced};
+use checks::may_continue;
+use checks::may_start;
+use checks::nodes_anew;
+use labels::label_many;
+use places::copy_held;
+use refusal::Outcome;
+use run::smaller;
+
+// Document 01's opening: a run's state with the leaf besides; count and held labels are those of the nodes labelled anew.
 #[repr(C)]
 pub struct Opening {
     pub statement: [u8; 32],
@@ -7,4 +26,86 @@ pub struct Opening {
     pub leaf: u64,
     pub made: u64,
     pub held: [u8; 1312],
+}
+
+// A refused start's opening is all zero.
+pub struct Started {
+    pub outcome: Outcome,
+    pub opening: Opening,
+}
+
+// What a call did: its outcome, the labels it made, and the opening as it now is.
+pub struct Advanced {
+    pub outcome: Outcome,
+    pub labels: u64,
+    pub opening: Opening,
+}
+
+fn new_opening(statement: [u8; 32], depth: u64, memory: u64, leaf: u64) -> Opening
+    ensures { λ r. ⌜ r ≡ newOpening statement depth memory leaf ⌝ }
+{
+    let held = [0u8; 1312];
+    Opening {
+        statement,
+        depth,
+        memory,
+        leaf,
+        made: 0,
+        held,
+    }
+}
+
+impl Opening {
+    // Copies what the store holds of the opening to the output, and writes no other byte.
+    pub fn start(
+        statement: [u8; 32],
+        depth: u64,
+        memory: u64,
+        leaf: u64,
+        store: &[u8],
+        out: &mut [u8],
+    ) -> Started
+        ensures { λ r. ⌜ r .outcome ≡ openRow depth memory leaf (length (now (store .entry))) (length (now (out .entry))) ⌝ }
+        ensures { λ r. ⌜ r .opening ≡ started statement depth memory leaf (length (now (store .entry))) (length (now (out .entry))) ⌝ }
+        ensures { λ r. ⌜ now (out .exit) ≡ startedOut depth memory leaf (now (store .entry)) (now (out .entry)) ⌝ }
+    {
+        let outcome = may_start(depth, memory, leaf, store.len(), out.len());
+        match outcome {
+            Outcome::Done => {
+                copy_held(depth, memory, leaf, store, out);
+                let opening = new_opening(statement, depth, memory, leaf);
+                Started { outcome, opening }
+            }
+            Outcome::Refused(_) => {
+                let opening = new_opening([0u8; 32], 0, 0, 0);
+                Started { outcome, opening }
+            }
+        }
+    }
+
+    // Labels exactly the smaller of the budget and what remains, and puts each label of the opening in its place.
+    pub fn advance(self, budget: u64, store: &[u8], out: &mut [u8]) -> Advanced
+        ensures { λ r. ⌜ r .outcome ≡ reopenRow self (length (now (store .entry))) (length (now (out .entry))) ⌝ }
+        ensures { λ r. ⌜ r .labels ≡ labelsIn (now (store .entry)) (openOf self (now (out .entry))) budget ⌝ }
+        ensures { λ r. ⌜ r .opening ≡ advanced (now (store .entry)) (openOf self (now (out .entry))) budget .opening ⌝ }
+        ensures { λ r. ⌜ now (out .exit) ≡ advanced (now (store .entry)) (openOf self (now (out .entry))) budget .out ⌝ }
+    {
+        let outcome = may_continue(self, store.len(), out.len());
+        match outcome {
+            Outcome::Done => {
+                let labels = smaller(budget, nodes_anew(self.depth, self.memory) - self.made);
+                let opening = label_many(self, labels, store, out);
+                Advanced {
+                    outcome,
+                    labels,
+                    opening,
+                }
+            }
+            Outcome::Refused(_) => Advanced {
+                outcome,
+                labels: 0,
+                opening: self,
+            },
+        }
+    }
 }

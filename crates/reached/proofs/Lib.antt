@@ -8,3 +8,4 @@ pub mod Places
 pub mod Anew
 pub mod OpeningRun
 pub mod OpeningCalls
+pub mod Finished

@@ -9,7 +9,7 @@ use lib.Dec.{ltb, leb}
 use lib.ListN.{length}
 use Rattle.base.specs.Choice.{pick}
 use Rattle.base.specs.Limits.{maxDepth, maxMemory}
-use Rattle.base.proofs.ChoiceLaws.{both-second}
+use Rattle.base.proofs.ChoiceLaws.{both-first, both-second}
 use Rattle.refusal.specs.declared.Refusal.{Refusal}
 use Rattle.refusal.specs.declared.Refusal.the-variants.{State, ShortStore}
 use Rattle.refusal.specs.declared.Outcome.{Outcome}
@@ -35,6 +35,9 @@ no-depth n h = rw (lt-leb 1 n h)
 pub great-depth : (n : ℕ) → 1 ≤ n → ltb 40 n ≡ outside 1 maxDepth n
 great-depth n h = rw (le-leb 1 n h) (not-leb n 40)
 
+pub depth-some : (n : ℕ) → outside 1 maxDepth n ≡ false → 1 ≤ n
+depth-some n e = leb-true 1 n (both-first (leb 1 n) (leb n 40) (not-false _ e))
+
 pub depth-inside : (n : ℕ) → outside 1 maxDepth n ≡ false → n ≤ 40
 depth-inside n e = leb-true n 40 (both-second (leb 1 n) (leb n 40) (not-false _ e))
 
@@ -49,11 +52,14 @@ over-memory n m h = by (ltb 20 m) refl
     by true e = sym (lt-ltb (min n 20) m (omega (arith, ltb-true 20 m e)))
     by false e = sym (le-ltb (min n 20) m (omega (arith, ltb-false 20 m e)))
 
+pub memory-below : (n m : ℕ) → memoryOver n m ≡ false → m ≤ n
+memory-below n m e = omega (arith, ltb-false (min n 20) m e)
+
 pub memory-inside : (n m : ℕ) → memoryOver n m ≡ false → m ≤ 20
 memory-inside n m e = omega (arith, ltb-false (min n 20) m e)
 
 -- neither holds
-neither : (a b : Bool) → either a b ≡ false → (a ≡ false) × (b ≡ false)
+pub neither : (a b : Bool) → either a b ≡ false → (a ≡ false) × (b ≡ false)
 neither true b e = (e, cc)
 neither false b e = (refl, e)
 
@@ -70,7 +76,7 @@ possible n m made e =
     record { depth = depth-inside n d; memory = memory-inside n m o; made-few = ltb-false (nodesIn n) made l }
 
 -- a row's first condition does not hold where the answer is Done
-passed : (t : Bool) (r : Refusal) (o : Outcome) → pick t (Refused r) o ≡ Done → (t ≡ false) × (o ≡ Done)
+pub passed : (t : Bool) (r : Refusal) (o : Outcome) → pick t (Refused r) o ≡ Done → (t ≡ false) × (o ≡ Done)
 passed true r o e = (cc, cc)
 passed false r o e = (refl, e)
 

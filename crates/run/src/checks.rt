@@ -19,7 +19,7 @@ pub fn nodes(depth: u64) -> u64
     2 * (1u64 << depth) - 1
 }
 
-fn depth_outside(depth: u64) -> bool
+pub fn depth_outside(depth: u64) -> bool
     ensures { λ r. ⌜ r ≡ outside 1 maxDepth depth ⌝ }
 {
     if depth < 1 {
@@ -28,7 +28,7 @@ fn depth_outside(depth: u64) -> bool
     40 < depth
 }
 
-fn memory_over(depth: u64, memory: u64) -> bool
+pub fn memory_over(depth: u64, memory: u64) -> bool
     ensures { λ r. ⌜ r ≡ memoryOver depth memory ⌝ }
 {
     if depth < memory {
@@ -37,7 +37,7 @@ fn memory_over(depth: u64, memory: u64) -> bool
     20 < memory
 }
 
-fn store_short(memory: u64, store: usize) -> bool
+pub fn store_short(memory: u64, store: usize) -> bool
     requires { ⌜ memory ≤ 20 ⌝ }
     ensures { λ r. ⌜ r ≡ ltb store (storeSize memory) ⌝ }
 {

@@ -7,9 +7,12 @@ ghost use lib.ListN.{length};
 ghost use Rattle.run.specs.Rows.{startRow, continueRow};
 ghost use Prim.Native.Nat.{min};
 ghost use Rattle.run.specs.Steps.{newRun, started, stamped, labelsIn, advanced};
+pub use checks::depth_outside;
 use checks::may_continue;
 use checks::may_start;
-use checks::nodes;
+pub use checks::memory_over;
+pub use checks::nodes;
+pub use checks::store_short;
 use labels::label_many;
 use refusal::Outcome;
 
@@ -36,7 +39,7 @@ pub struct Advanced {
     pub run: Run,
 }
 
-fn smaller(x: u64, y: u64) -> u64
+pub fn smaller(x: u64, y: u64) -> u64
     ensures { λ r. ⌜ r ≡ min x y ⌝ }
 {
     if x < y { x } else { y }

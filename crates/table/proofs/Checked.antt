@@ -9,6 +9,7 @@ use Rattle.tree.specs.Labels.{inputSize}
 use Rattle.tree.proofs.Parents.{parents-count}
 use Rattle.groups.specs.Groups.{groups}
 use Rattle.groups.specs.Reading.{ended, readFrom, readAt}
+use Rattle.proof.specs.Layout.{headNumbers, fileSize}
 use Rattle.ways.specs.Ways.{onSomeWay, chain}
 use Rattle.ways.specs.Counts.{opened, different, insideEmpty, largestEmpty}
 use Rattle.table.specs.Table.{Table, lastLeaf}
@@ -19,7 +20,7 @@ unfolding inputSize
 last-leaf = ap (λ (k : ℕ). 41 + 32 * k) (parents-count 40 lastLeaf refl (lit< tt) ∙ ones-ones 40)
 
 pub table : Table
-unfolding inputSize orderBelow labellingOrder leftSiblings parents groups ended readFrom readAt passing onSomeWay chain opened different insideEmpty largestEmpty
+unfolding inputSize orderBelow labellingOrder leftSiblings parents groups ended readFrom readAt headNumbers fileSize passing onSomeWay chain opened different insideEmpty largestEmpty
 table =
     record {
       t1Parents = refl;
@@ -35,6 +36,8 @@ table =
       t7Second = refl;
       t7Refused = refl;
       t7Number = refl;
+      t8 = refl;
+      t9 = refl;
       t10 = refl;
       t11 = refl;
       t12Leaves = refl;

@@ -1,5 +1,4 @@
--- Document 01, 'Table and other cases': T1 to T12, as one table over the definitions. (T8 and T9, the file's sizes, come with
--- the file's layout.)
+-- Document 01, 'Table and other cases': T1 to T12, as one table over the definitions.
 use mathlib.Core.Path.{_≡_}
 use Prim.Native.Nat.{ℕ, _-_, _*_, _^_}
 use mathlib.Core.List.{List, [], _∷_}
@@ -12,6 +11,7 @@ use Rattle.tree.specs.Store.{slot, storeSize}
 use Rattle.groups.specs.declared.Number.the-variants.{Refused}
 use Rattle.groups.specs.Groups.{groups}
 use Rattle.groups.specs.Reading.{readAt}
+use Rattle.proof.specs.Layout.{fileSize}
 use Rattle.ways.specs.Ways.{chain}
 use Rattle.ways.specs.Counts.{leavesOpened, largestEmpty}
 
@@ -48,6 +48,9 @@ pub record Table : Type 0 where
   pub t7Second : groups 2 200 ≡ 0xC8 ∷ 0x01 ∷ []
   pub t7Refused : readAt (0xC8 ∷ 0x00 ∷ []) 0 2 ≡ Refused NotShortest
   pub t7Number : numberOf NotShortest ≡ 11
+  -- T8 n = 1, t = 1: 131 bytes of file. T9 n = 40, t = 200: 262,468
+  pub t8 : fileSize 1 1 ≡ 131
+  pub t9 : fileSize 40 200 ≡ 262468
   -- T10 depth 2, leaf 0: chain 3
   pub t10 : length (chain 2 (0 ∷ [])) ≡ 3
   -- T11 leaves 0 and 3: chain 5

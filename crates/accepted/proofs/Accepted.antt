@@ -1,0 +1,16 @@
+-- The check accepts exactly the proofs.
+use mathlib.Core.Path.{_≡_}
+use Prim.Native.Nat.{ℕ, _<_}
+use mathlib.Core.Logic.{_↔_}
+use mathlib.Core.List.{List}
+use lib.ListN.{getD}
+use Rattle.refusal.specs.declared.Check.the-variants.{Accepted}
+use Rattle.proof.specs.FileCheck.{fileCheck}
+use Rattle.accepted.specs.IsProof.{IsProof}
+use Rattle.accepted.proofs.Soundness.{accepted-proof}
+use Rattle.accepted.proofs.Completeness.{proof-accepted}
+
+pub exactly-proofs :
+    (bytes statement : List ℕ) (n t : ℕ) → ((j : ℕ) → getD bytes j 0 < 256)
+    → fileCheck bytes statement n t ≡ Accepted ↔ IsProof bytes statement n t
+exactly-proofs bytes statement n t small = (accepted-proof bytes statement n t small, proof-accepted bytes statement n t)

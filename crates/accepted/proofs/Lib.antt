@@ -1,0 +1,10 @@
+pub mod RowLaws
+pub mod Parts
+pub mod Reading
+pub mod Openings
+pub mod Soundness
+pub mod GivenLaws
+pub mod Completeness
+pub mod Accepted
+pub mod Leaves
+pub mod TreeFile

@@ -1,0 +1,3 @@
+pub mod IsProof
+pub mod Heads
+pub mod TreeFile

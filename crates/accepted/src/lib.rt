@@ -1,0 +1,1 @@
+// Theory without code: specs/ says which bytes are a proof; proofs/ shows that the check accepts exactly these.

@@ -1,0 +1,33 @@
+-- Document 01's row 'Planning a chain', and what planning writes.
+use Prim.Native.Nat.{ℕ}
+use mathlib.Core.Bool.{not}
+use mathlib.Core.List.{List, [], _∷_}
+use lib.Dec.{ltb}
+use lib.ListN.{length}
+use Rattle.base.specs.Choice.{pick}
+use Rattle.base.specs.Bytes.{written}
+use Rattle.base.specs.Limits.{maxDepth, maxChallenges}
+use Rattle.refusal.specs.declared.Refusal.the-variants.{Depth, Count, LeafPosition, ShortList}
+use Rattle.refusal.specs.declared.Outcome.{Outcome}
+use Rattle.refusal.specs.Row.{firstOf, outside, isDone}
+use Rattle.ways.specs.Planning.{every, isLeaf}
+use Rattle.ways.specs.Ways.{chain, chainCodes}
+
+-- 1; 8: not 1..200 leaves; 6; 16: list short
+unfoldable pub planRow : ℕ → List ℕ → ℕ → Outcome
+planRow n leaves list =
+    firstOf
+    ((outside 1 maxDepth n, Depth)
+    ∷ (outside 1 maxChallenges (length leaves), Count)
+    ∷ (not (every (isLeaf n) leaves), LeafPosition)
+    ∷ (ltb list (length (chain n leaves)), ShortList)
+    ∷ []
+    )
+
+-- the count answered: 0 where it is refused
+unfoldable pub plannedCount : ℕ → List ℕ → ℕ → ℕ
+plannedCount n leaves list = pick (isDone (planRow n leaves list)) (length (chain n leaves)) 0
+
+-- the list afterwards: 'later places keep what they had', and nothing is written where it is refused
+unfoldable pub plannedList : ℕ → List ℕ → List ℕ → List ℕ
+plannedList n leaves list = pick (isDone (planRow n leaves (length list))) (written list 0 (chainCodes n leaves)) list

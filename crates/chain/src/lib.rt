@@ -1,0 +1,1 @@
+// Planning a chain from leaf positions, and drawing it from a proof.

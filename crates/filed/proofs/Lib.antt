@@ -1,0 +1,6 @@
+pub mod Laid
+pub mod Places
+pub mod Filing
+pub mod Rows
+pub mod Calls
+pub mod Finished

@@ -1,0 +1,88 @@
+-- The rows of writing a file: a start is done just when its five conditions hold, and a call just when it can be continued.
+use mathlib.Core.Path.{_≡_, refl}
+use Prim.Native.Nat.{ℕ, _^_, _≤_, _<_, min}
+use mathlib.Core.Bool.{Bool, true, false}
+use mathlib.Core.List.{List, [], _∷_}
+use lib.Dec.{ltb}
+use lib.ListN.{length}
+use borrow.Author.Tests.{le-ltb, lt-leb}
+use Rattle.base.specs.Limits.{maxDepth, maxMemory, maxChallenges}
+use Rattle.refusal.specs.declared.Refusal.the-variants.{Depth, MemoryLevel, ShortStore, Count, ShortOutput}
+use Rattle.refusal.specs.declared.Outcome.the-variants.{Done}
+use Rattle.refusal.specs.Row.{firstOf, outside}
+use Rattle.tree.specs.Store.{storeSize}
+use Rattle.run.specs.Rows.{memoryOver, startRow}
+use Rattle.opening.specs.Rows.{nodesAnew}
+use Rattle.proof.specs.Layout.{fileSize, headRow}
+use Rattle.reached.specs.Runs.{Startable}
+use Rattle.reached.proofs.StartLaws.{start-bounds}
+use Rattle.accepted.specs.IsProof.{IsDepth, IsCount}
+use Rattle.accepted.proofs.RowLaws.{within, done-head}
+use Rattle.writing.specs.declared.Writing.{Writing}
+use Rattle.writing.specs.Rows.{writeRow, rewriteRow}
+use Rattle.writing.specs.Steps.{newWriting, started}
+use Rattle.filed.specs.Filed.{Writable}
+
+module _ (n m t store file : ℕ) where
+  pub write-done : Writable n m t store file → writeRow n m t store file ≡ Done
+  unfolding writeRow
+  write-done fits =
+      rw (
+        within 1 maxDepth n (fits .depth),
+        le-ltb (min n maxMemory) m (fits .memory),
+        le-ltb store (storeSize m) (fits .storeFits),
+        within 1 maxChallenges t (fits .count),
+        le-ltb file (fileSize n t) (fits .fileFits),
+      )
+
+  -- the row is that of a run's start and that of the head
+  both-done : writeRow n m t store file ≡ Done → (startRow n m store ≡ Done) × (headRow n t file ≡ Done)
+  unfolding writeRow startRow headRow
+  both-done = go (outside 1 maxDepth n) (memoryOver n m) (ltb store (storeSize m)) (outside 1 maxChallenges t) (ltb file (fileSize n t))
+    where
+      go :
+          (a b c d e : Bool)
+          → firstOf ((a, Depth) ∷ (b, MemoryLevel) ∷ (c, ShortStore) ∷ (d, Count) ∷ (e, ShortOutput) ∷ []) ≡ Done
+          → (firstOf ((a, Depth) ∷ (b, MemoryLevel) ∷ (c, ShortStore) ∷ []) ≡ Done)
+          × (firstOf ((a, Depth) ∷ (d, Count) ∷ (e, ShortOutput) ∷ []) ≡ Done)
+      go true b c d e h = (h, h)
+      go false true c d e h = (h, cc)
+      go false false true d e h = (h, cc)
+      go false false false d e h = (refl, h)
+
+  pub done-write : writeRow n m t store file ≡ Done → Writable n m t store file
+  done-write e =
+      let run : Startable n m store = start-bounds n m store (both-done e .0) in
+      let head : IsDepth n × IsCount t × (fileSize n t ≤ file) = done-head n t file (both-done e .1) in
+      record {
+        depth = head .0;
+        memory = run .memory;
+        storeFits = run .enough;
+        count = head .1;
+        fileFits = head .2;
+      }
+
+pub started-done :
+    (statement root : List ℕ) (n m t : ℕ) (store file : List ℕ) → Writable n m t (length store) (length file)
+    → started statement root n m t store file ≡ newWriting statement root n m t store file
+unfolding started
+started-done statement root n m t store file fits = rw (write-done n m t (length store) (length file) fits)
+
+-- a continuation over lengths as at the start
+pub rewrite-done :
+    (w : Writing) (store file : ℕ) → Writable (w .opening .depth) (w .opening .memory) (w .count) store file
+    → w .opening .made ≤ nodesAnew (w .opening .depth) (w .opening .memory) → w .opening .leaf < 2 ^ (w .opening .depth)
+    → (1 ≤ w .number) × (w .number ≤ w .count)
+    → rewriteRow w store file ≡ Done
+unfolding rewriteRow
+rewrite-done w store file fits few inside number =
+    rw (
+      within 1 maxDepth (w .opening .depth) (fits .depth),
+      le-ltb (min (w .opening .depth) maxMemory) (w .opening .memory) (fits .memory),
+      le-ltb (nodesAnew (w .opening .depth) (w .opening .memory)) (w .opening .made) few,
+      lt-leb (2 ^ (w .opening .depth)) (w .opening .leaf) inside,
+      within 1 maxChallenges (w .count) (fits .count),
+      within 1 (w .count) (w .number) number,
+      le-ltb store (storeSize (w .opening .memory)) (fits .storeFits),
+      le-ltb file (fileSize (w .opening .depth) (w .count)) (fits .fileFits),
+    )

@@ -1,0 +1,4 @@
+pub mod RowLaws
+pub mod PlaceLaws
+pub mod AboveLaws
+pub mod StepLaws

@@ -1,0 +1,107 @@
+-- `opening::Opening::advance` meets its contract, by the answer: an opening that may be continued has room for its labels.
+use mathlib.Core.Path.{_≡_, sym, ap, _∙_}
+use Prim.Native.Nat.{ℕ, _^_, _-_, _≤_, min}
+use native.Mathlib.Omega.{arith}
+use borrow.Author.Tests.{ltb-false}
+use borrow.Author.Needs.{needs}
+use lib.Dec.{ltb, leb}
+use lib.ListN.{length}
+use Rattle.refusal.specs.declared.Refusal.the-variants.{ShortStore, State, ShortOutput}
+use Rattle.refusal.specs.Row.{either}
+use Rattle.refusal.specs.declared.Outcome.{Outcome}
+use Rattle.refusal.specs.declared.Outcome.the-variants.{Done}
+use Rattle.tree.specs.Store.{storeSize}
+use Rattle.run.specs.Rows.{impossible}
+use Rattle.run.proofs.RowLaws.{passed}
+use Rattle.opening.specs.Rows.{openingSize, nodesAnew, reopenRow}
+use Rattle.opening.specs.declared.Opening.{Opening}
+use Rattle.opening.proofs.RowLaws.{Ready, can-be, labels-done, labels-refused, advanced-by, unchanged}
+use Rattle.opening.proofs.Opening.advance.Statement.{statement}
+use Rattle.opening.proofs.Opening.advance.Tie as tie
+
+-- what a Done row tells
+continue-ready : (o : Opening) (store out : ℕ) → reopenRow o store out ≡ Done
+    → Ready (o .depth) (o .memory) (o .leaf) store out × (o .made ≤ nodesAnew (o .depth) (o .memory))
+unfolding reopenRow
+continue-ready o store out e =
+    let n = o .depth in
+    let m = o .memory in
+    let (i, e₁) = passed (either (impossible n m (o .made) (nodesAnew n m)) (leb (2 ^ n) (o .leaf))) State _ e in
+    let (s, e₂) = passed (ltb store (storeSize m)) ShortStore _ e₁ in
+    let (p, e₃) = passed (ltb out (openingSize n)) ShortOutput Done e₂ in
+    let (q, k) = can-be n m (o .made) (o .leaf) i in
+    (record { possible = q; room = ltb-false store (storeSize m) s; outRoom = ltb-false out (openingSize n) p }, k)
+
+-- the row's answer, and what is known if it is Done
+abbrev row : tie.Start → Outcome
+row s = reopenRow (s .args .self) (length (s .args .store .now)) (length (s .args .out .now))
+
+abbrev CanGoOn : tie.Start → Type 0
+CanGoOn s =
+    let o = s .args .self in
+    Ready (o .depth) (o .memory) (o .leaf) (length (s .args .store .now)) (length (s .args .out .now)) × (o .made ≤ nodesAnew (o .depth) (o .memory))
+
+may-continue-requires : tie.Need-may-continue-requires
+may-continue-requires c κs = search needs
+
+enum-told : tie.Need-enum-told
+enum-told c = search needs
+
+-- the opening may be continued
+done : (c : tie.After-enum-told) → row (c .before .before .before .before .before) ≡ Done
+done c = sym (c .before .before .may-continue .ensures) ∙ c .enum-told .given .1
+
+ready : (c : tie.After-enum-told) → CanGoOn (c .before .before .before .before .before)
+ready c = continue-ready _ _ _ (done c)
+
+nodes-anew-requires : tie.Need-nodes-anew-requires
+nodes-anew-requires c κs = let r = ready c .0 .possible in (r .deep, r .above)
+
+sub-smaller : tie.Need-sub-smaller
+sub-smaller c = omega (arith, c .before .nodes-anew .ensures, ready (c .before .before) .1)
+
+smaller-requires : tie.Need-smaller-requires
+smaller-requires c κs = search needs
+
+label-many-requires : tie.Need-label-many-requires
+label-many-requires c κs =
+    let (r, few) = ready (c .before .before .before .before) in
+    ((r .possible, omega (arith, c .before .smaller .ensures, c .before .before .before .nodes-anew .ensures)), (r .room, r .outRoom))
+
+enum-told-2 : tie.Need-enum-told-2
+enum-told-2 c = search needs
+
+same-length : tie.Need-same-length
+same-length c = search needs
+
+returns : tie.Need-returns
+returns c =
+    let a = c .before .before .before .before .before .before .before .before .before .before .before .before .args in
+    let e = c .before .before .label-many .ensures in
+    let k =
+    c .before .before .before .before .smaller .ensures
+    ∙ ap (λ (x : ℕ). min (a .budget) (x - a .self .made)) (c .before .before .before .before .before .before .nodes-anew .ensures)
+    ∙ labels-done (a .self) (a .store .now) (a .out .now) (a .budget) (done (c .before .before .before .before .before .before .before)) in
+    (c .before .before .before .before .before .before .before .before .before .may-continue .ensures, (k, advanced-by (a .self) (a .store .now) (a .out .now) (a .budget) _ _ _ k (e .0) (e .1)))
+
+returns-2 : tie.Need-returns-2
+returns-2 c =
+    let a = c .before .before .before .before .before .args in
+    let s = c .before .before .may-continue in
+    let z = labels-refused (a .self) (a .store .now) (a .out .now) (a .budget) _ (sym (s .ensures) ∙ c .enum-told2 .given .1) in
+    (s .ensures, (z, unchanged (a .self) (a .store .now) (a .out .now) (a .budget) z))
+
+pub advance-spec : {M : Type 1} → statement M
+advance-spec =
+    tie.close
+    (tie.spec
+    may-continue-requires
+    enum-told
+    nodes-anew-requires
+    sub-smaller
+    smaller-requires
+    label-many-requires
+    enum-told-2
+    same-length
+    returns
+    returns-2)

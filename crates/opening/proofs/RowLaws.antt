@@ -1,0 +1,78 @@
+-- What is known of an opening that may be started or continued, and what a call gives by its answer.
+use mathlib.Core.Path.{_≡_, refl}
+use mathlib.Core.Bool.{false}
+use mathlib.Core.List.{List}
+use Prim.Native.Nat.{ℕ, _-_, _^_, _≤_, min}
+use native.Mathlib.Omega.{arith}
+use borrow.Author.Tests.{ltb-false, leb-false}
+use lib.Dec.{ltb, leb}
+use lib.ListN.{length}
+use Rattle.base.specs.Limits.{maxDepth}
+use Rattle.refusal.specs.declared.Refusal.{Refusal}
+use Rattle.refusal.specs.declared.Outcome.the-variants.{Done, Refused}
+use Rattle.refusal.specs.Row.{outside, either}
+use Rattle.tree.specs.Walk.{nodesIn}
+use Rattle.tree.specs.Store.{storeSize}
+use Rattle.run.specs.Rows.{memoryOver, impossible}
+use Rattle.run.proofs.RowLaws.{depth-some, depth-inside, memory-below, memory-inside, neither}
+use Rattle.opening.specs.declared.Opening.{Opening}
+use Rattle.opening.specs.Rows.{openingSize, nodesAnew, openRow, reopenRow}
+use Rattle.opening.specs.Possible.{Possible, openOf}
+use Rattle.opening.specs.Steps.{newOpening, noOpening, copiedAll, started, startedOut, steps, labelsIn, advanced}
+
+-- the number of nodes, as it is computed
+pub anew-nodes : (n m : ℕ) → nodesIn (n - m) - 1 ≡ nodesAnew n m
+unfolding nodesIn
+anew-nodes n m = omega arith
+
+pub possible : (n m leaf : ℕ) → outside 1 maxDepth n ≡ false → memoryOver n m ≡ false → leb (2 ^ n) leaf ≡ false → Possible n m leaf
+possible n m leaf d o l =
+    record { some = depth-some n d; deep = depth-inside n d; above = memory-below n m o; kept = memory-inside n m o; inside = leb-false (2 ^ n) leaf l }
+
+-- an opening that can be, with a store and an output that are long enough
+pub record Ready (n m leaf store out : ℕ) : Type 0 where
+  pub possible : Possible n m leaf
+  pub room : storeSize m ≤ store
+  pub outRoom : openingSize n ≤ out
+
+-- what is known if the state can be continued
+pub can-be : (n m made leaf : ℕ) → either (impossible n m made (nodesAnew n m)) (leb (2 ^ n) leaf) ≡ false
+    → Possible n m leaf × (made ≤ nodesAnew n m)
+can-be n m made leaf e =
+    let (i, l) = neither (impossible n m made (nodesAnew n m)) (leb (2 ^ n) leaf) e in
+    let (d, f) = neither (outside 1 maxDepth n) (either (memoryOver n m) (ltb (nodesAnew n m) made)) i in
+    let (o, k) = neither (memoryOver n m) (ltb (nodesAnew n m) made) f in
+    (possible n m leaf d o l, ltb-false (nodesAnew n m) made k)
+
+module _ (statement : List ℕ) (n m leaf : ℕ) (store out : List ℕ) where
+  pub start-done : openRow n m leaf (length store) (length out) ≡ Done
+      → (newOpening statement n m leaf ≡ started statement n m leaf (length store) (length out))
+      × (copiedAll n m leaf store out ≡ startedOut n m leaf store out)
+  unfolding started startedOut
+  start-done e = (rw e, rw e)
+
+  pub start-refused : (r : Refusal) → openRow n m leaf (length store) (length out) ≡ Refused r
+      → (noOpening ≡ started statement n m leaf (length store) (length out)) × (out ≡ startedOut n m leaf store out)
+  unfolding started startedOut
+  start-refused r e = (rw e, rw e)
+
+module _ (o : Opening) (store out : List ℕ) (budget : ℕ) where
+  pub labels-done : reopenRow o (length store) (length out) ≡ Done
+      → min budget (nodesAnew (o .depth) (o .memory) - o .made) ≡ labelsIn store (openOf o out) budget
+  unfolding labelsIn
+  labels-done e = rw e
+
+  pub labels-refused : (r : Refusal) → reopenRow o (length store) (length out) ≡ Refused r → 0 ≡ labelsIn store (openOf o out) budget
+  unfolding labelsIn
+  labels-refused r e = rw e
+
+  pub advanced-by : (k : ℕ) (o′ : Opening) (out′ : List ℕ) → k ≡ labelsIn store (openOf o out) budget
+      → o′ ≡ steps store k (openOf o out) .opening → out′ ≡ steps store k (openOf o out) .out
+      → (o′ ≡ advanced store (openOf o out) budget .opening) × (out′ ≡ advanced store (openOf o out) budget .out)
+  unfolding advanced
+  advanced-by k o′ out′ e a b = (rw (← e) a, rw (← e) b)
+
+  pub unchanged : 0 ≡ labelsIn store (openOf o out) budget
+      → (o ≡ advanced store (openOf o out) budget .opening) × (out ≡ advanced store (openOf o out) budget .out)
+  unfolding steps
+  unchanged e = advanced-by 0 o out e refl refl

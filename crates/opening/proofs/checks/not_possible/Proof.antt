@@ -1,0 +1,64 @@
+-- `opening::checks::not_possible` meets its contract: each return by the tests passed.
+use mathlib.Core.Path.{_≡_, sym, _∙_}
+use mathlib.Core.Bool.{false}
+use Prim.Native.Nat.{_<_, _≤_}
+use native.Mathlib.Omega.{arith}
+use borrow.Author.Tests.{lt-ltb, le-ltb}
+use borrow.Author.Needs.{needs}
+use Rattle.base.specs.Limits.{maxDepth}
+use Rattle.refusal.specs.Row.{outside}
+use Rattle.run.specs.Rows.{memoryOver}
+use Rattle.run.proofs.RowLaws.{depth-inside, memory-below}
+use Rattle.opening.specs.Rows.{nodesAnew}
+use Rattle.opening.proofs.checks.not_possible.Statement.{statement}
+use Rattle.opening.proofs.checks.not_possible.Tie as tie
+
+-- the tests passed
+depth-fits : (c : tie.Else1) → outside 1 maxDepth (c .before .before .args .depth) ≡ false
+depth-fits c = sym (c .before .depth-outside .ensures) ∙ c .if1 .left
+
+memory-fits : (c : tie.Else2) → memoryOver (c .before .before .before .before .args .depth) (c .before .before .before .before .args .memory) ≡ false
+memory-fits c = sym (c .before .memory-over .ensures) ∙ c .if2 .left
+
+depth-outside-requires : tie.Need-depth-outside-requires
+depth-outside-requires c κs = search needs
+
+returns : tie.Need-returns
+returns c = rw (sym (c .before .depth-outside .ensures) ∙ c .if1 .taken)
+
+memory-over-requires : tie.Need-memory-over-requires
+memory-over-requires c κs = search needs
+
+returns-2 : tie.Need-returns-2
+returns-2 c = rw (depth-fits (c .before .before), sym (c .before .memory-over .ensures) ∙ c .if2 .taken)
+
+nodes-anew-requires : tie.Need-nodes-anew-requires
+nodes-anew-requires c κs = (depth-inside _ (depth-fits (c .before .before)), memory-below (c .before .before .before .before .args .depth) (c .before .before .before .before .args .memory) (memory-fits c))
+
+returns-3 : tie.Need-returns-3
+returns-3 c =
+    let a = c .before .before .before .before .before .before .args in
+    let more : nodesAnew (a .depth) (a .memory) < a .made = omega (arith, c .before .nodes-anew .ensures, c .if3 .taken) in
+    rw (depth-fits (c .before .before .before .before), memory-fits (c .before .before), lt-ltb (nodesAnew (a .depth) (a .memory)) (a .made) more)
+
+leaf-outside-requires : tie.Need-leaf-outside-requires
+leaf-outside-requires c κs = depth-inside _ (depth-fits (c .before .before .before .before))
+
+returns-4 : tie.Need-returns-4
+returns-4 c =
+    let a = c .before .before .before .before .before .before .before .args in
+    let few : a .made ≤ nodesAnew (a .depth) (a .memory) = omega (arith, c .before .before .nodes-anew .ensures, c .before .if3 .left) in
+    rw (depth-fits (c .before .before .before .before .before), memory-fits (c .before .before .before), le-ltb (nodesAnew (a .depth) (a .memory)) (a .made) few) (c .leaf-outside .ensures)
+
+pub not-possible-spec : {M : Type 1} → statement M
+not-possible-spec =
+    tie.close
+    (tie.spec
+    depth-outside-requires
+    returns
+    memory-over-requires
+    returns-2
+    nodes-anew-requires
+    returns-3
+    leaf-outside-requires
+    returns-4)

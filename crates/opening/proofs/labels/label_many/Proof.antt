@@ -1,0 +1,97 @@
+-- `opening::labels::label_many` meets its contract. The invariant: i steps from the start give this state. The measure is what is left
+-- of the count.
+use mathlib.Core.Path.{sym, _≡_, refl, ap}
+use Prim.Native.Nat.{_+_, _-_, _≤_}
+use native.Mathlib.Omega.{arith}
+use borrow.Author.Needs.{needs}
+use lib.ListN.{length-take, length}
+use Rattle.opening.specs.Steps.{Open, steps}
+use Rattle.opening.specs.Possible.{openingOf, openOf}
+use Rattle.opening.proofs.StepLaws.{anew-small, steps-none, steps-more}
+use Rattle.opening.proofs.labels.label_many.Statement.{statement}
+use Rattle.opening.proofs.labels.label_many.Tie as tie
+
+abbrev Inv-loop : tie.InvT-loop
+Inv-loop count store out₀ statement depth memory leaf made held₀ bytes len i₀ out held i =
+    (i ≤ count)
+    × (steps store i (openOf (openingOf statement depth memory leaf made held₀) out₀) ≡ openOf (openingOf statement depth memory leaf (made + i) held) out)
+    × (length held ≡ 1312) × (length out ≡ length out₀)
+
+abbrev μ-loop : tie.MeasureT-loop
+μ-loop count store out₀ statement depth memory leaf made held₀ bytes len i₀ out held i = count - i
+
+-- what was read fits the array
+read-fits : (c : tie.After-labels-above Inv-loop μ-loop) → c .labels-above .result .len ≤ length (c .labels-above .result .bytes)
+read-fits c =
+    let whole : length (c .labels-above .result .bytes) ≡ 640 = search needs in
+    omega (arith, c .labels-above .ensures, c .before .before .before .before .before .pre)
+
+labels-above-requires : tie.Need-labels-above-requires Inv-loop μ-loop
+labels-above-requires c κs = search needs
+
+loop-holds : tie.Need-loop-holds Inv-loop μ-loop
+loop-holds c = (omega arith, steps-none _ _ _ _ _ _ _ _, search needs, refl)
+
+add-label-one : tie.Need-add-label-one Inv-loop μ-loop
+add-label-one c = omega (arith, anew-small (c .before .before .before .before .before .before .before .before .args .opening .depth) (c .before .before .before .before .before .before .before .before .args .opening .memory) (c .before .before .before .before .before .before .before .before .pre .0 .0 .deep))
+
+array-share-prefix-bytes : tie.Need-array-share-prefix-bytes Inv-loop μ-loop
+array-share-prefix-bytes c = read-fits (c .before .before .before)
+
+slice-aggregate-label-one : tie.Need-slice-aggregate-label-one Inv-loop μ-loop
+slice-aggregate-label-one c = simp length-take (omega (arith, read-fits (c .before .before .before .before)))
+
+slice-aggregate-label-one-2 : tie.Need-slice-aggregate-label-one-2 Inv-loop μ-loop
+slice-aggregate-label-one-2 c = sym (c .before .before .before .loop .inv .2)
+
+label-one-requires : tie.Need-label-one-requires Inv-loop μ-loop
+label-one-requires c κs =
+    let s = c .before .before .before .before .before .before .before .before .before .before .before in
+    ((s .pre .0 .0, omega arith), (simp length-take (omega (arith, c .before .before .before .before .before .before .labels-above .ensures)), c .before .before .before .before .loop .inv .2, omega arith))
+
+add-i : tie.Need-add-i Inv-loop μ-loop
+add-i c = search needs
+
+loop-less : tie.Need-loop-less Inv-loop μ-loop
+loop-less c = search needs
+
+loop-again : tie.Need-loop-again Inv-loop μ-loop
+loop-again c =
+    let e = c .before .before .before .label-one .ensures in (
+      omega arith,
+      steps-more _ _ _ _ _ _ _ _ _ _ (c .before .before .before .before .before .before .before .before .loop .inv .1) _ (c .before .before .before .before .before .before .before .before .before .before .labels-above .ensures .0) _ _ (e .0) (e .1),
+      search needs,
+      search needs,
+    )
+
+add-t24 : tie.Need-add-t24 Inv-loop μ-loop
+add-t24 c = omega (arith, anew-small (c .before .before .before .before .before .before .before .before .args .opening .depth) (c .before .before .before .before .before .before .before .before .args .opening .memory) (c .before .before .before .before .before .before .before .before .pre .0 .0 .deep))
+
+same-length : tie.Need-same-length Inv-loop μ-loop
+same-length c = c .before .loop .inv .3
+
+returns : tie.Need-returns Inv-loop μ-loop
+returns c =
+    let e : c .before .loop .i ≡ c .before .before .before .before .before .before .before .before .args .count = omega arith in
+    let f = rw e at (c .before .loop .inv .1) in
+    (sym (ap (λ (s : Open). s .opening) f), sym (ap (λ (s : Open). s .out) f))
+
+pub label-many-spec : {M : Type 1} → statement M
+label-many-spec =
+    tie.close
+    (tie.spec
+    Inv-loop
+    μ-loop
+    labels-above-requires
+    loop-holds
+    add-label-one
+    array-share-prefix-bytes
+    slice-aggregate-label-one
+    slice-aggregate-label-one-2
+    label-one-requires
+    add-i
+    loop-less
+    loop-again
+    add-t24
+    same-length
+    returns)

@@ -1,0 +1,88 @@
+// Document 01's rows 'Starting an opening' and 'Continuing an opening', for every number.
+ghost use mathlib.Core.Path.{_≡_};
+ghost use Prim.Native.Nat.{_^_, _≤_};
+ghost use lib.Dec.{ltb, leb};
+ghost use Rattle.refusal.specs.Row.{either};
+ghost use Rattle.run.specs.Rows.{impossible};
+ghost use Rattle.opening.specs.Rows.{openingSize, nodesAnew, openRow, reopenRow};
+use crate::Opening;
+use refusal::Outcome;
+use refusal::Refusal;
+use run::depth_outside;
+use run::memory_over;
+use run::nodes;
+use run::store_short;
+
+// The nodes that an opening labels anew: its subtree's but the topmost.
+pub fn nodes_anew(depth: u64, memory: u64) -> u64
+    requires { ⌜ (depth ≤ 40) × (memory ≤ depth) ⌝ }
+    ensures { λ r. ⌜ r ≡ nodesAnew depth memory ⌝ }
+{
+    nodes(depth - memory) - 1
+}
+
+fn leaf_outside(depth: u64, leaf: u64) -> bool
+    requires { ⌜ depth ≤ 40 ⌝ }
+    ensures { λ r. ⌜ r ≡ leb (2 ^ depth) leaf ⌝ }
+{
+    (1u64 << depth) <= leaf
+}
+
+fn output_short(depth: u64, out: usize) -> bool
+    requires { ⌜ depth ≤ 40 ⌝ }
+    ensures { λ r. ⌜ r ≡ ltb out (openingSize depth) ⌝ }
+{
+    (out as u64) < 32 * (depth + 1)
+}
+
+fn not_possible(depth: u64, memory: u64, made: u64, leaf: u64) -> bool
+    ensures { λ r. ⌜ r ≡ either (impossible depth memory made (nodesAnew depth memory)) (leb (2 ^ depth) leaf) ⌝ }
+{
+    if depth_outside(depth) {
+        return true;
+    }
+    if memory_over(depth, memory) {
+        return true;
+    }
+    let all = nodes_anew(depth, memory);
+    if all < made {
+        return true;
+    }
+    leaf_outside(depth, leaf)
+}
+
+pub fn may_start(depth: u64, memory: u64, leaf: u64, store: usize, out: usize) -> Outcome
+    ensures { λ r. ⌜ r ≡ openRow depth memory leaf store out ⌝ }
+{
+    if depth_outside(depth) {
+        return Outcome::Refused(Refusal::Depth);
+    }
+    if memory_over(depth, memory) {
+        return Outcome::Refused(Refusal::MemoryLevel);
+    }
+    if store_short(memory, store) {
+        return Outcome::Refused(Refusal::ShortStore);
+    }
+    if leaf_outside(depth, leaf) {
+        return Outcome::Refused(Refusal::LeafPosition);
+    }
+    if output_short(depth, out) {
+        return Outcome::Refused(Refusal::ShortOutput);
+    }
+    Outcome::Done
+}
+
+pub fn may_continue(opening: Opening, store: usize, out: usize) -> Outcome
+    ensures { λ r. ⌜ r ≡ reopenRow opening store out ⌝ }
+{
+    if not_possible(opening.depth, opening.memory, opening.made, opening.leaf) {
+        return Outcome::Refused(Refusal::State);
+    }
+    if store_short(opening.memory, store) {
+        return Outcome::Refused(Refusal::ShortStore);
+    }
+    if output_short(opening.depth, out) {
+        return Outcome::Refused(Refusal::ShortOutput);
+    }
+    Outcome::Done
+}

@@ -1,0 +1,76 @@
+// Labels made anew, in order: one step, and as many as a call was granted.
+ghost use mathlib.Core.Path.{_≡_};
+ghost use Prim.Native.Nat.{_+_, _-_, _*_, _<_, _≤_};
+ghost use lib.ListN.{length};
+ghost use Rattle.tree.specs.Store.{storeSize};
+ghost use Rattle.label.specs.Step.{heldWith};
+ghost use Rattle.opening.specs.Rows.{openingSize, nodesAnew};
+ghost use Rattle.opening.specs.Possible.{Possible, openOf, nextAnew, labelAnew};
+ghost use Rattle.opening.specs.Steps.{ancestor, placed, steps};
+use crate::Opening;
+use crate::above::labels_above;
+use crate::places::put_label;
+use label::label_next;
+
+// One step, with the left siblings' labels in front. Its caller knows that a node is left.
+fn label_one(
+    statement: [u8; 32],
+    depth: u64,
+    memory: u64,
+    leaf: u64,
+    made: u64,
+    front: &[u8],
+    held: &mut [u8],
+    out: &mut [u8],
+)
+    requires { ⌜ Possible depth memory leaf × (made < nodesAnew depth memory) ⌝ }
+    requires { ⌜ (length (now front) ≤ 32 * memory) × (length (now held) ≡ 1312) × (openingSize depth ≤ length (now out)) ⌝ }
+    ensures { λ _. ⌜ now (held .exit) ≡ heldWith (depth - memory) (ancestor depth leaf memory) (now (held .entry)) (nextAnew depth memory leaf made) (labelAnew statement depth memory leaf (now (front .entry)) (now (held .entry)) made) ⌝ }
+    ensures { λ _. ⌜ now (out .exit) ≡ placed depth leaf (now (out .entry)) (nextAnew depth memory leaf made) (labelAnew statement depth memory leaf (now (front .entry)) (now (held .entry)) made) ⌝ }
+{
+    let height = depth - memory;
+    let position = leaf >> height;
+    let w = label_next(statement, height, memory, position, front, held, made);
+    let label = w.label;
+    put_label(depth, leaf, out, w.level, w.position, &label);
+}
+
+// As many steps as are asked for. The opening's fields are taken apart once and put together at the end.
+pub fn label_many(opening: Opening, count: u64, store: &[u8], out: &mut [u8]) -> Opening
+    requires { ⌜ Possible (opening .depth) (opening .memory) (opening .leaf) × (opening .made + count ≤ nodesAnew (opening .depth) (opening .memory)) ⌝ }
+    requires { ⌜ (storeSize (opening .memory) ≤ length (now store)) × (openingSize (opening .depth) ≤ length (now out)) ⌝ }
+    ensures { λ r. ⌜ r ≡ steps (now (store .entry)) count (openOf opening (now (out .entry))) .opening ⌝ }
+    ensures { λ r. ⌜ now (out .exit) ≡ steps (now (store .entry)) count (openOf opening (now (out .entry))) .out ⌝ }
+{
+    let statement = opening.statement;
+    let depth = opening.depth;
+    let memory = opening.memory;
+    let leaf = opening.leaf;
+    let made = opening.made;
+    let mut held = opening.held;
+    let front = labels_above(depth, memory, leaf, store);
+    let bytes = front.bytes;
+    let len = front.len;
+    let mut i = 0;
+    while i < count {
+        label_one(
+            statement,
+            depth,
+            memory,
+            leaf,
+            made + i,
+            &bytes[..len],
+            &mut held,
+            out,
+        );
+        i += 1;
+    }
+    Opening {
+        statement,
+        depth,
+        memory,
+        leaf,
+        made: made + count,
+        held,
+    }
+}

@@ -1,0 +1,235 @@
+// Every leaf of small trees opened at every memory level and several budgets, and each refusal at its edge. The stored output
+// has the digests of an independent model's openings.
+ghost use mathlib.Core.Path.{_≡_};
+ghost use lib.ListN.{length};
+use opening::Opening;
+use refusal::outcome_number;
+use run::Run;
+use sha256::Hash;
+use sha256::digest;
+
+fn hash(bytes: &[u8]) -> [u8; 32] {
+    let d = digest(bytes);
+    d.digest
+}
+
+// The store of a finished run, of 4,064 bytes.
+fn finished(statement: [u8; 32], depth: u64, memory: u64) -> [u8; 4064] {
+    let mut store = [0u8; 4064];
+    let start = Run::start(statement, depth, memory, &store);
+    let run = start.run;
+    let _end = run.advance(1000, &mut store);
+    store
+}
+
+// Calls with one budget until no label is left; how many labels they report.
+fn carried(opening: Opening, budget: u64, store: &[u8], out: &mut [u8]) -> u64 {
+    let mut state = opening;
+    let mut labels: u64 = 0;
+    let mut turns: u64 = 1000;
+    while 0 < turns {
+        let step = state.advance(budget, store, out);
+        let next = step.opening;
+        state = next;
+        if step.labels == 0 {
+            return labels;
+        }
+        labels = (labels + step.labels % 1000) % 100000;
+        turns -= 1;
+    }
+    labels
+}
+
+// The hash state with one more opening, made over output bytes that held something else, with a byte behind it.
+fn one(
+    state: Hash,
+    statement: [u8; 32],
+    depth: u64,
+    memory: u64,
+    leaf: u64,
+    budget: u64,
+    store: &[u8],
+) -> Hash {
+    let mut out = [90u8; 1313];
+    let start = Opening::start(statement, depth, memory, leaf, store, &mut out);
+    let opening = start.opening;
+    let labels = carried(opening, budget, store, &mut out);
+    let first = state.update(&out);
+    let taken = first.hash;
+    let count = base::big_endian(labels);
+    let second = taken.update(&count);
+    second.hash
+}
+
+fn all_leaves(
+    statement: [u8; 32],
+    depth: u64,
+    memory: u64,
+    budget: u64,
+    leaves: u64,
+    store: &[u8],
+) -> [u8; 32] {
+    let mut state = Hash::new();
+    let mut leaf: u64 = 0;
+    while leaf < leaves {
+        let next = one(state, statement, depth, memory, leaf, budget, store);
+        state = next;
+        leaf += 1;
+    }
+    let end = state.finish();
+    end.digest
+}
+
+fn column(
+    statement: [u8; 32],
+    depth: u64,
+    memory: u64,
+    budget: u64,
+    leaves: u64,
+    store: [u8; 4064],
+) {
+    show::text(b" ");
+    show::hex(&all_leaves(statement, depth, memory, budget, leaves, &store));
+}
+
+// One depth and memory level: the digest over every leaf's opening and number of labels made.
+fn level(depth: u64, memory: u64, leaves: u64) {
+    let statement = hash(b"openings");
+    let store = finished(statement, depth, memory);
+    show::text(b"depth ");
+    show::number(depth);
+    show::text(b" memory ");
+    show::number(memory);
+    column(statement, depth, memory, 1000, leaves, store);
+    column(statement, depth, memory, 3, leaves, store);
+    column(statement, depth, memory, 1, leaves, store);
+    show::text(b"\n");
+}
+
+fn depth(n: u64, leaves: u64) {
+    let mut memory: u64 = 0;
+    while memory <= n {
+        level(n, memory, leaves);
+        if memory == n {
+            return;
+        }
+        memory += 1;
+    }
+}
+
+fn flag(same: bool) {
+    if same {
+        show::text(b" same");
+    } else {
+        show::text(b" changed");
+    }
+}
+
+// What starting with these numbers answers, and whether the output is changed.
+fn starts(n: u64, m: u64, leaf: u64, store: &[u8], out: &mut [u8]) {
+    let before = hash(out);
+    let start = Opening::start([7u8; 32], n, m, leaf, store, out);
+    let outcome = start.outcome;
+    show::text(b": start ");
+    show::number(outcome_number(outcome));
+    flag(check::same(&before, &hash(out)));
+}
+
+// The same of continuing.
+fn continues(n: u64, m: u64, leaf: u64, made: u64, store: &[u8], out: &mut [u8]) {
+    let before = hash(out);
+    let held = [9u8; 1312];
+    let opening = Opening {
+        statement: [7u8; 32],
+        depth: n,
+        memory: m,
+        leaf,
+        made,
+        held,
+    };
+    let step = opening.advance(1, store, out);
+    let outcome = step.outcome;
+    show::text(b" continue ");
+    show::number(outcome_number(outcome));
+    show::text(b" labels ");
+    show::number(step.labels);
+    flag(check::same(&before, &hash(out)));
+}
+
+fn starts_at(n: u64, m: u64, leaf: u64, store: usize, out: usize) {
+    let space = [1u8; 4064];
+    let mut output = [2u8; 1313];
+    if 4064 < store {
+        return;
+    }
+    if 1313 < out {
+        return;
+    }
+    starts(n, m, leaf, &space[..store], &mut output[..out]);
+}
+
+fn continues_at(n: u64, m: u64, leaf: u64, made: u64, store: usize, out: usize) {
+    let space = [1u8; 4064];
+    let mut output = [2u8; 1313];
+    if 4064 < store {
+        return;
+    }
+    if 1313 < out {
+        return;
+    }
+    continues(n, m, leaf, made, &space[..store], &mut output[..out]);
+}
+
+fn edge_at(n: u64, m: u64, leaf: u64, made: u64, store: usize, out: usize) {
+    show::number(n);
+    show::text(b" ");
+    show::number(m);
+    show::text(b" ");
+    show::number(leaf);
+    show::text(b" ");
+    show::number(made);
+    show::text(b" ");
+    show::number(store as u64);
+    show::text(b" ");
+    show::number(out as u64);
+    starts_at(n, m, leaf, store, out);
+    continues_at(n, m, leaf, made, store, out);
+    show::text(b"\n");
+}
+
+fn edges() {
+    edge_at(0, 0, 0, 0, 32, 64);
+    edge_at(41, 0, 0, 0, 32, 1313);
+    edge_at(40, 0, 1099511627775, 0, 32, 1312);
+    edge_at(40, 0, 1099511627776, 0, 32, 1312);
+    edge_at(40, 0, 0, 0, 32, 1311);
+    edge_at(3, 3, 7, 0, 480, 128);
+    edge_at(3, 4, 7, 0, 992, 128);
+    edge_at(3, 3, 7, 1, 480, 128);
+    edge_at(3, 1, 7, 0, 95, 128);
+    edge_at(3, 1, 8, 0, 96, 128);
+    edge_at(3, 1, 8, 0, 96, 127);
+    edge_at(3, 1, 7, 0, 96, 127);
+    edge_at(3, 1, 7, 5, 96, 128);
+    edge_at(3, 1, 7, 6, 96, 128);
+    edge_at(3, 1, 7, 7, 96, 128);
+    edge_at(3, 1, 7, 7, 95, 127);
+    edge_at(
+        18446744073709551615,
+        18446744073709551615,
+        18446744073709551615,
+        18446744073709551615,
+        0,
+        0,
+    );
+}
+
+fn main() {
+    depth(1, 2);
+    depth(2, 4);
+    depth(3, 8);
+    depth(4, 16);
+    depth(5, 32);
+    depth(6, 64);
+    edges();
+}

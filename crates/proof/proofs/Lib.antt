@@ -1,0 +1,4 @@
+pub mod ChallengeLaws
+pub mod HeadLaws
+pub mod FileLaws
+pub mod WritingLaws

@@ -1,0 +1,48 @@
+-- `proof::challenge` meets its contract: one law for each return.
+use mathlib.Core.Path.{sym, _∙_}
+use borrow.Author.Needs.{needs}
+use Rattle.verify.proofs.Ranges.{range-of}
+use Rattle.proof.proofs.ChallengeLaws.{depth-refused, number-refused, leaf-answered}
+use Rattle.proof.proofs.challenges.challenge.Statement.{statement}
+use Rattle.proof.proofs.challenges.challenge.Tie as tie
+
+beyond-requires : tie.Need-beyond-requires
+beyond-requires c κs = search needs
+
+returns : tie.Need-returns
+returns c =
+    let a = c .before .before .args in
+    depth-refused (a .depth) (a .statement) (a .root) (a .i) (sym (c .before .beyond .ensures) ∙ c .if1 .taken)
+
+beyond-requires-2 : tie.Need-beyond-requires-2
+beyond-requires-2 c κs = search needs
+
+returns-2 : tie.Need-returns-2
+returns-2 c =
+    let a = c .before .before .before .before .args in
+    number-refused (a .depth) (a .statement) (a .root) (a .i)
+    (sym (c .before .before .before .beyond .ensures) ∙ c .before .before .if1 .left)
+    (sym (c .before .beyond2 .ensures) ∙ c .if2 .taken)
+
+challenge-leaf-requires : tie.Need-challenge-leaf-requires
+challenge-leaf-requires c κs =
+    range-of 1 40 (c .before .before .before .before .args .depth)
+    (sym (c .before .before .before .beyond .ensures) ∙ c .before .before .if1 .left)
+
+returns-3 : tie.Need-returns-3
+returns-3 c =
+    let a = c .before .before .before .before .before .args in
+    leaf-answered (a .depth) (a .statement) (a .root) (a .i)
+    (sym (c .before .before .before .before .beyond .ensures) ∙ c .before .before .before .if1 .left) _
+    (sym (c .before .before .beyond2 .ensures) ∙ c .before .if2 .left) (c .challenge-leaf .ensures)
+
+pub challenge-spec : {M : Type 1} → statement M
+challenge-spec =
+    tie.close
+    (tie.spec
+    beyond-requires
+    returns
+    beyond-requires-2
+    returns-2
+    challenge-leaf-requires
+    returns-3)

@@ -1,0 +1,51 @@
+-- Document 01, 'File: edition (1), n, count t, then statement, root, and t openings in challenge order.'
+use Prim.Native.Nat.{ℕ, _+_, _-_, _*_}
+use mathlib.Core.List.{List, [], _∷_, _++_}
+use lib.Dec.{ltb}
+use lib.ListN.{length}
+use Rattle.base.specs.Choice.{pick}
+use Rattle.base.specs.Bytes.{joined, written}
+use Rattle.base.specs.Limits.{maxDepth, maxChallenges}
+use Rattle.refusal.specs.declared.Refusal.the-variants.{Depth, Count, ShortOutput}
+use Rattle.refusal.specs.declared.Outcome.{Outcome}
+use Rattle.refusal.specs.Row.{firstOf, outside, isDone}
+use Rattle.groups.specs.Groups.{groups}
+use Rattle.opening.specs.Rows.{openingSize}
+
+abbrev pub edition : ℕ
+edition = 1
+
+-- a number of the file: at most two groups
+abbrev pub numberGroups : ℕ
+numberGroups = 2
+
+-- the three numbers
+unfoldable pub headNumbers : ℕ → ℕ → List ℕ
+headNumbers n t = groups numberGroups edition ++ groups numberGroups n ++ groups numberGroups t
+
+-- 'The head is all before the openings.'
+unfoldable pub head : List ℕ → List ℕ → ℕ → ℕ → List ℕ
+head statement root n t = headNumbers n t ++ statement ++ root
+
+abbrev pub headSize : ℕ → ℕ → ℕ
+headSize n t = length (headNumbers n t) + 64
+
+-- where opening i begins, from 1, in a file whose openings begin at a place
+abbrev pub openingFrom : ℕ → ℕ → ℕ → ℕ
+openingFrom n start i = start + (i - 1) * openingSize n
+
+unfoldable pub fileSize : ℕ → ℕ → ℕ
+fileSize n t = headSize n t + t * openingSize n
+
+-- the file over its openings, each as bytes
+unfoldable pub file : List ℕ → List ℕ → ℕ → ℕ → List (List ℕ) → List ℕ
+file statement root n t openings = head statement root n t ++ joined openings
+
+-- row 'Writing the file's head': 1; 8: t not 1..200; 7: less than the whole file fits
+unfoldable pub headRow : ℕ → ℕ → ℕ → Outcome
+headRow n t out =
+    firstOf ((outside 1 maxDepth n, Depth) ∷ (outside 1 maxChallenges t, Count) ∷ (ltb out (fileSize n t), ShortOutput) ∷ [])
+
+-- the bytes after the head is written; as they were where it is refused
+unfoldable pub headWritten : List ℕ → List ℕ → ℕ → ℕ → List ℕ → List ℕ
+headWritten statement root n t out = pick (isDone (headRow n t (length out))) (written out 0 (head statement root n t)) out

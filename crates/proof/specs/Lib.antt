@@ -1,0 +1,5 @@
+pub mod Challenge
+pub mod Layout
+pub mod Head
+pub mod FileCheck
+pub mod HeadSteps

@@ -1,0 +1,22 @@
+// The proof file: challenges, writing, reading and checking.
+mod challenges; // challenges.rt: the leaf that a challenge picks
+mod file; // file.rt: the check of a file
+mod head; // head.rt: the head read, and openings as parts of the bytes
+mod sizes; // sizes.rt: sizes of a file and its parts
+mod writing; // writing.rt: the head written
+
+pub use challenges::Challenged;
+pub use challenges::challenge;
+pub use file::check_file;
+pub use file::check_file_code;
+use groups::Cursor;
+pub use head::opening_part;
+pub use head::read_head;
+use refusal::Refusal;
+pub use writing::write_head;
+
+// What reading the head's numbers gives: depth, count and the place after them, or the refusal.
+pub enum HeadNumbers {
+    Numbers(u64, u64, Cursor),
+    NotRead(Refusal),
+}

@@ -1,0 +1,51 @@
+-- Document 01's row 'One opening checked': 'An opening is right if its leaf label is the hash of its left siblings there, and
+-- hashing upward gives the root.'
+use Prim.Native.Nat.{ℕ, _+_, _*_, _^_}
+use mathlib.Core.Bool.{Bool, not}
+use mathlib.Core.List.{List, [], _∷_}
+use lib.Dec.{ltb, leb}
+use lib.ListN.{length, take, drop}
+use Rattle.base.specs.Lists.{sameBytes}
+use Rattle.base.specs.Limits.{maxDepth}
+use Rattle.refusal.specs.declared.Refusal.the-variants.{Depth, LeafPosition, BytesEnd, BytesLeft, LeafLabel, Root}
+use Rattle.refusal.specs.declared.Outcome.{Outcome}
+use Rattle.refusal.specs.Row.{firstOf, outside}
+use Rattle.tree.specs.Nodes.{node}
+use Rattle.tree.specs.Labels.{Rule}
+use Rattle.tree.specs.Openings.{Given, computed, inputAt}
+use Rattle.label.specs.Rule.{stampRule}
+use Rattle.opening.specs.Rows.{openingSize}
+
+-- an opening's bytes as the labels that it gives: place i takes 32 bytes from 32 × i
+abbrev pub givenBy : List ℕ → Given
+givenBy bytes i = take 32 (drop (32 * i) bytes)
+
+-- 14: leaf label wrong
+abbrev pub leafWrong : Rule → ℕ → ℕ → List ℕ → Bool
+leafWrong r n leaf bytes = not (sameBytes (givenBy bytes 0) (r .hash (inputAt r n leaf (givenBy bytes) (node n leaf))))
+
+-- 15: root wrong
+abbrev pub rootWrong : Rule → ℕ → ℕ → List ℕ → List ℕ → Bool
+rootWrong r n leaf bytes root = not (sameBytes (computed r n leaf (givenBy bytes) n) root)
+
+-- 14, 15
+unfoldable pub rightRow : List ℕ → ℕ → ℕ → List ℕ → List ℕ → Outcome
+rightRow statement n leaf root bytes =
+    firstOf
+    ((leafWrong (stampRule statement) n leaf bytes, LeafLabel)
+    ∷ (rootWrong (stampRule statement) n leaf bytes root, Root)
+    ∷ []
+    )
+
+-- 1; 6; 10: bytes too few; 13: too many; 14; 15
+unfoldable pub openingRow : List ℕ → ℕ → ℕ → List ℕ → List ℕ → Outcome
+openingRow statement n leaf root bytes =
+    firstOf
+    ((outside 1 maxDepth n, Depth)
+    ∷ (leb (2 ^ n) leaf, LeafPosition)
+    ∷ (ltb (length bytes) (openingSize n), BytesEnd)
+    ∷ (ltb (openingSize n) (length bytes), BytesLeft)
+    ∷ (leafWrong (stampRule statement) n leaf bytes, LeafLabel)
+    ∷ (rootWrong (stampRule statement) n leaf bytes root, Root)
+    ∷ []
+    )

@@ -1,0 +1,43 @@
+-- The checks of writing a whole file by budgets. Document 01 has no row of its own for it: starting takes the row 'Starting an
+-- opening' (1, 2, 3) and then that of the head (8, 7); continuing takes the row 'Continuing an opening'.
+use Prim.Native.Nat.{ℕ, _^_}
+use mathlib.Core.List.{[], _∷_}
+use lib.Dec.{ltb, leb}
+use Rattle.base.specs.Limits.{maxDepth, maxChallenges}
+use Rattle.refusal.specs.declared.Refusal.the-variants.{Depth, MemoryLevel, ShortStore, State, ShortOutput, Count}
+use Rattle.refusal.specs.declared.Outcome.{Outcome}
+use Rattle.refusal.specs.Row.{firstOf, outside, either}
+use Rattle.tree.specs.Store.{storeSize}
+use Rattle.run.specs.Rows.{memoryOver, impossible}
+use Rattle.opening.specs.declared.Opening.{Opening}
+use Rattle.opening.specs.Rows.{nodesAnew}
+use Rattle.proof.specs.Layout.{fileSize}
+use Rattle.writing.specs.declared.Writing.{Writing}
+
+-- 1, 2, 3; 8: t not 1..200; 7: less than the whole file fits
+unfoldable pub writeRow : ℕ → ℕ → ℕ → ℕ → ℕ → Outcome
+writeRow n m t store file =
+    firstOf
+    ((outside 1 maxDepth n, Depth)
+    ∷ (memoryOver n m, MemoryLevel)
+    ∷ (ltb store (storeSize m), ShortStore)
+    ∷ (outside 1 maxChallenges t, Count)
+    ∷ (ltb file (fileSize n t), ShortOutput)
+    ∷ []
+    )
+
+-- 4 (also a leaf of 2^n or more, a count not 1..200 or an opening's number not 1..t); 3; 7
+unfoldable pub rewriteRow : Writing → ℕ → ℕ → Outcome
+rewriteRow w store file =
+    let o : Opening = w .opening in
+    firstOf
+    ((
+      either
+          (impossible (o .depth) (o .memory) (o .made) (nodesAnew (o .depth) (o .memory)))
+          (either (leb (2 ^ (o .depth)) (o .leaf)) (either (outside 1 maxChallenges (w .count)) (outside 1 (w .count) (w .number)))),
+      State,
+    )
+    ∷ (ltb store (storeSize (o .memory)), ShortStore)
+    ∷ (ltb file (fileSize (o .depth) (w .count)), ShortOutput)
+    ∷ []
+    )

@@ -1,0 +1,99 @@
+-- Writing a file: its head, then each opening in its part of the file, one label at a time. When an opening is done the next
+-- one is begun, so that the opening under way has labels left unless the file is done.
+use Prim.Native.Nat.{ℕ, zero, suc, _+_, _-_, _*_, min}
+use mathlib.Core.Bool.{Bool}
+use mathlib.Core.List.{List}
+use lib.Dec.{ltb, eqb}
+use lib.ListN.{length, take, drop}
+use Rattle.base.specs.Choice.{pick, both}
+use Rattle.base.specs.Bytes.{zeros, written}
+use Rattle.refusal.specs.Row.{isDone}
+use Rattle.opening.specs.declared.Opening.{Opening}
+use Rattle.opening.specs.Rows.{openingSize, nodesAnew}
+use Rattle.opening.specs.Steps as openings
+use Rattle.proof.specs.Challenge.{challengeLeaf}
+use Rattle.proof.specs.Layout.{head, headSize, openingFrom}
+use Rattle.writing.specs.declared.Writing.{Writing}
+use Rattle.writing.specs.Rows.{writeRow, rewriteRow}
+
+-- a writing with its file
+pub record Written : Type 0 where
+  pub writing : Writing
+  pub file : List ℕ
+
+-- opening i's part of the file
+abbrev pub partOf : ℕ → ℕ → ℕ → List ℕ → List ℕ
+partOf n t i file = take (openingSize n) (drop (openingFrom n (headSize n t) i) file)
+
+abbrev pub withPart : ℕ → ℕ → ℕ → List ℕ → List ℕ → List ℕ
+withPart n t i file part = written file (openingFrom n (headSize n t) i) part
+
+-- opening i begun: its leaf is challenge i's, and what the store holds of it is copied to its part
+unfoldable pub begun : List ℕ → List ℕ → ℕ → ℕ → ℕ → List ℕ → ℕ → List ℕ → Written
+begun statement root n m t store i file =
+    let leaf : ℕ = challengeLeaf n statement root i in
+    record {
+      writing = record { root = root; count = t; number = i; opening = openings.newOpening statement n m leaf };
+      file = withPart n t i file (openings.copiedAll n m leaf store (partOf n t i file));
+    }
+
+-- the opening under way is done and is not the last
+abbrev pub mayFollow : Writing → Bool
+mayFollow w =
+    both (eqb (w .opening .made) (nodesAnew (w .opening .depth) (w .opening .memory))) (ltb (w .number) (w .count))
+
+-- the next openings begun while the one under way is done, `left` of them at most
+unfoldable pub followed : List ℕ → ℕ → Written → Written
+followed store zero s = s
+followed store (suc left) s =
+    let w : Writing = s .writing in
+    let o : Opening = w .opening in
+    pick (mayFollow w)
+    (followed store left (begun (o .statement) (w .root) (o .depth) (o .memory) (w .count) store (w .number + 1) (s .file)))
+    s
+
+-- a new writing: the head, and the first opening that has labels to make
+unfoldable pub newWriting : List ℕ → List ℕ → ℕ → ℕ → ℕ → List ℕ → List ℕ → Written
+newWriting statement root n m t store file =
+    followed store t (begun statement root n m t store 1 (written file 0 (head statement root n t)))
+
+-- what stands beside a refused start
+abbrev pub noWriting : Writing
+noWriting = record { root = zeros 32; count = 0; number = 0; opening = openings.noOpening }
+
+unfoldable pub started : List ℕ → List ℕ → ℕ → ℕ → ℕ → List ℕ → List ℕ → Written
+started statement root n m t store file =
+    pick (isDone (writeRow n m t (length store) (length file)))
+    (newWriting statement root n m t store file)
+    (record { writing = noWriting; file = file })
+
+-- one label of the opening under way
+unfoldable pub stepped : List ℕ → Written → Written
+stepped store s =
+    let w : Writing = s .writing in
+    let n : ℕ = w .opening .depth in
+    let o : openings.Open = openings.stepped store (record { opening = w .opening; out = partOf n (w .count) (w .number) (s .file) }) in
+    followed store (w .count)
+    (record {
+      writing = record { root = w .root; count = w .count; number = w .number; opening = o .opening };
+      file = withPart n (w .count) (w .number) (s .file) (o .out);
+    })
+
+unfoldable pub steps : List ℕ → ℕ → Written → Written
+steps store zero s = s
+steps store (suc k) s = stepped store (steps store k s)
+
+-- the labels that remain: of the opening under way, and of those after it
+abbrev pub remaining : Writing → ℕ
+remaining w =
+    let anew : ℕ = nodesAnew (w .opening .depth) (w .opening .memory) in
+    (w .count - w .number) * anew + (anew - w .opening .made)
+
+-- the smaller of the budget and what remains; a refused call labels none
+unfoldable pub labelsIn : List ℕ → Written → ℕ → ℕ
+labelsIn store s budget =
+    pick (isDone (rewriteRow (s .writing) (length store) (length (s .file)))) (min budget (remaining (s .writing))) 0
+
+-- the writing and its file after a call
+unfoldable pub advanced : List ℕ → Written → ℕ → Written
+advanced store s budget = steps store (labelsIn store s budget) s
