@@ -10,6 +10,7 @@ use lib.Pow.{pow-add, shr-lt}
 use Rattle.base.specs.Bytes.{bigEndian}
 use Rattle.base.proofs.BytesLaws.{length-bigEndian}
 use Rattle.sha256.specs.declared.Words.{Words}
+use Rattle.label.proofs.RuleLaws.{digest-length}
 use Rattle.sha256.specs.Digest.{digestOf, digest}
 use Rattle.proof.specs.Challenge.{challengeInput, bigEndianValue, challengeLeaf}
 
@@ -47,14 +48,6 @@ words-small : (v : Words) → Small (digestOf v)
 unfolding digestOf
 words-small v =
     word-after (v .h) (word-after (v .g) (word-after (v .f) (word-after (v .e) (word-after (v .d) (word-after (v .c) (word-after (v .b) (number-small 4 (v .a))))))))
-
-words-length : (v : Words) → length (digestOf v) ≡ 32
-unfolding digestOf
-words-length v = simp (length-append, length-bigEndian)
-
-pub digest-length : (x : List ℕ) → length (digest x) ≡ 32
-unfolding digest
-digest-length x = words-length _
 
 digest-small : (x : List ℕ) → Small (digest x)
 unfolding digest

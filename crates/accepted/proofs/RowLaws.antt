@@ -15,6 +15,7 @@ use Rattle.base.proofs.ListsLaws.{test-same, tells-bytes}
 use Rattle.refusal.specs.declared.Refusal.{Refusal}
 use Rattle.refusal.specs.declared.Refusal.the-variants.{Depth, Count, ShortOutput, LeafPosition, BytesEnd, BytesLeft, LeafLabel, Root}
 use Rattle.refusal.specs.declared.Outcome.the-variants.{Done, Refused}
+use Rattle.refusal.proofs.RowLaws.{NoneHolds, none-holds}
 use Rattle.refusal.specs.Row.{firstOf, outside}
 use Rattle.tree.specs.Openings.{LeafRight, RootRight}
 use Rattle.label.specs.Rule.{stampRule}
@@ -28,21 +29,6 @@ use Rattle.accepted.specs.IsProof.{IsDepth, IsCount, OpeningRight, Right
 pub second-picked {ℓ} : {A : Type ℓ} (b : Bool) (x y z : A) → (x ≡ z → ⊥) → pick b x y ≡ z → (b ≡ false) × (y ≡ z)
 second-picked true x y z d e = absurd (d e)
 second-picked false x y z d e = (refl, e)
-
--- no condition of a row holds
-abbrev NoneHolds : List (Bool × Refusal) → Type 0
-NoneHolds [] = Unit
-NoneHolds (check ∷ row) = (check .0 ≡ false) × NoneHolds row
-
-refused-not-done : (r : Refusal) → Refused r ≡ Done → ⊥
-refused-not-done r e = let no : _≡_ {A = ℕ} 0 1 = cc in omega arith
-
-none-holds : (row : List (Bool × Refusal)) → firstOf row ≡ Done → NoneHolds row
-none-holds [] e = tt
-none-holds (check ∷ row) e =
-    let here : (check .0 ≡ false) × (firstOf row ≡ Done) =
-    second-picked (check .0) (Refused (check .1)) (firstOf row) Done (refused-not-done (check .1)) e in
-    (here .0, none-holds row (here .1))
 
 -- a number from low to high
 module _ (low high x : ℕ) where

@@ -16,7 +16,6 @@ use Rattle.tree.specs.Nodes.{root}
 use Rattle.tree.specs.Labels.{label}
 use Rattle.tree.specs.Openings.{siblings, openingNodes}
 use Rattle.tree.specs.TreeOpening.{treeOpening}
-use Rattle.tree.specs.Rules.{Hash32}
 use Rattle.tree.proofs.Labelling.{label-length}
 use Rattle.tree.proofs.OpeningLaws.{tree-right, tree-sized}
 use Rattle.groups.proofs.Steps.{lt-or-le}
@@ -30,7 +29,8 @@ use Rattle.accepted.specs.IsProof.{IsDepth, IsCount, OpeningRight, nth, 
 use Rattle.accepted.specs.TreeFile.{rootOf, openingOf, challengedOpening, treeOpenings, treeFile}
 use Rattle.accepted.proofs.Parts.{each-by}
 use Rattle.accepted.proofs.Reading.{length-file}
-use Rattle.accepted.proofs.Leaves.{digest-length, challengeLeaf-small}
+use Rattle.label.proofs.RuleLaws.{stamp-hash}
+use Rattle.accepted.proofs.Leaves.{challengeLeaf-small}
 use Rattle.accepted.proofs.GivenLaws.{right-same}
 use Rattle.accepted.proofs.Completeness.{proof-accepted}
 
@@ -41,9 +41,6 @@ length-siblings zero p = refl
 length-siblings (suc l) p = ap suc (length-siblings l (p / 2))
 
 module _ (statement : List ℕ) (n : ℕ) where
-  hash-32 : Hash32 (stampRule statement)
-  hash-32 = record { hashLength = digest-length }
-
   labels-count : (leaf : ℕ) → length (map (label (stampRule statement) n) (openingNodes n leaf)) ≡ n + 1
   unfolding openingNodes
   labels-count leaf = rw (length-map, add-one n) (ap suc (length-siblings n leaf))
@@ -54,7 +51,7 @@ module _ (statement : List ℕ) (n : ℕ) where
       each-by
       32
       (map (label (stampRule statement) n) (openingNodes n leaf))
-      (λ i small. tree-sized (stampRule statement) n leaf hash-32 i (omega (arith, labels-count leaf)))
+      (λ i small. tree-sized (stampRule statement) n leaf (stamp-hash statement) i (omega (arith, labels-count leaf)))
 
   pub opening-size : (leaf : ℕ) → length (openingOf statement n leaf) ≡ openingSize n
   opening-size leaf =
@@ -124,7 +121,7 @@ module _ (statement : List ℕ) (n : ℕ) where
 
   -- ---- the file
   root-size : length (rootOf statement n) ≡ 32
-  root-size = label-length (stampRule statement) n hash-32 root (omega arith)
+  root-size = label-length (stampRule statement) n (stamp-hash statement) root (omega arith)
 
   pub tree-proof : (t : ℕ) → length statement ≡ 32 → IsDepth n → IsCount t → IsProof (treeFile statement n t) statement n t
   unfolding treeFile

@@ -1,1 +1,2 @@
 pub mod PlanRow
+pub mod Place

@@ -1,1 +1,8 @@
 // Planning a chain from leaf positions, and drawing it from a proof.
+mod climbing;
+mod planning;
+mod sorting;
+
+pub use planning::Planned;
+pub use planning::different_leaves;
+pub use planning::plan;

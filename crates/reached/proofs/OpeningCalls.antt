@@ -13,6 +13,7 @@ use Rattle.base.specs.Limits.{maxDepth, maxMemory}
 use Rattle.base.proofs.ChoiceLaws.{both-first, both-second}
 use Rattle.refusal.specs.declared.Refusal.{Refusal}
 use Rattle.refusal.specs.declared.Refusal.the-variants.{Depth, MemoryLevel, ShortStore, LeafPosition, ShortOutput}
+use Rattle.refusal.proofs.RowLaws.{NoneHolds, none-holds}
 use Rattle.refusal.specs.Row.{firstOf, outside}
 use Rattle.refusal.specs.declared.Outcome.{Outcome}
 use Rattle.refusal.specs.declared.Outcome.the-variants.{Done, Refused}
@@ -29,21 +30,6 @@ use Rattle.reached.proofs.Calls.{calls-reach, calls-report}
 use Rattle.reached.proofs.OpeningRun.{opening-start, opening-from, opening-reached, length-after, opening-done}
 
 -- ---- the rows
--- no condition of a row holds
-abbrev NoneHolds : List (Bool × Refusal) → Type 0
-NoneHolds [] = Unit
-NoneHolds (check ∷ row) = (check .0 ≡ false) × NoneHolds row
-
-passed : (t : Bool) (r : Refusal) (rest : Outcome) → pick t (Refused r) rest ≡ Done → (t ≡ false) × (rest ≡ Done)
-passed true r rest e = (cc, cc)
-passed false r rest e = (refl, e)
-
-none-holds : (row : List (Bool × Refusal)) → firstOf row ≡ Done → NoneHolds row
-none-holds [] e = tt
-none-holds (check ∷ row) e =
-    let here : (check .0 ≡ false) × (firstOf row ≡ Done) = passed (check .0) (check .1) (firstOf row) e in
-    (here .0, none-holds row (here .1))
-
 module _ (n m leaf store out : ℕ) where
   pub open-fits : Openable n m leaf store out → openRow n m leaf store out ≡ Done
   unfolding openRow

@@ -25,22 +25,11 @@ use Rattle.tree.proofs.Order.{Inside, order-at, inside-level}
 use Rattle.tree.proofs.Parents.{leftSiblingsBelow-count, parents-of-inner}
 use Rattle.tree.proofs.Labelling.{label-parents}
 use Rattle.tree.proofs.HeldLaws.{heldBelow-before, heldBelow-after, heldBelow-few, held-start, held-all, leaf-parents, inner-parents}
+use Rattle.label.proofs.RuleLaws.{digest-length, stamp-hash}
 use Rattle.label.specs.Rule.{stampRule}
 use Rattle.label.specs.Step.{nextNode, placeOf, isLeaf, hashedLabels, nextLabel, heldWith}
 use Rattle.run.specs.Steps.{heldSize}
 use Rattle.reached.specs.Reached.{labelOf, labelsOf, heldBytes}
-
--- a digest has 32 bytes
-words-length : (v : Words) → length (digestOf v) ≡ 32
-unfolding digestOf
-words-length v = simp (length-append, length-bigEndian)
-
-pub digest-length : (x : List ℕ) → length (digest x) ≡ 32
-unfolding digest
-digest-length x = words-length _
-
-pub stamp-hash : (statement : List ℕ) → Hash32 (stampRule statement)
-stamp-hash statement = record { hashLength = digest-length }
 
 below-size : (statement : List ℕ) (h : ℕ) (w : Node) (aboves : List Label) → length (labelBelow (stampRule statement) h w aboves) ≡ 32
 unfolding labelBelow

@@ -67,7 +67,7 @@ fn label_above(
 
 // The root's label, hashed upward from the given label of the leaf.
 fn climb(statement: [u8; 32], n: u64, leaf: u64, bytes: &[u8]) -> [u8; 32]
-    requires { ⌜ (n ≤ 40) × (length (now bytes) ≡ openingSize n) ⌝ }
+    requires { ⌜ (1 ≤ n) × (n ≤ 40) × (length (now bytes) ≡ openingSize n) ⌝ }
     ensures { λ r. ⌜ r ≡ computed (stampRule statement) n leaf (givenBy (now (bytes .entry))) n ⌝ }
 {
     let mut label = label_at(bytes, 0);
@@ -90,7 +90,7 @@ fn climb(statement: [u8; 32], n: u64, leaf: u64, bytes: &[u8]) -> [u8; 32]
 
 // 14, 15. Its callers know the depth, the position and the length.
 pub fn right(statement: [u8; 32], n: u64, leaf: u64, root: [u8; 32], bytes: &[u8]) -> Outcome
-    requires { ⌜ (n ≤ 40) × (length (now bytes) ≡ openingSize n) ⌝ }
+    requires { ⌜ (1 ≤ n) × (n ≤ 40) × (length (now bytes) ≡ openingSize n) ⌝ }
     ensures { λ r. ⌜ r ≡ rightRow statement n leaf root (now (bytes .entry)) ⌝ }
 {
     let leaf_hash = leaf_label(statement, n, leaf, bytes);

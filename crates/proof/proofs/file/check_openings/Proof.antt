@@ -75,6 +75,7 @@ right-requires : tie.Need-right-requires Inv-loop μ-loop
 right-requires c κs =
     let a = c .before .before .before .before .before .before .before .args in
     let start = c .before .opening-start .result in (
+      c .before .before .before .before .before .before .before .pre .0 .0,
       c .before .before .before .before .before .before .before .pre .0 .1,
       ap length
           (part-size (a .bytes .now) start (openingSize (a .n))) ∙ part-length (a .bytes .now) start (openingSize (a .n))

@@ -49,7 +49,7 @@ returns-4 c =
     (within-depth (c .before .before .before) .1) (c .before .before .if2 .left) (c .before .if3 .left) (c .if4 .taken)
 
 right-requires : tie.Need-right-requires
-right-requires c κs = (within-depth (c .before .before .before) .1, omega arith)
+right-requires c κs = (within-depth (c .before .before .before) .0, within-depth (c .before .before .before) .1, omega arith)
 
 returns-5 : tie.Need-returns-5
 returns-5 c =

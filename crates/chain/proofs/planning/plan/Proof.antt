@@ -1,0 +1,39 @@
+-- `planning::plan` meets its contract: refused by the first three checks, or left to the list.
+use Rattle.chain.proofs.Rows.{leaves-refused}
+use mathlib.Core.Path.{sym, _∙_}
+use borrow.Author.Needs.{needs}
+use Rattle.chain.proofs.planning.plan.Statement.{statement}
+use Rattle.chain.proofs.planning.plan.Tie as tie
+
+check-leaves-requires : tie.Need-check-leaves-requires
+check-leaves-requires c κs = search needs
+
+enum-known-checked : tie.Need-enum-known-checked
+enum-known-checked c = search needs
+
+enum-told : tie.Need-enum-told
+enum-told c = search needs
+
+plan-leaves-requires : tie.Need-plan-leaves-requires
+plan-leaves-requires c κs = let cl = c .before .before .before .check-leaves in sym (cl .ensures) ∙ c .before .enum-told .given .1
+
+returns : tie.Need-returns
+returns c = let cl = c .before .before .before .check-leaves in leaves-refused _ _ _ _ (sym (c .before .checked .given .1) ∙ cl .ensures)
+
+same-length : tie.Need-same-length
+same-length c = search needs
+
+returns-2 : tie.Need-returns-2
+returns-2 c = search needs
+
+pub plan-spec : {M : Type 1} → statement M
+plan-spec =
+    tie.close
+    (tie.spec
+    check-leaves-requires
+    enum-known-checked
+    enum-told
+    plan-leaves-requires
+    returns
+    same-length
+    returns-2)

@@ -1,0 +1,114 @@
+// Planning: the row of checks, then the count, then the codes.
+use crate::climbing::count_plan;
+use crate::climbing::width;
+use crate::climbing::write_plan;
+use crate::sorting::sort_leaves;
+use refusal::Outcome;
+use refusal::Refusal;
+ghost use mathlib.Core.Path.{_≡_};
+ghost use mathlib.Core.Bool.{true};
+ghost use Prim.Native.Nat.{_+_, _≤_};
+ghost use lib.ListN.{length};
+ghost use lib.Dec.{leb};
+ghost use Rattle.base.specs.Choice.{pick};
+ghost use Rattle.base.specs.Limits.{maxDepth, maxChallenges};
+ghost use Rattle.ways.specs.Counts.{leavesOpened};
+ghost use Rattle.refusal.specs.declared.Outcome.the-variants.{Done};
+ghost use Rattle.ways.specs.Planning.{every, isLeaf};
+ghost use Rattle.chain.specs.PlanRow.{planRow, plannedCount, plannedList};
+ghost use Rattle.chain.specs.Place.{leavesRow};
+
+// Done with the count of codes written, or refused with 0.
+pub struct Planned {
+    pub outcome: Outcome,
+    pub count: u64,
+}
+
+// Whether each is a position on the leaves' level.
+fn are_leaves(depth: u64, leaves: &[u64]) -> bool
+    requires { ⌜ depth ≤ maxDepth ⌝ }
+    ensures { λ r. ⌜ r ≡ every (isLeaf depth) (now (leaves .entry)) ⌝ }
+{
+    let end = width(depth);
+    let mut i: usize = 0;
+    while i < leaves.len() {
+        if end <= leaves[i] {
+            return false;
+        }
+        i += 1;
+    }
+    true
+}
+
+// The checks of depth and leaves.
+fn check_leaves(depth: u64, leaves: &[u64]) -> Outcome
+    ensures { λ r. ⌜ r ≡ leavesRow depth (now (leaves .entry)) ⌝ }
+{
+    if depth < 1 {
+        return Outcome::Refused(Refusal::Depth);
+    }
+    if 40 < depth {
+        return Outcome::Refused(Refusal::Depth);
+    }
+    if leaves.len() < 1 {
+        return Outcome::Refused(Refusal::Count);
+    }
+    if 200 < leaves.len() {
+        return Outcome::Refused(Refusal::Count);
+    }
+    if !are_leaves(depth, leaves) {
+        return Outcome::Refused(Refusal::LeafPosition);
+    }
+    Outcome::Done
+}
+
+// The plan of leaves that passed the checks: counted before anything is written.
+fn plan_leaves(depth: u64, leaves: &[u64], list: &mut [u64]) -> Planned
+    requires { ⌜ leavesRow depth (now leaves) ≡ Done ⌝ }
+    ensures { λ r. ⌜ r .outcome ≡ planRow depth (now (leaves .entry)) (length (now (list .entry))) ⌝ }
+    ensures { λ r. ⌜ r .count ≡ plannedCount depth (now (leaves .entry)) (length (now (list .entry))) ⌝ }
+    ensures { λ _. ⌜ now (list .exit) ≡ plannedList depth (now (leaves .entry)) (now (list .entry)) ⌝ }
+{
+    let sorted = sort_leaves(leaves);
+    let found = sorted.leaves;
+    let k = sorted.count;
+    let count = count_plan(depth, &found[..k]);
+    if list.len() < count {
+        return Planned {
+            outcome: Outcome::Refused(Refusal::ShortList),
+            count: 0,
+        };
+    }
+    write_plan(depth, &found[..k], list);
+    Planned {
+        outcome: Outcome::Done,
+        count: count as u64,
+    }
+}
+
+// Plans the chain of leaves in any order, with repeats: its codes from the list's first place on, and their count.
+pub fn plan(depth: u64, leaves: &[u64], list: &mut [u64]) -> Planned
+    ensures { λ r. ⌜ r .outcome ≡ planRow depth (now (leaves .entry)) (length (now (list .entry))) ⌝ }
+    ensures { λ r. ⌜ r .count ≡ plannedCount depth (now (leaves .entry)) (length (now (list .entry))) ⌝ }
+    ensures { λ _. ⌜ now (list .exit) ≡ plannedList depth (now (leaves .entry)) (now (list .entry)) ⌝ }
+{
+    let checked = check_leaves(depth, leaves);
+    match checked {
+        Outcome::Refused(why) => Planned {
+            outcome: Outcome::Refused(why),
+            count: 0,
+        },
+        Outcome::Done => plan_leaves(depth, leaves, list),
+    }
+}
+
+// How many of at most 200 leaves are different; 0 for more leaves.
+pub fn different_leaves(leaves: &[u64]) -> u64
+    ensures { λ r. ⌜ r ≡ pick (leb (length (now (leaves .entry))) maxChallenges) (leavesOpened (now (leaves .entry))) 0 ⌝ }
+{
+    if 200 < leaves.len() {
+        return 0;
+    }
+    let sorted = sort_leaves(leaves);
+    sorted.count as u64
+}
