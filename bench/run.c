@@ -13,6 +13,18 @@ struct run_started mastdock_run_start(const uint8_t statement[32], uint64_t dept
                                       const uint8_t *store, size_t len);
 struct run_advanced mastdock_run_advance(struct plain_run run, uint64_t budget, uint8_t *store, size_t len);
 
+struct opening {
+    uint8_t statement[32];
+    uint64_t depth, memory, leaf, made;
+    uint8_t held[1312];
+};
+struct opening_started { uint64_t refusal; struct opening opening; };
+struct opening_advanced { uint64_t refusal, labels; struct opening opening; };
+struct opening_started mastdock_opening_start(const uint8_t statement[32], uint64_t depth, uint64_t memory, uint64_t leaf,
+                                              const uint8_t *store, size_t store_len, uint8_t *out, size_t out_len);
+struct opening_advanced mastdock_opening_advance(struct opening opening, uint64_t budget, const uint8_t *store,
+                                                 size_t store_len, uint8_t *out, size_t out_len);
+
 enum { DEPTH = 18, MEMORY = 10, STORE = 32 * ((2 << MEMORY) - 1), ROUNDS = 9 };
 static const uint64_t ALL = ((uint64_t)2 << DEPTH) - 1;
 
@@ -65,4 +77,32 @@ static int compare(const char *name, uint64_t budget) {
     return 0;
 }
 
-int main(void) { return compare("depth 18, one budget", ALL) || compare("depth 18, budget 1 a call", 1); }
+/* An opening at memory level 0 labels the whole tree anew but the root, so a label costs what a run's does. */
+static double opened(uint8_t *store) {
+    uint8_t statement[32] = {1, 2, 3}, out[32 * (DEPTH + 1)];
+    double start = now();
+    struct opening o = mastdock_opening_start(statement, DEPTH, 0, 12345, store, 32, out, sizeof out).opening;
+    mastdock_opening_advance(o, ALL - 1, store, 32, out, sizeof out);
+    return now() - start;
+}
+
+static void openings(void) {
+    static uint8_t store[STORE];
+    uint8_t root[32];
+    double o[ROUNDS], p[ROUNDS];
+    for (int r = 0; r < ROUNDS; r++) {
+        p[r] = proved(ALL, store, root);
+        o[r] = opened(store);
+    }
+    qsort(p, ROUNDS, sizeof(double), by_value);
+    qsort(o, ROUNDS, sizeof(double), by_value);
+    printf("%-28s opening %7.0f labels/s  run %12.0f labels/s  ratio %.2f\n", "labels made anew", (double)(ALL - 1) / o[ROUNDS / 2],
+           (double)ALL / p[ROUNDS / 2], p[ROUNDS / 2] / o[ROUNDS / 2]);
+}
+
+int main(void) {
+    if (compare("depth 18, one budget", ALL) || compare("depth 18, budget 1 a call", 1))
+        return 1;
+    openings();
+    return 0;
+}
