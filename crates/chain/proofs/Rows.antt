@@ -89,7 +89,7 @@ module _ (n : ℕ) (leaves : List ℕ) (done : leavesRow n leaves ≡ Done) wher
   -- the list is the last check
   list-check : (list : ℕ) → planRow n leaves list ≡ pick (ltb list (length (chain n leaves))) (Refused ShortList) Done
   unfolding planRow
-  list-check list = rw (passed .0, passed .1, passed .2)
+  list-check list = simp (passed .0, passed .1, passed .2)
 
   pub sorted-known : (xs : List ℕ) → xs ≡ sorted leaves → Leaves n xs
   sorted-known xs e =

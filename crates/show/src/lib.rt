@@ -1,4 +1,5 @@
-// Lines for the programs of the gate, whose output is compared with a stored one.
+// Lines for the programs of the gate, whose output is compared with a stored one. No contract can say what is written, so these
+// promise only that they are safe and end.
 use libc::STDOUT_FILENO;
 
 // Writes bytes in hexadecimal.

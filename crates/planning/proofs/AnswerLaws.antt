@@ -1,0 +1,143 @@
+-- A plan that was not refused, and its nodes by their codes.
+use mathlib.Core.Path.{_≡_, refl, sym, ap, _∙_}
+use Prim.Native.Nat.{ℕ, zero, suc, _+_, _*_, _^_, _≤_, _<_}
+use native.Mathlib.Omega.{arith}
+use mathlib.Core.Bool.{Bool, true, false, not}
+use mathlib.Core.List.{List, [], _∷_, _++_, append-assoc, map}
+use lib.Dec.{ltb, leb}
+use lib.Pow.{pow-pos}
+use lib.ListN.{length, getD, take, drop, length-map, length-append}
+use lib.Seq.{take-at}
+use borrow.Author.Tests.{ltb-false, leb-true, le-leb, not-false}
+use Rattle.base.specs.Choice.{pick}
+use Rattle.base.specs.Bytes.{written}
+use Rattle.base.specs.Limits.{maxDepth, maxChallenges}
+use Rattle.base.proofs.ChoiceLaws.{both-second}
+use Rattle.refusal.specs.declared.Refusal.{Refusal}
+use Rattle.refusal.specs.declared.Refusal.the-variants.{Depth, Count, LeafPosition, ShortList}
+use Rattle.refusal.specs.declared.Outcome.{Outcome}
+use Rattle.refusal.specs.declared.Outcome.the-variants.{Done, Refused}
+use Rattle.refusal.specs.Row.{firstOf, outside}
+use Rattle.tree.specs.Nodes.{Node, node, root}
+use Rattle.ways.specs.Ways.{chain, code, chainCodes}
+use Rattle.ways.specs.Counts.{leavesOpened}
+use Rattle.ways.specs.Planning.{every, isLeaf}
+use Rattle.ways.proofs.Once.{chain-at, same-code}
+use Rattle.refusal.specs.Number.{numberOf}
+use Rattle.chain.specs.PlanRow.{planRow, plannedCount, plannedList}
+use Rattle.chain.proofs.Writing.{written-none, written-append}
+use Rattle.planning.specs.Output.{places, refusedText, headText, nodeText, nodesText, answerText, planText}
+use Rattle.planning.specs.Steps.{Wrote}
+use Rattle.planning.proofs.Laying.{then, nodes-turn, nodes-end, nodes-short, head-short}
+
+refused-done : (r : Refusal) → Refused r ≡ Done → ⊥
+refused-done r e = let z : _≡_ {A = ℕ} 0 1 = cc in omega arith
+
+four-done : (a b d s : Bool) → firstOf ((a, Depth) ∷ (b, Count) ∷ (d, LeafPosition) ∷ (s, ShortList) ∷ []) ≡ Done → (b ≡ false) × (s ≡ false)
+four-done true b d s e = absurd (refused-done Depth e)
+four-done false true d s e = absurd (refused-done Count e)
+four-done false false true s e = absurd (refused-done LeafPosition e)
+four-done false false false true e = absurd (refused-done ShortList e)
+four-done false false false false e = (refl, refl)
+
+module _ (n : ℕ) (leaves codes : List ℕ) (done : planRow n leaves places ≡ Done) (are : codes ≡ chainCodes n leaves) where
+  both-passed : (outside 1 maxChallenges (length leaves) ≡ false) × (ltb places (length (chain n leaves)) ≡ false)
+  unfolding planRow
+  both-passed =
+      four-done (outside 1 maxDepth n) (outside 1 maxChallenges (length leaves)) (not (every (isLeaf n) leaves)) (ltb places (length (chain n leaves))) done
+
+  pub few-leaves : length leaves ≤ 200
+  few-leaves = leb-true (length leaves) 200 (both-second (leb 1 (length leaves)) (leb (length leaves) 200) (not-false _ (both-passed .0)))
+
+  pub codes-count : length codes ≡ length (chain n leaves)
+  unfolding chainCodes
+  codes-count = rw are (length-map (chain n leaves) code)
+
+  pub few-codes : length codes ≤ 6855
+  few-codes = omega (arith, codes-count, ltb-false places (length (chain n leaves)) (both-passed .1))
+
+  pub different-count : (k : ℕ) → k ≡ pick (leb (length leaves) maxChallenges) (leavesOpened leaves) 0 → k ≡ leavesOpened leaves
+  different-count k e = e ∙ rw (le-leb (length leaves) maxChallenges few-leaves)
+
+code-at : (vs : List Node) (i : ℕ) → i < length vs → getD (map code vs) i 0 ≡ code (getD vs i root)
+code-at [] i h = absurd (omega arith)
+code-at (v ∷ vs) zero h = refl
+code-at (v ∷ vs) (suc i) h = code-at vs i (omega arith)
+
+module _ (n : ℕ) (leaves codes : List ℕ) (are : codes ≡ chainCodes n leaves) (i : ℕ) (h : i < length (chain n leaves)) where
+  the-code : getD codes i 0 ≡ code (getD (chain n leaves) i root)
+  unfolding chainCodes
+  the-code = rw are (code-at (chain n leaves) i h)
+
+  pub code-positive : 0 < getD codes i 0
+  code-positive = let v = getD (chain n leaves) i root in omega (arith, the-code, pow-pos (v .level))
+
+  pub the-node : (l p : ℕ) → getD codes i 0 ≡ 2 ^ l + p → p < 2 ^ l → node l p ≡ getD (chain n leaves) i root
+  the-node l p e k =
+      same-code (node l p) (getD (chain n leaves) i root) k (chain-at n leaves root i h .0 .1) (sym e ∙ the-code)
+
+-- one node laid out, and those after it
+pub nodes-wrote : (vs : List Node) (i : ℕ) (v : Node) (d e : List ℕ) (at m : ℕ) → i < length vs → v ≡ getD vs i root → Wrote d at (nodeText v) e m
+    → at + length (nodesText (drop i vs)) ≤ length d
+    → (written e m (nodesText (drop (i + 1) vs)) ≡ written d at (nodesText (drop i vs)))
+    × (m + length (nodesText (drop (i + 1) vs)) ≡ at + length (nodesText (drop i vs)))
+nodes-wrote vs i v d e at m h f w k =
+    let turn : nodesText (drop i vs) ≡ nodeText v ++ nodesText (drop (i + 1) vs) = nodes-turn vs i h ∙ rw f in (
+      rw (w .out, w .next, turn) (sym (written-append d at (nodeText v) (nodesText (drop (i + 1) vs)) (rw turn at k))),
+      omega (arith, w .next, ap length turn, length-append (nodeText v) (nodesText (drop (i + 1) vs))),
+    )
+
+pub head-room : (n k c : ℕ) → length (headText n k c) ≤ 82
+unfolding headText
+head-room n k c = head-short n k c
+
+-- the head and all nodes
+pub plan-wrote : (n : ℕ) (leaves codes : List ℕ) → planRow n leaves places ≡ Done → codes ≡ chainCodes n leaves → (d e f : List ℕ) (k m q i : ℕ)
+    → k ≡ pick (leb (length leaves) maxChallenges) (leavesOpened leaves) 0 → Wrote d 0 (headText n k (length codes)) e m → length codes ≤ i
+    → written f q (nodesText (drop i (chain n leaves))) ≡ written e m (nodesText (chain n leaves))
+    → q + length (nodesText (drop i (chain n leaves))) ≡ m + length (nodesText (chain n leaves)) → 82 + 42 * 6855 ≤ length d
+    → Wrote d 0 (answerText n leaves Done) f q
+plan-wrote n leaves codes done are d e f k m q i different w end p t room =
+    let count = codes-count n leaves codes done are in
+    let none = nodes-end (chain n leaves) i (omega arith) in
+    let nodes : Wrote e m (nodesText (chain n leaves)) f q =
+    record { out = sym (written-none f q) ∙ (rw none at p); next = omega (arith, t, ap length none) } in
+    let text : headText n k (length codes) ≡ headText n (leavesOpened leaves) (length (chain n leaves)) =
+    rw (count, different-count n leaves codes done are k different) in
+    let head : Wrote d 0 (headText n (leavesOpened leaves) (length (chain n leaves))) e m = rw text at w in
+    then head nodes
+    (omega (
+      arith,
+      length-append (headText n (leavesOpened leaves) (length (chain n leaves))) (nodesText (chain n leaves)),
+      head-room n (leavesOpened leaves) (length (chain n leaves)),
+      nodes-short (chain n leaves),
+      few-codes n leaves codes done are,
+    ))
+
+-- what planning into a list of 6,855 places answers
+pub done-row : (n : ℕ) (leaves : List ℕ) (o : Outcome) (list : ℕ) → list ≡ 6855 → o ≡ planRow n leaves list → o ≡ Done → planRow n leaves places ≡ Done
+done-row n leaves o list e p q = rw (← e) (sym p ∙ q)
+
+pub done-count : (n : ℕ) (leaves : List ℕ) (list count : ℕ) → list ≡ 6855 → planRow n leaves places ≡ Done → count ≡ plannedCount n leaves list
+    → count ≡ length (chain n leaves)
+unfolding plannedCount
+done-count n leaves list count e d c = c ∙ rw (e, d)
+
+pub done-codes : (n : ℕ) (leaves list codes : List ℕ) (count : ℕ) → length list ≡ 6855 → planRow n leaves places ≡ Done
+    → count ≡ length (chain n leaves) → codes ≡ plannedList n leaves list → take count codes ≡ chainCodes n leaves
+unfolding plannedList written chainCodes
+done-codes n leaves list codes count e d c p =
+    rw (p, e, d) (ap (take count) (append-assoc [] (map code (chain n leaves)) _) ∙ take-at (map code (chain n leaves)) _ count (length-map (chain n leaves) code ∙ sym c))
+
+refused-text : (n : ℕ) (leaves : List ℕ) (o : Outcome) (why : Refusal) (list k : ℕ) → list ≡ 6855 → o ≡ planRow n leaves list → o ≡ Refused why
+    → k ≡ numberOf why → planText n leaves ≡ refusedText k
+unfolding planText
+refused-text n leaves o why list k a p q r = let row : planRow n leaves places ≡ Refused why = rw (← a) (sym p ∙ q) in rw (row, r)
+
+pub refused-wrote : (n : ℕ) (leaves d e : List ℕ) (o : Outcome) (why : Refusal) (list k m : ℕ) → list ≡ 6855 → o ≡ planRow n leaves list → o ≡ Refused why
+    → k ≡ numberOf why → Wrote d 0 (refusedText k) e m → Wrote d 0 (planText n leaves) e m
+refused-wrote n leaves d e o why list k m a p q r w = rw (refused-text n leaves o why list k a p q r) w
+
+pub done-wrote : (n : ℕ) (leaves d e : List ℕ) (m : ℕ) → planRow n leaves places ≡ Done → Wrote d 0 (answerText n leaves Done) e m → Wrote d 0 (planText n leaves) e m
+unfolding planText
+done-wrote n leaves d e m a w = rw a w

@@ -1,0 +1,145 @@
+-- Texts laid one after the other.
+use mathlib.Core.Path.{_≡_, refl, sym, ap, _∙_}
+use Prim.Native.Nat.{ℕ, zero, suc, _+_, _-_, _*_, _/_, _%_, _^_, _≤_, _<_}
+use native.Mathlib.Numerals.{add-one}
+use native.Mathlib.Omega.{arith}
+use mathlib.Core.Bool.{Bool, true, false}
+use mathlib.Core.List.{List, [], _∷_, _++_, append-assoc, map}
+use lib.Dec.{ltb}
+use lib.ListN.{length, getD, take, drop, set, length-append, length-set, length-drop, drop-of-length-le}
+use lib.Seq.{drop-cons, drop-set-lt, getD-set-same}
+use borrow.Author.Tests.{lt-ltb, le-ltb}
+use Rattle.base.specs.Choice.{pick}
+use Rattle.base.specs.Bytes.{written, joined}
+use Rattle.base.proofs.Copying.{length-written}
+use Rattle.chain.proofs.Writing.{written-none, written-one, written-append}
+use Rattle.tree.specs.Nodes.{Node, root}
+use Rattle.planning.specs.Output.{digits, decimal, field, nodeText, nodesText}
+use Rattle.planning.specs.Steps.{Wrote}
+
+-- one text, then another
+pub then : {d e f a b : List ℕ} {at m k : ℕ} → Wrote d at a e m → Wrote e m b f k → at + length (a ++ b) ≤ length d → Wrote d at (a ++ b) f k
+then {d} {e} {f} {a} {b} {at} {m} {k} p q h =
+    record {
+      out = q .out ∙ rw (p .out, p .next) (sym (written-append d at a b h));
+      next = q .next ∙ rw (p .next, length-append) (omega arith);
+    }
+
+pub one-byte : (d : List ℕ) (at b : ℕ) → at < length d → Wrote d at (b ∷ []) (set d at b) (at + 1)
+one-byte d at b h = record { out = sym (written-one d at b [] (omega arith) ∙ written-none (set d at b) (at + 1)); next = refl }
+
+-- decimal
+digits-short : (k x : ℕ) → length (digits k x) ≤ k
+unfolding digits
+digits-short zero x = omega arith
+digits-short (suc k) x = go (ltb x 10) (digits-short k (x / 10))
+  where
+    go : (t : Bool) → length (digits k (x / 10)) ≤ k → length (pick t ((48 + x) ∷ []) (digits k (x / 10) ++ (48 + x % 10) ∷ [])) ≤ suc k
+    go true h = omega arith
+    go false h = omega (arith, length-append (digits k (x / 10)) ((48 + x % 10) ∷ []))
+
+pub decimal-short : (x : ℕ) → length (decimal x) ≤ 20
+unfolding decimal
+decimal-short x = digits-short 20 x
+
+pub ten-left : (i rest : ℕ) → 10 ≤ rest → rest < 10 ^ (i + 1) → 0 < i
+ten-left zero rest h k = absurd (omega arith)
+ten-left (suc i) rest h k = omega arith
+
+pub tenth : (i rest : ℕ) → 0 < i → rest < 10 ^ (i + 1) → rest / 10 < 10 ^ (i - 1 + 1)
+tenth zero rest h k = absurd (omega arith)
+tenth (suc i) rest h k =
+    let e : suc i - 1 + 1 ≡ suc i = omega arith in
+    let f : suc i + 1 ≡ suc (suc i) = omega arith in
+    rw e (omega (arith, rw f at k))
+
+after-set : (text : List ℕ) (i c : ℕ) → i < length text → drop i (set text i c) ≡ c ∷ drop (i + 1) text
+after-set text i c h =
+    drop-cons (set text i c) i 0 (rw length-set h) ∙ rw (getD-set-same text i c 0 h, drop-set-lt (suc i) text i c (omega arith), add-one i)
+
+pub spelled-more : (text all : List ℕ) (i rest : ℕ) → 0 < i → i < length text → 10 ≤ rest → digits (i + 1) rest ++ drop (i + 1) text ≡ all
+    → digits (i - 1 + 1) (rest / 10) ++ drop (i - 1 + 1) (set text i (48 + rest % 10)) ≡ all
+spelled-more text all i rest h k t e =
+    let j : i - 1 + 1 ≡ i = omega arith in
+    rw (j, after-set text i (48 + rest % 10) k) (sym (append-assoc (digits i (rest / 10)) ((48 + rest % 10) ∷ []) (drop (i + 1) text)) ∙ more ∙ e)
+  where
+    more : digits i (rest / 10) ++ (48 + rest % 10) ∷ [] ++ drop (i + 1) text ≡ digits (i + 1) rest ++ drop (i + 1) text
+    more = rw (add-one i) (unfold digits in rw (le-ltb rest 10 t))
+
+pub spelled-last : (text all : List ℕ) (i rest : ℕ) → i < length text → rest < 10 → digits (i + 1) rest ++ drop (i + 1) text ≡ all
+    → drop i (set text i (48 + rest)) ≡ all
+spelled-last text all i rest k t e = after-set text i (48 + rest) k ∙ last ∙ e
+  where
+    last : (48 + rest) ∷ drop (i + 1) text ≡ digits (i + 1) rest ++ drop (i + 1) text
+    last = rw (add-one i) (unfold digits in rw (lt-ltb rest 10 t))
+
+-- 2^(l+1)
+pub twice : (width level : ℕ) → width ≡ 2 ^ level → width * 2 ≡ 2 ^ (level + 1)
+twice width level e = rw (add-one level) (omega arith)
+
+-- where a field ends at the latest
+pub field-end : {d e : List ℕ} {at m : ℕ} (name : List ℕ) (x : ℕ) → Wrote d at (field name x) e m → m ≤ at + (length name + 20)
+field-end name x w = omega (arith, w .next, length-append name (decimal x), decimal-short x)
+
+pub field-wrote : (d e f name part : List ℕ) (at m x k : ℕ) → at + (length name + 20) ≤ length d → e ≡ written d at name → m ≡ at + length name
+    → part ≡ decimal x → f ≡ written e m part → k ≡ m + length (decimal x) → Wrote d at (field name x) f k
+field-wrote d e f name part at m x k h p q r s t =
+    then (record { out = p; next = q }) (record { out = s ∙ ap (written e m) r; next = t })
+    (omega (arith, length-append name (decimal x), decimal-short x))
+
+-- the nodes
+pub nodes-turn : (vs : List Node) (i : ℕ) → i < length vs → nodesText (drop i vs) ≡ nodeText (getD vs i root) ++ nodesText (drop (i + 1) vs)
+unfolding nodesText joined
+nodes-turn vs i h = rw (add-one i, drop-cons vs i root h)
+
+pub nodes-end : (vs : List Node) (i : ℕ) → length vs ≤ i → nodesText (drop i vs) ≡ []
+unfolding nodesText joined
+nodes-end vs i h = rw (drop-of-length-le vs h)
+
+pub node-short : (v : Node) → length (nodeText v) ≤ 42
+unfolding nodeText
+node-short v =
+    omega (
+      arith,
+      length-append (decimal (v .level) ++ field (32 ∷ []) (v .position)) (10 ∷ []),
+      length-append (decimal (v .level)) (field (32 ∷ []) (v .position)),
+      length-append (32 ∷ []) (decimal (v .position)),
+      decimal-short (v .level),
+      decimal-short (v .position),
+    )
+
+pub nodes-short : (vs : List Node) → length (nodesText vs) ≤ 42 * length vs
+unfolding nodesText joined
+nodes-short [] = omega arith
+nodes-short (v ∷ vs) = omega (arith, length-append (nodeText v) (nodesText vs), node-short v, nodes-short vs)
+
+-- the lengths of the other texts, from their first part on
+abbrev pub depthWord : List ℕ
+depthWord = 100 ∷ 101 ∷ 112 ∷ 116 ∷ 104 ∷ 32 ∷ []
+
+abbrev pub leavesWord : List ℕ
+leavesWord = 32 ∷ 108 ∷ 101 ∷ 97 ∷ 118 ∷ 101 ∷ 115 ∷ 32 ∷ []
+
+abbrev pub chainWord : List ℕ
+chainWord = 32 ∷ 99 ∷ 104 ∷ 97 ∷ 105 ∷ 110 ∷ 32 ∷ []
+
+abbrev pub refusedWord : List ℕ
+refusedWord = 114 ∷ 101 ∷ 102 ∷ 117 ∷ 115 ∷ 101 ∷ 100 ∷ 32 ∷ []
+
+field-length : (name : List ℕ) (x : ℕ) → length (field name x) ≤ length name + 20
+field-length name x = omega (arith, length-append name (decimal x), decimal-short x)
+
+pub refused-short : (k : ℕ) → length (field refusedWord k ++ 10 ∷ []) ≤ 29
+refused-short k = omega (arith, length-append (field refusedWord k) (10 ∷ []), field-length refusedWord k)
+
+pub head-one : (n k : ℕ) → length (field depthWord n ++ field leavesWord k) ≤ 54
+head-one n k = omega (arith, length-append (field depthWord n) (field leavesWord k), field-length depthWord n, field-length leavesWord k)
+
+pub head-two : (n k c : ℕ) → length (field depthWord n ++ field leavesWord k ++ field chainWord c) ≤ 81
+head-two n k c = omega (arith, length-append (field depthWord n ++ field leavesWord k) (field chainWord c), head-one n k, field-length chainWord c)
+
+pub head-short : (n k c : ℕ) → length (field depthWord n ++ field leavesWord k ++ field chainWord c ++ 10 ∷ []) ≤ 82
+head-short n k c = omega (arith, length-append (field depthWord n ++ field leavesWord k ++ field chainWord c) (10 ∷ []), head-two n k c)
+
+pub node-one : (l p : ℕ) → length (decimal l ++ field (32 ∷ []) p) ≤ 41
+node-one l p = omega (arith, length-append (decimal l) (field (32 ∷ []) p), decimal-short l, field-length (32 ∷ []) p)

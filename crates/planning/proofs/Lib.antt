@@ -1,0 +1,4 @@
+pub mod ReadLaws
+pub mod Laying
+pub mod AnswerLaws
+pub mod InputLaws

@@ -1,0 +1,108 @@
+-- `reading::read_numbers` meets its contract: the invariant: those kept and those left are all numbers.
+use Rattle.planning.proofs.ReadLaws.{all-start, all-turn, next-fits, must-go, numbers-turn, numbers-last, first-full, first-all}
+use Rattle.planning.specs.Steps.{allFit}
+use Rattle.planning.specs.Input.{fits, numbers, numbersFrom}
+use lib.ListN.{length, drop, take}
+use native.Mathlib.Omega.{arith}
+use Prim.Native.Nat.{_+_, _-_, _≤_, _<_}
+use mathlib.Core.List.{_++_}
+use mathlib.Core.Bool.{true}
+use mathlib.Core.Path.{_≡_, refl, _∙_}
+use borrow.Author.Needs.{needs}
+use Rattle.planning.proofs.reading.read_numbers.Statement.{statement}
+use Rattle.planning.proofs.reading.read_numbers.Tie as tie
+
+abbrev Inv-loop : tie.InvT-loop
+Inv-loop input list₀ count₀ value₀ within₀ i₀ list count value within i = (i ≤ length input) × (length list ≡ 202) × (count < 202) × (take count list ++ numbersFrom within value (drop i input) ≡ numbers input) × (fits value ≡ true) × (allFit true value (drop i input) ≡ true)
+
+abbrev μ-loop : tie.MeasureT-loop
+μ-loop input list₀ count₀ value₀ within₀ i₀ list count value within i = length input - i
+
+loop-holds : tie.Need-loop-holds Inv-loop μ-loop
+unfolding numbers
+loop-holds c = (omega arith, refl, omega arith, refl, refl, all-start _ ∙ c .before .pre)
+
+shared-slice-read-wide : tie.Need-shared-slice-read-wide Inv-loop μ-loop
+shared-slice-read-wide c = search needs
+
+wide-requires : tie.Need-wide-requires Inv-loop μ-loop
+wide-requires c κs = search needs
+
+step-requires : tie.Need-step-requires Inv-loop μ-loop
+step-requires c κs = search needs
+
+slice-aggregate-push : tie.Need-slice-aggregate-push Inv-loop μ-loop
+slice-aggregate-push c = search needs
+
+push-requires : tie.Need-push-requires Inv-loop μ-loop
+push-requires c κs = omega (arith, c .before .before .before .before .before .loop .inv .1)
+
+returns : tie.Need-returns Inv-loop μ-loop
+returns c =
+    let l = c .before .before .before .before .before .before .before .before .loop in
+    let s = c .before .before .before .before .before .before .before .before .before .before in
+    let b = c .before .before .before .before .before .wide in
+    let step = c .before .before .before .before .step in
+    let push = c .before .before .push in
+    let bytes = s .args .input .now in
+    let good = step .ensures .right ∙ must-go bytes (l .i) (b .result) (l .value) (omega arith) (b .ensures .0) (l .inv .5) in
+    let turn = numbers-turn bytes (l .i) (b .result) (l .value) (omega arith) (b .ensures .0) (l .within) (step .result .digit) (step .result .value) (take (l .count) (l .list)) (take (push .result) (push .last .0)) (numbers bytes) (step .ensures .kind good) (step .ensures .after good) (push .ensures .0) (l .inv .3) in
+    first-full (push .last .0) _ (numbers bytes) (push .result) (omega (arith, push .ensures .1, push .kept .0)) (push .kept .0 ∙ l .inv .1) (c .if1 .taken) turn
+
+add-i : tie.Need-add-i Inv-loop μ-loop
+add-i c = search needs
+
+loop-less : tie.Need-loop-less Inv-loop μ-loop
+loop-less c = search needs
+
+loop-again : tie.Need-loop-again Inv-loop μ-loop
+loop-again c =
+    let l = c .before .before .before .before .before .before .before .before .loop in
+    let s = c .before .before .before .before .before .before .before .before .before .before in
+    let b = c .before .before .before .before .before .wide in
+    let step = c .before .before .before .before .step in
+    let push = c .before .before .push in
+    let bytes = s .args .input .now in
+    let on = must-go bytes (l .i) (b .result) (l .value) (omega arith) (b .ensures .0) (l .inv .5) in
+    let good = step .ensures .right ∙ on in (
+      omega arith,
+      push .kept .0 ∙ l .inv .1,
+      c .if1 .left,
+      numbers-turn bytes (l .i) (b .result) (l .value) (omega arith) (b .ensures .0) (l .within) (step .result .digit) (step .result .value) (take (l .count) (l .list)) (take (push .result) (push .last .0)) (numbers bytes) (step .ensures .kind good) (step .ensures .after good) (push .ensures .0) (l .inv .3),
+      next-fits (b .result) (l .value) _ on (step .ensures .after good),
+      all-turn bytes (l .i) (b .result) (l .value) (omega arith) (b .ensures .0) _ (l .inv .4) on (step .ensures .after good) ∙ l .inv .5,
+    )
+
+slice-aggregate-push-2 : tie.Need-slice-aggregate-push-2 Inv-loop μ-loop
+slice-aggregate-push-2 c = search needs
+
+push-requires-2 : tie.Need-push-requires-2 Inv-loop μ-loop
+push-requires-2 c κs = omega (arith, c .before .before .loop .inv .1, c .before .before .loop .inv .2)
+
+returns-2 : tie.Need-returns-2 Inv-loop μ-loop
+returns-2 c =
+    let l = c .before .before .before .before .loop in
+    let s = c .before .before .before .before .before .before in
+    let push = c .before .push2 in
+    let all = numbers-last (s .args .input .now) (l .i) (l .value) (l .within) (take (l .count) (l .list)) (take (push .result) (push .last .0)) (numbers (s .args .input .now)) (c .before .before .before .loop-test .left) (push .ensures .0) (l .inv .3) in
+    first-all (push .last .0) (numbers (s .args .input .now)) (push .result) (omega (arith, push .ensures .1, push .kept .0)) (push .kept .0 ∙ l .inv .1) all
+
+pub read-numbers-spec : {M : Type 1} → statement M
+read-numbers-spec =
+    tie.close
+    (tie.spec
+    Inv-loop
+    μ-loop
+    loop-holds
+    shared-slice-read-wide
+    wide-requires
+    step-requires
+    slice-aggregate-push
+    push-requires
+    returns
+    add-i
+    loop-less
+    loop-again
+    slice-aggregate-push-2
+    push-requires-2
+    returns-2)

@@ -1,0 +1,52 @@
+-- `texts::put_node` meets its contract: two fields and a line feed.
+use mathlib.Core.List.{_∷_, []}
+use Rattle.planning.proofs.Laying.{then, field-end, node-one, node-short}
+use Rattle.tree.specs.Nodes.{node}
+use Rattle.planning.specs.Output.{nodeText}
+use native.Mathlib.Omega.{arith}
+use borrow.Author.Needs.{needs}
+use Rattle.planning.proofs.texts.put_node.Statement.{statement}
+use Rattle.planning.proofs.texts.put_node.Tie as tie
+
+slice-aggregate-put-field : tie.Need-slice-aggregate-put-field
+slice-aggregate-put-field c = search needs
+
+put-field-requires : tie.Need-put-field-requires
+put-field-requires c κs = search needs
+
+slice-aggregate-put-field-2 : tie.Need-slice-aggregate-put-field-2
+slice-aggregate-put-field-2 c = search needs
+
+put-field-requires-2 : tie.Need-put-field-requires-2
+put-field-requires-2 c κs = let f = c .before .before .before .before .put-field in omega (arith, field-end [] _ (f .ensures), f .kept .0, c .before .before .before .before .before .before .before .before .pre)
+
+end-line-requires : tie.Need-end-line-requires
+end-line-requires c κs =
+    let g = c .before .before .before .put-field2 in
+    let f = c .before .before .before .before .before .before .before .before .put-field in
+    omega (arith, field-end (32 ∷ []) _ (g .ensures), g .kept .0, field-end [] _ (f .ensures), f .kept .0, c .before .before .before .before .before .before .before .before .before .before .before .before .pre)
+
+same-length : tie.Need-same-length
+same-length c = search needs
+
+returns : tie.Need-returns
+unfolding nodeText
+returns c =
+    let g = c .before .before .before .before .before .before .put-field2 in
+    let f = c .before .before .before .before .before .before .before .before .before .before .before .put-field in
+    let s = c .before .before .before .before .before .before .before .before .before .before .before .before .before .before .before in
+    let a = s .args in
+    then (then (f .ensures) (g .ensures) (omega (arith, node-one (a .level) (a .position), s .pre)))
+    (c .before .before .end-line .ensures) (omega (arith, node-short (node (a .level) (a .position)), s .pre))
+
+pub put-node-spec : {M : Type 1} → statement M
+put-node-spec =
+    tie.close
+    (tie.spec
+    slice-aggregate-put-field
+    put-field-requires
+    slice-aggregate-put-field-2
+    put-field-requires-2
+    end-line-requires
+    same-length
+    returns)

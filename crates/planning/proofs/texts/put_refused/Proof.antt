@@ -1,0 +1,31 @@
+-- `texts::put_refused` meets its contract: a field and a line feed.
+use Rattle.planning.proofs.Laying.{refusedWord, then, field-end, refused-short}
+use Rattle.planning.specs.Output.{refusedText}
+use native.Mathlib.Omega.{arith}
+use borrow.Author.Needs.{needs}
+use Rattle.planning.proofs.texts.put_refused.Statement.{statement}
+use Rattle.planning.proofs.texts.put_refused.Tie as tie
+
+slice-aggregate-put-field : tie.Need-slice-aggregate-put-field
+slice-aggregate-put-field c = search needs
+
+put-field-requires : tie.Need-put-field-requires
+put-field-requires c κs = search needs
+
+end-line-requires : tie.Need-end-line-requires
+end-line-requires c κs = let f = c .before .before .before .put-field in omega (arith, field-end refusedWord _ (f .ensures), f .kept .0, c .before .before .before .before .before .before .before .pre)
+
+same-length : tie.Need-same-length
+same-length c = search needs
+
+returns : tie.Need-returns
+unfolding refusedText
+returns c =
+    let f = c .before .before .before .before .before .before .put-field in
+    let s = c .before .before .before .before .before .before .before .before .before .before in
+    then (f .ensures) (c .before .before .end-line .ensures) (omega (arith, refused-short (s .args .number), s .pre))
+
+pub put-refused-spec : {M : Type 1} → statement M
+put-refused-spec =
+    tie.close
+    (tie.spec slice-aggregate-put-field put-field-requires end-line-requires same-length returns)

@@ -1,0 +1,66 @@
+-- Document 01, the planning program: what it prints, in bytes.
+use Prim.Native.Nat.{ℕ, zero, suc, _+_, _*_, _/_, _%_}
+use mathlib.Core.List.{List, [], _∷_, _++_, map}
+use lib.Dec.{ltb}
+use lib.ListN.{length, getD, drop}
+use Rattle.base.specs.Choice.{pick}
+use Rattle.base.specs.Bytes.{joined}
+use Rattle.refusal.specs.declared.Outcome.{Outcome}
+use Rattle.refusal.specs.declared.Outcome.the-variants.{Done, Refused}
+use Rattle.refusal.specs.Number.{numberOf}
+use Rattle.tree.specs.Nodes.{Node}
+use Rattle.ways.specs.Ways.{chain}
+use Rattle.ways.specs.Counts.{leavesOpened}
+use Rattle.chain.specs.PlanRow.{planRow}
+use Rattle.planning.specs.Input.{numbers, unreadable}
+
+-- a number in decimal, of at most k digits
+unfoldable pub digits : ℕ → ℕ → List ℕ
+digits zero x = []
+digits (suc k) x = pick (ltb x 10) ((48 + x) ∷ []) (digits k (x / 10) ++ (48 + x % 10) ∷ [])
+
+-- 20 digits hold every number below 2^64
+unfoldable pub decimal : ℕ → List ℕ
+decimal x = digits 20 x
+
+-- a text and a number after it
+abbrev pub field : List ℕ → ℕ → List ℕ
+field name x = name ++ decimal x
+
+-- `refused`, a blank and the number, a line feed
+unfoldable pub refusedText : ℕ → List ℕ
+refusedText k = field (114 ∷ 101 ∷ 102 ∷ 117 ∷ 115 ∷ 101 ∷ 100 ∷ 32 ∷ []) k ++ 10 ∷ []
+
+-- `depth `, ` leaves ` and ` chain `, each with its number, a line feed
+unfoldable pub headText : ℕ → ℕ → ℕ → List ℕ
+headText n k c =
+    field (100 ∷ 101 ∷ 112 ∷ 116 ∷ 104 ∷ 32 ∷ []) n
+    ++ field (32 ∷ 108 ∷ 101 ∷ 97 ∷ 118 ∷ 101 ∷ 115 ∷ 32 ∷ []) k
+    ++ field (32 ∷ 99 ∷ 104 ∷ 97 ∷ 105 ∷ 110 ∷ 32 ∷ []) c
+    ++ 10 ∷ []
+
+-- level, a blank and position, a line feed
+unfoldable pub nodeText : Node → List ℕ
+nodeText v = decimal (v .level) ++ field (32 ∷ []) (v .position) ++ 10 ∷ []
+
+unfoldable pub nodesText : List Node → List ℕ
+nodesText nodes = joined (map nodeText nodes)
+
+-- the list that the program lends for the chain: 'With t = 200 at most 6,855 nodes.'
+abbrev pub places : ℕ
+places = 6855
+
+abbrev pub answerText : ℕ → List ℕ → Outcome → List ℕ
+answerText n leaves (Refused why) = refusedText (numberOf why)
+answerText n leaves Done = headText n (leavesOpened leaves) (length (chain n leaves)) ++ nodesText (chain n leaves)
+
+unfoldable pub planText : ℕ → List ℕ → List ℕ
+planText n leaves = answerText n leaves (planRow n leaves places)
+
+-- all that is printed on an input: 'Before all else, 17', else the plan of the first number, the depth, and the others, the leaves
+unfoldable pub printed : List ℕ → List ℕ
+printed bytes = pick (unreadable bytes) (refusedText 17) (planText (getD (numbers bytes) 0 0) (drop 1 (numbers bytes)))
+
+-- room for any of it: a head of 82 bytes and 6,855 lines of 42
+abbrev pub maxOutput : ℕ
+maxOutput = 82 + 42 * places

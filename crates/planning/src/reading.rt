@@ -1,0 +1,130 @@
+// The numbers of an input.
+ghost use mathlib.Core.Path.{_≡_};
+ghost use mathlib.Core.Bool.{true, false};
+ghost use mathlib.Core.List.{_++_};
+ghost use Prim.Native.Nat.{_<_, _≤_};
+ghost use lib.ListN.{length, take};
+ghost use Rattle.planning.specs.Input.{numbers};
+ghost use Rattle.planning.specs.Steps.{Step, allFit, ended};
+
+// What a byte does to the number before it: it can be read, it is a digit, the value after it.
+struct Stepped {
+    good: bool,
+    digit: bool,
+    value: u64,
+}
+
+// The first numbers, at most a depth and 201 leaves.
+pub struct Numbers {
+    pub list: [u64; 202],
+    pub count: usize,
+}
+
+// A byte as a number.
+fn wide(byte: u8) -> u64
+    ensures { λ r. ⌜ (r ≡ byte) × (r < 256) ⌝ }
+{
+    byte as u64
+}
+
+fn step(byte: u64, value: u64) -> Stepped
+    ensures { λ r. ⌜ Step byte value (r .good) (r .digit) (r .value) ⌝ }
+{
+    if byte == 32 {
+        return Stepped {
+            good: true,
+            digit: false,
+            value: 0,
+        };
+    }
+    if byte == 10 {
+        return Stepped {
+            good: true,
+            digit: false,
+            value: 0,
+        };
+    }
+    if byte < 48 {
+        return Stepped {
+            good: false,
+            digit: false,
+            value: 0,
+        };
+    }
+    if 57 < byte {
+        return Stepped {
+            good: false,
+            digit: false,
+            value: 0,
+        };
+    }
+    let digit = byte - 48;
+    if (18446744073709551615 - digit) / 10 < value {
+        return Stepped {
+            good: false,
+            digit: true,
+            value: 0,
+        };
+    }
+    Stepped {
+        good: true,
+        digit: true,
+        value: 10 * value + digit,
+    }
+}
+
+// Whether each byte can be read and each number fits.
+pub fn is_readable(input: &[u8]) -> bool
+    ensures { λ r. ⌜ r ≡ allFit false 0 (now (input .entry)) ⌝ }
+{
+    let mut value: u64 = 0;
+    let mut i: usize = 0;
+    while i < input.len() {
+        let s = step(wide(input[i]), value);
+        if !s.good {
+            return false;
+        }
+        value = s.value;
+        i += 1;
+    }
+    true
+}
+
+// Keeps a number that ends here.
+fn push(list: &mut [u64], count: usize, value: u64, within: bool, digit: bool) -> usize
+    requires { ⌜ count < length (now list) ⌝ }
+    ensures { λ r. ⌜ (take r (now (list .exit)) ≡ take count (now (list .entry)) ++ ended within digit value) × (r ≤ length (now (list .entry))) ⌝ }
+{
+    if !within {
+        return count;
+    }
+    if digit {
+        return count;
+    }
+    list[count] = value;
+    count + 1
+}
+
+// The first numbers of an input that can be read.
+pub fn read_numbers(input: &[u8]) -> Numbers
+    requires { ⌜ allFit false 0 (now input) ≡ true ⌝ }
+    ensures { λ r. ⌜ (take (r .count) (r .list) ≡ take 202 (numbers (now (input .entry)))) × (r .count ≡ length (take 202 (numbers (now (input .entry))))) ⌝ }
+{
+    let mut list = [0u64; 202];
+    let mut count: usize = 0;
+    let mut value: u64 = 0;
+    let mut within = false;
+    let mut i: usize = 0;
+    while i < input.len() {
+        let s = step(wide(input[i]), value);
+        count = push(&mut list, count, value, within, s.digit);
+        if 202 <= count {
+            return Numbers { list, count };
+        }
+        within = s.digit;
+        value = s.value;
+        i += 1;
+    }
+    count = push(&mut list, count, value, within, false);
+    Numbers { list, count }
+}
