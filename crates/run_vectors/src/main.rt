@@ -168,86 +168,84 @@ fn edges() {
     edge_at(41, 42, 18446744073709551615, 0);
 }
 
+// The store's size at each memory level that there is room for.
+fn store_size(memory: u64) -> usize {
+    match memory {
+        0 => 32,
+        1 => 96,
+        2 => 224,
+        3 => 480,
+        4 => 992,
+        5 => 2016,
+        6 => 4064,
+        7 => 8160,
+        8 => 16352,
+        9 => 32736,
+        10 => 65504,
+        11 => 131040,
+        12 => 262112,
+        13 => 524256,
+        14 => 1048544,
+        _ => 0,
+    }
+}
+
+fn largest(depth: u64) -> u64 {
+    if depth < 14 { depth } else { 14 }
+}
+
+// At the vector's own memory level, at the smallest and at the largest.
+fn three_levels(report: &[u8], depth: u64, memory: u64) {
+    vector(report, depth, memory, store_size(memory));
+    vector(report, depth, 0, store_size(0));
+    let most = largest(depth);
+    vector(report, depth, most, store_size(most));
+}
+
 fn part_1() {
-    vector(b"", 1, 0, 32);
-    vector(b"hull 1", 1, 0, 32);
-    vector(b"hull 1", 1, 1, 96);
-    vector(b"", 2, 1, 96);
-    vector(b"hull 2", 2, 0, 32);
-    vector(b"hull 2", 2, 1, 96);
-    vector(b"hull 2", 2, 2, 224);
-    vector(b"", 3, 3, 480);
-    vector(b"hull 3", 3, 3, 480);
-    vector(b"hull 3", 3, 0, 32);
-    vector(b"hull 3", 3, 1, 96);
-    vector(b"", 4, 3, 480);
+    three_levels(b"", 1, 0);
+    three_levels(b"hull 1", 1, 0);
+    three_levels(b"", 2, 1);
+    three_levels(b"hull 2", 2, 0);
+    three_levels(b"", 3, 3);
+    three_levels(b"hull 3", 3, 3);
+    three_levels(b"", 4, 3);
+    three_levels(b"hull 4", 4, 3);
+    three_levels(b"", 5, 1);
+    three_levels(b"hull 5", 5, 0);
+    three_levels(b"", 6, 3);
 }
 
 fn part_2() {
-    vector(b"hull 4", 4, 3, 480);
-    vector(b"hull 4", 4, 0, 32);
-    vector(b"hull 4", 4, 2, 224);
-    vector(b"hull 4", 4, 4, 992);
-    vector(b"", 5, 1, 96);
-    vector(b"hull 5", 5, 0, 32);
-    vector(b"hull 5", 5, 2, 224);
-    vector(b"hull 5", 5, 5, 2016);
-    vector(b"", 6, 3, 480);
-    vector(b"hull 6", 6, 0, 32);
-    vector(b"hull 6", 6, 3, 480);
-    vector(b"hull 6", 6, 6, 4064);
+    three_levels(b"hull 6", 6, 0);
+    three_levels(b"", 7, 6);
+    three_levels(b"hull 7", 7, 6);
+    three_levels(b"", 8, 0);
+    three_levels(b"hull 8", 8, 7);
+    three_levels(b"", 9, 4);
+    three_levels(b"hull 9", 9, 3);
+    three_levels(b"", 10, 9);
+    three_levels(b"hull 10", 10, 1);
+    three_levels(b"", 11, 5);
+    three_levels(b"hull 11", 11, 0);
 }
 
 fn part_3() {
-    vector(b"", 7, 6, 4064);
-    vector(b"hull 7", 7, 6, 4064);
-    vector(b"hull 7", 7, 0, 32);
-    vector(b"hull 7", 7, 3, 480);
-    vector(b"hull 7", 7, 7, 8160);
-    vector(b"", 8, 0, 32);
-    vector(b"hull 8", 8, 7, 8160);
-    vector(b"hull 8", 8, 0, 32);
-    vector(b"hull 8", 8, 4, 992);
-    vector(b"hull 8", 8, 8, 16352);
-    vector(b"", 9, 4, 992);
-    vector(b"hull 9", 9, 3, 480);
-}
-
-fn part_4() {
-    vector(b"hull 9", 9, 0, 32);
-    vector(b"hull 9", 9, 4, 992);
-    vector(b"hull 9", 9, 9, 32736);
-    vector(b"", 10, 9, 32736);
-    vector(b"hull 10", 10, 1, 96);
-    vector(b"hull 10", 10, 0, 32);
-    vector(b"hull 10", 10, 5, 2016);
-    vector(b"hull 10", 10, 10, 65504);
-    vector(b"", 11, 5, 2016);
-    vector(b"hull 11", 11, 0, 32);
-    vector(b"hull 11", 11, 5, 2016);
-    vector(b"hull 11", 11, 11, 131040);
-}
-
-fn part_5() {
-    vector(b"", 12, 0, 32);
-    vector(b"hull 12", 12, 0, 32);
-    vector(b"hull 12", 12, 6, 4064);
-    vector(b"hull 12", 12, 12, 262112);
-    vector(b"", 13, 10, 65504);
-    vector(b"hull 13", 13, 8, 16352);
-    vector(b"", 14, 0, 32);
-    vector(b"hull 14", 14, 14, 1048544);
-    vector(b"", 15, 12, 262112);
-    vector(b"hull 15", 15, 6, 4064);
-    vector(b"", 16, 13, 524256);
-    vector(b"hull 16", 16, 0, 32);
+    three_levels(b"", 12, 0);
+    three_levels(b"hull 12", 12, 0);
+    three_levels(b"", 13, 10);
+    three_levels(b"hull 13", 13, 8);
+    three_levels(b"", 14, 0);
+    three_levels(b"hull 14", 14, 14);
+    three_levels(b"", 15, 12);
+    three_levels(b"hull 15", 15, 6);
+    three_levels(b"", 16, 13);
+    three_levels(b"hull 16", 16, 0);
 }
 
 fn main() {
     part_1();
     part_2();
     part_3();
-    part_4();
-    part_5();
     edges();
 }
