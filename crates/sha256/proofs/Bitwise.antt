@@ -1,5 +1,5 @@
--- Maj, the two large sigmas and T1 in fewer operations than FIPS 180-4 writes them with.
-use Prim.Native.Nat.{ℕ, zero, suc, _+_, _*_, _/_, _%_, _^_, _<_}
+-- Ch, Maj, the two large sigmas and T1 in fewer operations than FIPS 180-4 writes them with.
+use Prim.Native.Nat.{ℕ, zero, suc, _+_, _-_, _*_, _/_, _%_, _^_, _<_}
 use mathlib.Core.Path.{_≡_, refl, sym, ap, subst, _∙_}
 use native.Mathlib.Nat.{add-comm, add-assoc, add-zero, add-mul, mul-assoc, mul-mod-left, mod-lt, div-add-mod'}
 use native.Mathlib.Omega.{arith}
@@ -7,7 +7,7 @@ use lib.Bits.{bitAnd, bitOr, bitXor, and-shr, and-mod, xor-shr, xor-mod, xor-lt,
 use lib.Arith.{digits-lt, digits-div, digits-mod}
 use lib.Dec.{lit<}
 use lib.Pow.{pow-pos, pow-add, mod-pow-add, shl-shr, shr-lt}
-use Rattle.sha256.specs.Words.{sum, rotr, maj, bigSigma0, bigSigma1}
+use Rattle.sha256.specs.Words.{sum, rotr, ch, maj, bigSigma0, bigSigma1}
 
 -- ---- operations on three words that go bit by bit
 
@@ -82,6 +82,38 @@ xor-assoc =
     (xored _ _ first (xored _ _ second third))
     (xored _ _ (xored _ _ first second) third)
     refl refl refl refl refl refl refl refl 32
+
+-- ---- Ch
+
+complement-bit : (x z : ℕ) → x < 2 → z < 2 → bitAnd (1 - x) z ≡ bitXor z (bitAnd x z)
+complement-bit x z a b =
+    on-bit (λ n. bitAnd (1 - n) z ≡ bitXor z (bitAnd n z))
+    (on-bit (λ n. bitAnd 1 n ≡ bitXor n (bitAnd 0 n)) refl refl z b)
+    (on-bit (λ n. bitAnd 0 n ≡ bitXor n (bitAnd 1 n)) refl refl z b)
+    x a
+
+-- x complemented within k bits, and z
+complement-and : (k x z : ℕ) → x < 2 ^ k → z < 2 ^ k → bitAnd (2 ^ k - 1 - x) z ≡ bitXor z (bitAnd x z)
+complement-and zero x z a b =
+    let p : x ≡ 0 = omega arith in
+    let q : z ≡ 0 = omega arith in
+    rw (p, q) refl
+complement-and (suc k) x z a b =
+    let high : (2 ^ suc k - 1 - x) / 2 ≡ 2 ^ k - 1 - x / 2 = omega arith in
+    let low : (2 ^ suc k - 1 - x) % 2 ≡ 1 - x % 2 = omega arith in
+    halves (bitAnd (2 ^ suc k - 1 - x) z) (bitXor z (bitAnd x z))
+    (and-shr (2 ^ suc k - 1 - x) z 1 ∙ rw high (complement-and k (x / 2) (z / 2) (omega arith) (omega arith))
+    ∙ sym (xored _ _ third (anded _ _ first third) .half x 0 z))
+    (and-mod (2 ^ suc k - 1 - x) z 1 ∙ rw low (complement-bit (x % 2) (z % 2) (omega arith) (omega arith))
+    ∙ sym (xored _ _ third (anded _ _ first third) .low x 0 z))
+
+pub ch-shared : (x y z : ℕ) → x < 2 ^ 32 → y < 2 ^ 32 → z < 2 ^ 32 → bitXor z (bitAnd x (bitXor y z)) ≡ ch x y z
+ch-shared x y z a b c =
+    agree (λ x y z. bitXor z (bitAnd x (bitXor y z))) (λ x y z. bitXor (bitAnd x y) (bitXor z (bitAnd x z)))
+    (xored _ _ third (anded _ _ first (xored _ _ second third)))
+    (xored _ _ (anded _ _ first second) (xored _ _ third (anded _ _ first third)))
+    refl refl refl refl refl refl refl refl 32 x y z a b c
+    ∙ ap (bitXor (bitAnd x y)) (sym (complement-and 32 x z a c))
 
 -- ---- rotations, by j to the right, with j + k = 32
 

@@ -5,3 +5,4 @@ pub mod Blocks
 pub mod Pushing
 pub mod Digests
 pub mod Portions
+pub mod Padded

@@ -7,11 +7,11 @@ use native.Mathlib.Nat.{add-zero, zero-add, mul-suc}
 use native.Mathlib.Omega.{arith}
 use borrow.Author.Tests.{eq-eqb, ne-eqb}
 use lib.Dec.{eqb}
-use lib.ListN.{length, take, drop, set, replicate, length-drop, take-append-drop}
-use lib.Seq.{sets, sets-eq, length-take-le, drop-length, take-add}
+use lib.ListN.{length, take, drop, set, replicate, length-append, length-drop, take-append-drop}
+use lib.Seq.{sets, sets-eq, length-take-le, drop-length, take-add, take-all, take-append-add, drop-append-add}
 use Rattle.sha256.specs.declared.Words.{Words}
 use Rattle.sha256.specs.declared.Hash.{Hash}
-use Rattle.sha256.specs.Padding.{words}
+use Rattle.sha256.specs.Padding.{blocks, words}
 use Rattle.sha256.specs.Compression.{compressed}
 use Rattle.sha256.specs.Digest.{block, hashAfter}
 use Rattle.base.specs.Choice.{pick}
@@ -155,3 +155,56 @@ pushedAll-cleared v taken bytes m =
     ap (λ (s : Hash). pushedAll s r) (pushedAll-blocks v taken bytes q m (omega arith)) ∙
     pushedAll-within (cleared (hashAfter v bytes q) (taken + 64 * q)) r (omega arith) ∙
     rw (at, all)
+
+-- bytes that end a block, after those in the tail: the tail's bytes and they are whole blocks
+module _ (s : Hash) (bytes : List ℕ) (size : length (s .tail) ≡ 64) (more : 64 ≤ s .taken % 64 + length bytes) where
+  abbrev waiting : List ℕ
+  waiting = take (s .taken % 64) (s .tail)
+
+  length-waiting : length waiting ≡ s .taken % 64
+  length-waiting = length-take-le (s .taken % 64) (s .tail) (omega arith)
+
+  first-block : take 64 (waiting ++ bytes) ≡ waiting ++ take (64 - s .taken % 64) bytes
+  first-block =
+      let n : length waiting + (64 - s .taken % 64) ≡ 64 = omega (arith, length-waiting) in
+      ap (λ (k : ℕ). take k (waiting ++ bytes)) (sym n) ∙ take-append-add waiting bytes (64 - s .taken % 64)
+
+  after-first : drop 64 (waiting ++ bytes) ≡ drop (64 - s .taken % 64) bytes
+  after-first =
+      let n : length waiting + (64 - s .taken % 64) ≡ 64 = omega (arith, length-waiting) in
+      ap (λ (k : ℕ). drop k (waiting ++ bytes)) (sym n) ∙ drop-append-add waiting bytes (64 - s .taken % 64)
+
+  filled-tail : sets (s .tail) (s .taken % 64) (take (64 - s .taken % 64) bytes) ≡ take 64 (waiting ++ bytes)
+  filled-tail =
+      let room : ℕ = 64 - s .taken % 64 in
+      let n : length (take room bytes) ≡ room = length-take-le room bytes (omega arith) in
+      let end : s .taken % 64 + length (take room bytes) ≡ length (s .tail) = omega arith in
+      sets-eq (take room bytes) (s .tail) (s .taken % 64) (omega arith)
+      ∙ rw (end, drop-length (s .tail), append-nil) (sym first-block)
+
+  -- the same from the start of the block
+  from-start : pushedAll s bytes ≡ pushedAll (cleared (s .words) (s .taken - s .taken % 64)) (waiting ++ bytes)
+  from-start =
+      let start : (s .taken - s .taken % 64) % 64 ≡ 0 = omega arith in
+      let room : 64 - 0 ≡ 64 = omega arith in
+      let all : s .taken - s .taken % 64 + 64 ≡ s .taken + (64 - s .taken % 64) = omega arith in
+      let long : length (take 64 (waiting ++ bytes)) ≡ 64 =
+      length-take-le 64 (waiting ++ bytes) (rw (length-append, length-waiting) more) in
+      pushedAll-beyond s bytes more
+      ∙ rw (filled-tail, ← after-first, ← all)
+      (sym
+      (pushedAll-beyond
+      (cleared (s .words) (s .taken - s .taken % 64))
+      (waiting ++ bytes)
+      (rw (length-append, length-waiting) (omega arith))
+      ∙ rw (start, room, sets-whole (replicate 64 0) (take 64 (waiting ++ bytes)) (sym long))))
+
+  pub pushedAll-closed :
+      (s .taken % 64 + length bytes) % 64 ≡ 0 → pushedAll s bytes .words ≡ hashAfter (s .words) (waiting ++ bytes) (blocks (waiting ++ bytes))
+  pushedAll-closed whole =
+      let n : length (waiting ++ bytes) ≡ s .taken % 64 + length bytes = rw (length-append, length-waiting) in
+      let k : 64 * blocks (waiting ++ bytes) ≡ length (waiting ++ bytes) = omega arith in
+      ap (λ (t : Hash). t .words)
+      (from-start
+      ∙ ap (pushedAll (cleared (s .words) (s .taken - s .taken % 64))) (sym (take-all (64 * blocks (waiting ++ bytes)) (waiting ++ bytes) (omega arith)))
+      ∙ pushedAll-blocks (s .words) (s .taken - s .taken % 64) (waiting ++ bytes) (blocks (waiting ++ bytes)) (omega arith) (omega arith))

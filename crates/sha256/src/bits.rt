@@ -9,10 +9,11 @@ pub fn add(x: u32, y: u32) -> u32
     wrapping_add_u32(x, y)
 }
 
+// One operation fewer than the printed form, and only the last two wait for x.
 pub fn choose(x: u32, y: u32, z: u32) -> u32
     ensures { λ r. ⌜ r ≡ ch x y z ⌝ }
 {
-    (x & y) ^ (!x & z)
+    z ^ (x & (y ^ z))
 }
 
 // The exclusive or of x and y serves the next round too, as its y and z.

@@ -1,11 +1,10 @@
-// A block's sixteen words (FIPS 180-4, 5.2.1), and the message schedule, sixteen words at a time
-// (6.2.2, step 1).
+// A block's sixteen words (FIPS 180-4, 5.2.1), and one word of the message schedule (6.2.2, step 1).
 ghost use Prim.Native.Nat.{_+_, _<_, _≤_};
 ghost use mathlib.Core.Path.{_≡_};
 ghost use lib.ListN.{length};
 ghost use Rattle.sha256.specs.Padding.{wordAt, words};
 ghost use Rattle.sha256.specs.Compression.{scheduled};
-ghost use Rattle.sha256.specs.Block.{listOf, Follows};
+ghost use Rattle.sha256.specs.Block.{listOf};
 use crate::bits::add;
 use crate::bits::small0;
 use crate::bits::small1;
@@ -69,32 +68,33 @@ pub fn gather(s: &[u8]) -> Block
 }
 
 // W_t from W_(t−2), W_(t−7), W_(t−15) and W_(t−16).
-fn schedule(a: u32, b: u32, c: u32, d: u32) -> u32
+pub fn schedule(a: u32, b: u32, c: u32, d: u32) -> u32
     ensures { λ r. ⌜ r ≡ scheduled a b c d ⌝ }
 {
     add(add(add(small1(a), b), small0(c)), d)
 }
 
-// The sixteen words of the schedule that follow sixteen.
-pub fn next(w: Block) -> Block
-    ensures { λ r. ⌜ Follows w r ⌝ }
+// A block of given words.
+pub fn block_of(
+    w0: u32,
+    w1: u32,
+    w2: u32,
+    w3: u32,
+    w4: u32,
+    w5: u32,
+    w6: u32,
+    w7: u32,
+    w8: u32,
+    w9: u32,
+    w10: u32,
+    w11: u32,
+    w12: u32,
+    w13: u32,
+    w14: u32,
+    w15: u32,
+) -> Block
+    ensures { λ r. ⌜ r ≡ record { w0 = w0; w1 = w1; w2 = w2; w3 = w3; w4 = w4; w5 = w5; w6 = w6; w7 = w7; w8 = w8; w9 = w9; w10 = w10; w11 = w11; w12 = w12; w13 = w13; w14 = w14; w15 = w15 } ⌝ }
 {
-    let w0 = schedule(w.w14, w.w9, w.w1, w.w0);
-    let w1 = schedule(w.w15, w.w10, w.w2, w.w1);
-    let w2 = schedule(w0, w.w11, w.w3, w.w2);
-    let w3 = schedule(w1, w.w12, w.w4, w.w3);
-    let w4 = schedule(w2, w.w13, w.w5, w.w4);
-    let w5 = schedule(w3, w.w14, w.w6, w.w5);
-    let w6 = schedule(w4, w.w15, w.w7, w.w6);
-    let w7 = schedule(w5, w0, w.w8, w.w7);
-    let w8 = schedule(w6, w1, w.w9, w.w8);
-    let w9 = schedule(w7, w2, w.w10, w.w9);
-    let w10 = schedule(w8, w3, w.w11, w.w10);
-    let w11 = schedule(w9, w4, w.w12, w.w11);
-    let w12 = schedule(w10, w5, w.w13, w.w12);
-    let w13 = schedule(w11, w6, w.w14, w.w13);
-    let w14 = schedule(w12, w7, w.w15, w.w14);
-    let w15 = schedule(w13, w8, w0, w.w15);
     Block {
         w0,
         w1,

@@ -1,7 +1,7 @@
 // FIPS 180-4, 6.2.2: the eight new hash words from the eight old ones and the sixteen of a block.
 ghost use mathlib.Core.Path.{_≡_};
 ghost use Rattle.sha256.specs.Compression.{round, added, compressed};
-ghost use Rattle.sha256.specs.Block.{listOf, sixteenRounds};
+ghost use Rattle.sha256.specs.Block.{listOf, Follows, sixteenRounds};
 use crate::Words;
 use crate::bits::add;
 use crate::bits::big0;
@@ -9,7 +9,8 @@ use crate::bits::big1;
 use crate::bits::choose;
 use crate::bits::majority;
 use crate::block::Block;
-use crate::block::next;
+use crate::block::block_of;
+use crate::block::schedule;
 
 // 4.2.2: the constants of the rounds, sixteen at a time.
 const K0: Block = Block {
@@ -88,6 +89,12 @@ const K3: Block = Block {
     w15: 0xc67178f2,
 };
 
+// The working variables after sixteen rounds, and the next sixteen words.
+pub struct Turned {
+    pub words: Words,
+    pub block: Block,
+}
+
 // Step 3: one round, with K_t and W_t.
 fn turn(k: u32, w: u32, v: Words) -> Words
     ensures { λ r. ⌜ r ≡ round k w v ⌝ }
@@ -127,6 +134,65 @@ fn sixteen(k: Block, w: Block, v: Words) -> Words
     turn(k.w15, w.w15, v)
 }
 
+// Sixteen rounds, and the sixteen words of the schedule after those of w. Each word stands beside a round that does not need
+// it, so that the processor has work while the round's sums wait for one another.
+fn turn_and_extend(k: Block, w: Block, v: Words) -> Turned
+    ensures { λ r. ⌜ r .words ≡ sixteenRounds k w v ⌝ }
+    ensures { λ r. ⌜ Follows w (r .block) ⌝ }
+{
+    let v = turn(k.w0, w.w0, v);
+    let w0 = schedule(w.w14, w.w9, w.w1, w.w0);
+    let v = turn(k.w1, w.w1, v);
+    let w1 = schedule(w.w15, w.w10, w.w2, w.w1);
+    let v = turn(k.w2, w.w2, v);
+    let w2 = schedule(w0, w.w11, w.w3, w.w2);
+    let v = turn(k.w3, w.w3, v);
+    let w3 = schedule(w1, w.w12, w.w4, w.w3);
+    let v = turn(k.w4, w.w4, v);
+    let w4 = schedule(w2, w.w13, w.w5, w.w4);
+    let v = turn(k.w5, w.w5, v);
+    let w5 = schedule(w3, w.w14, w.w6, w.w5);
+    let v = turn(k.w6, w.w6, v);
+    let w6 = schedule(w4, w.w15, w.w7, w.w6);
+    let v = turn(k.w7, w.w7, v);
+    let w7 = schedule(w5, w0, w.w8, w.w7);
+    let v = turn(k.w8, w.w8, v);
+    let w8 = schedule(w6, w1, w.w9, w.w8);
+    let v = turn(k.w9, w.w9, v);
+    let w9 = schedule(w7, w2, w.w10, w.w9);
+    let v = turn(k.w10, w.w10, v);
+    let w10 = schedule(w8, w3, w.w11, w.w10);
+    let v = turn(k.w11, w.w11, v);
+    let w11 = schedule(w9, w4, w.w12, w.w11);
+    let v = turn(k.w12, w.w12, v);
+    let w12 = schedule(w10, w5, w.w13, w.w12);
+    let v = turn(k.w13, w.w13, v);
+    let w13 = schedule(w11, w6, w.w14, w.w13);
+    let v = turn(k.w14, w.w14, v);
+    let w14 = schedule(w12, w7, w.w15, w.w14);
+    let v = turn(k.w15, w.w15, v);
+    let w15 = schedule(w13, w8, w0, w.w15);
+    let block = block_of(
+        w0,
+        w1,
+        w2,
+        w3,
+        w4,
+        w5,
+        w6,
+        w7,
+        w8,
+        w9,
+        w10,
+        w11,
+        w12,
+        w13,
+        w14,
+        w15,
+    );
+    Turned { words: v, block }
+}
+
 // Step 4: word by word.
 fn sums(x: Words, y: Words) -> Words
     ensures { λ r. ⌜ r ≡ added x y ⌝ }
@@ -147,12 +213,12 @@ fn sums(x: Words, y: Words) -> Words
 pub fn compress(old: Words, block: Block) -> Words
     ensures { λ r. ⌜ r ≡ compressed old (listOf block) ⌝ }
 {
-    let w1 = next(block);
-    let w2 = next(w1);
-    let w3 = next(w2);
-    let v = sixteen(K0, block, old);
-    let v = sixteen(K1, w1, v);
-    let v = sixteen(K2, w2, v);
-    let v = sixteen(K3, w3, v);
+    let t1 = turn_and_extend(K0, block, old);
+    let w1 = t1.block;
+    let t2 = turn_and_extend(K1, w1, t1.words);
+    let w2 = t2.block;
+    let t3 = turn_and_extend(K2, w2, t2.words);
+    let w3 = t3.block;
+    let v = sixteen(K3, w3, t3.words);
     sums(v, old)
 }

@@ -1,7 +1,8 @@
-// The digest as bytes, and the padding of FIPS 180-4, 5.1.1.
-ghost use Prim.Native.Nat.{_≤_};
+// The digest as bytes, and the last blocks with the padding of FIPS 180-4, 5.1.1.
+ghost use Prim.Native.Nat.{_%_, _≤_};
 ghost use mathlib.Core.Path.{_≡_};
-ghost use lib.ListN.{take};
+ghost use lib.ListN.{length, take};
+ghost use mathlib.Core.List.{_++_};
 ghost use Rattle.sha256.specs.Padding.{padding};
 ghost use Rattle.sha256.specs.Digest.{digestOf};
 ghost use Rattle.base.specs.Limits.{maxHashed};
@@ -49,24 +50,23 @@ pub fn digest_bytes(v: Words) -> [u8; 32]
     ]
 }
 
-// The first count of the bytes are a padding.
-pub struct Padding {
-    pub bytes: [u8; 72],
+// The first count of the bytes are the last blocks of a message.
+pub struct Last {
+    pub bytes: [u8; 128],
     pub count: usize,
 }
 
-// The padding of a message of len bytes.
-pub fn padding_of(len: u64) -> Padding
-    requires { ⌜ len ≤ maxHashed ⌝ }
-    ensures { λ r. ⌜ (take (r .count) (r .bytes) ≡ padding len) × (r .count ≤ 72) ⌝ }
+// The last blocks of a message of len bytes: what is left of it after whole blocks, and the padding.
+pub fn last_blocks(rest: &[u8], len: u64) -> Last
+    requires { ⌜ (length (now rest) ≡ len % 64) × (len ≤ maxHashed) ⌝ }
+    ensures { λ r. ⌜ (take (r .count) (r .bytes) ≡ now (rest .entry) ++ padding len) × (r .count ≤ 128) ⌝ }
 {
-    let zeros = ((119 - len % 64) % 64) as usize;
+    let at = rest.len();
+    let end = 64 * ((at + 8) / 64 + 1);
     let bits = big_endian(8 * len);
-    let mut bytes = [0u8; 72];
-    bytes[0] = 128;
-    put(&mut bytes, 1 + zeros, &bits);
-    Padding {
-        bytes,
-        count: zeros + 9,
-    }
+    let mut bytes = [0u8; 128];
+    put(&mut bytes, 0, rest);
+    put(&mut bytes, at, &[128]);
+    put(&mut bytes, end - 8, &bits);
+    Last { bytes, count: end }
 }

@@ -13,7 +13,7 @@ use crate::absorb::absorb;
 use crate::block::gather;
 use crate::compress::compress;
 use crate::encode::digest_bytes;
-use crate::encode::padding_of;
+use crate::encode::last_blocks;
 use base::put;
 
 // Bytes at the start of a block: no byte of a whole block is copied.
@@ -74,15 +74,16 @@ pub fn pushed(state: Hash, bytes: &[u8]) -> Hash
     }
 }
 
-// The digest of what a state has taken, by pushing the padding.
+// The digest of what a state has taken: the tail's bytes and the padding make whole blocks.
 pub fn closed(state: Hash) -> [u8; 32]
     requires { ⌜ state .taken ≤ maxHashed ⌝ }
     ensures { λ r. ⌜ r ≡ digestOf (pushedAll state (padding (state .taken)) .words) ⌝ }
 {
-    let p = padding_of(state.taken);
-    let bytes = p.bytes;
-    let count = p.count;
-    let last = pushed(state, &bytes[..count]);
-    let words = last.words;
-    digest_bytes(words)
+    let at = (state.taken % 64) as usize;
+    let tail = state.tail;
+    let last = last_blocks(&tail[..at], state.taken);
+    let bytes = last.bytes;
+    let count = last.count;
+    let words = state.words;
+    digest_bytes(absorb(words, &bytes[..count]))
 }

@@ -1,50 +1,67 @@
 -- `sha256::push::closed` meets its contract.
-use Rattle.sha256.specs.declared.Hash.{Hash}
-use Rattle.sha256.specs.Digest.{digestOf}
-use Rattle.sha256.specs.Portions.{pushedAll}
 use mathlib.Core.Path.{_≡_, sym, _∙_, ap}
+use Prim.Native.Nat.{ℕ}
+use mathlib.Core.List.{List}
 use native.Mathlib.Omega.{arith}
+use Rattle.sha256.specs.Padding.{blocks}
+use Rattle.sha256.specs.Digest.{hashAfter, digestOf}
+use Rattle.sha256.proofs.Digests.{pushed-padding}
 use lib.ListN.{length}
 use lib.Seq.{length-take-le}
 use borrow.Author.Needs.{needs}
 use Rattle.sha256.proofs.push.closed.Statement.{statement}
 use Rattle.sha256.proofs.push.closed.Tie as tie
 
-padding-of-requires : tie.Need-padding-of-requires
-padding-of-requires c κs = search needs
+tail-size : (c : tie.After-tail) → length (c .before .before .args .state .tail) ≡ 64
+tail-size c = search needs
+
+array-share-prefix-tail : tie.Need-array-share-prefix-tail
+array-share-prefix-tail c =
+    omega (arith, tail-size c)
+
+slice-aggregate-last-blocks : tie.Need-slice-aggregate-last-blocks
+slice-aggregate-last-blocks c =
+    sym (length-take-le _ _ (omega (arith, tail-size (c .before))))
+
+last-blocks-requires : tie.Need-last-blocks-requires
+last-blocks-requires c κs =
+    (length-take-le _ _ (omega (arith, tail-size (c .before))), c .before .before .before .pre)
 
 array-share-prefix-bytes : tie.Need-array-share-prefix-bytes
 array-share-prefix-bytes c =
-    let n : length (c .before .padding-of .result .bytes) ≡ 72 = search needs in
+    let n : length (c .before .before .last-blocks .result .bytes) ≡ 128 = search needs in
     omega arith
 
-slice-aggregate-pushed : tie.Need-slice-aggregate-pushed
-slice-aggregate-pushed c =
-    let n : length (c .before .before .padding-of .result .bytes) ≡ 72 = search needs in
+slice-aggregate-absorb : tie.Need-slice-aggregate-absorb
+slice-aggregate-absorb c =
+    let n : length (c .before .before .before .last-blocks .result .bytes) ≡ 128 = search needs in
     sym (length-take-le _ _ (omega arith))
 
-pushed-requires : tie.Need-pushed-requires
-pushed-requires c κs =
-    let n : length (c .before .before .padding-of .result .bytes) ≡ 72 = search needs in
-    let p = c .before .before .padding-of .result in
-    rw (length-take-le (p .count) (p .bytes) (omega arith)) (omega arith)
+absorb-requires : tie.Need-absorb-requires
+absorb-requires c κs = search needs
 
 digest-bytes-requires : tie.Need-digest-bytes-requires
 digest-bytes-requires c κs = search needs
 
 returns : tie.Need-returns
 returns c =
+    let a = c .before in
+    let b = a .before .before .before .before in
+    let s = b .before .before .before .before .args .state in
     c .digest-bytes .ensures ∙
-    ap (λ (s : Hash). digestOf (s .words))
-    (c .before .before .pushed .ensures ∙ ap (pushedAll _) (c .before .before .before .before .before .padding-of .ensures .0))
+    ap
+    digestOf
+    (a .absorb .ensures ∙ ap (λ (l : List ℕ). hashAfter (s .words) l (blocks l)) (b .last-blocks .ensures .0) ∙ sym (pushed-padding s (tail-size (b .before .before))))
 
 pub closed-spec : {M : Type 1} → statement M
 closed-spec =
     tie.close
     (tie.spec
-    padding-of-requires
+    array-share-prefix-tail
+    slice-aggregate-last-blocks
+    last-blocks-requires
     array-share-prefix-bytes
-    slice-aggregate-pushed
-    pushed-requires
+    slice-aggregate-absorb
+    absorb-requires
     digest-bytes-requires
     returns)

@@ -1,0 +1,69 @@
+-- The comparison of openings given as bytes one after the other, with their leaves. They need not be right.
+use Prim.Native.Nat.{ℕ, _-_, _*_}
+use mathlib.Core.Bool.{Bool, not}
+use mathlib.Core.List.{List, [], _∷_}
+use lib.Dec.{ltb}
+use lib.ListN.{length, getD, take, drop}
+use Rattle.base.specs.Choice.{pick}
+use Rattle.base.specs.Bytes.{zeros}
+use Rattle.base.specs.Limits.{maxDepth, maxChallenges}
+use Rattle.refusal.specs.declared.Refusal.the-variants.{Depth, Count, LeafPosition, BytesEnd, BytesLeft}
+use Rattle.refusal.specs.declared.Outcome.{Outcome}
+use Rattle.refusal.specs.Row.{firstOf, outside, isDone}
+use Rattle.tree.specs.Labels.{Rule}
+use Rattle.tree.specs.Openings.{Given, inputAt}
+use Rattle.tree.specs.Disagreement.{wayNode, disagreeAt}
+use Rattle.ways.specs.Planning.{every, isLeaf}
+use Rattle.label.specs.Rule.{stampRule}
+use Rattle.opening.specs.Rows.{openingSize}
+use Rattle.verify.specs.OpeningCheck.{givenBy}
+use Rattle.compare.specs.declared.Pair.{Pair}
+use Rattle.compare.specs.declared.Pair.the-variants.{Agree, Disagree}
+use Rattle.compare.specs.FirstPair.{firstPair}
+
+-- the leaf of opening i, from 1
+abbrev pub leafOf : List ℕ → ℕ → ℕ
+leafOf leaves i = getD leaves (i - 1) 0
+
+-- the labels that opening i gives
+abbrev pub givenOf : ℕ → List ℕ → ℕ → Given
+givenOf n openings i = givenBy (take (openingSize n) (drop ((i - 1) * openingSize n) openings))
+
+-- openings i and j disagree at their shared inner node of level l
+abbrev pub disagreement : Rule → ℕ → List ℕ → List ℕ → ℕ → ℕ → ℕ → Bool
+disagreement r n leaves openings i j l =
+    disagreeAt r n (leafOf leaves i) (givenOf n openings i) (leafOf leaves j) (givenOf n openings j) l
+
+unfoldable pub firstDisagreement : List ℕ → ℕ → List ℕ → List ℕ → Pair
+firstDisagreement statement n leaves openings = firstPair (disagreement (stampRule statement) n leaves openings) n (length leaves)
+
+-- the hash input of opening i at the node of level l on its way
+abbrev pub inputOf : List ℕ → ℕ → List ℕ → List ℕ → ℕ → ℕ → List ℕ
+inputOf statement n leaves openings i l =
+    inputAt (stampRule statement) n (leafOf leaves i) (givenOf n openings i) (wayNode n (leafOf leaves i) l)
+
+-- 'both 105-byte inputs'
+abbrev pub firstInput : List ℕ → ℕ → List ℕ → List ℕ → Pair → List ℕ
+firstInput statement n leaves openings Agree = zeros 105
+firstInput statement n leaves openings (Disagree i j l) = inputOf statement n leaves openings i l
+
+abbrev pub secondInput : List ℕ → ℕ → List ℕ → List ℕ → Pair → List ℕ
+secondInput statement n leaves openings Agree = zeros 105
+secondInput statement n leaves openings (Disagree i j l) = inputOf statement n leaves openings j l
+
+-- The comparison's checks, of which document 01 has no row: those of planning (1, 8, 6), then 10: bytes too few; 13: too many.
+unfoldable pub compareRow : ℕ → List ℕ → ℕ → Outcome
+compareRow n leaves size =
+    firstOf
+    ((outside 1 maxDepth n, Depth)
+    ∷ (outside 1 maxChallenges (length leaves), Count)
+    ∷ (not (every (isLeaf n) leaves), LeafPosition)
+    ∷ (ltb size (length leaves * openingSize n), BytesEnd)
+    ∷ (ltb (length leaves * openingSize n) size, BytesLeft)
+    ∷ []
+    )
+
+-- what is answered: no pair where it is refused
+unfoldable pub compared : List ℕ → ℕ → List ℕ → List ℕ → Pair
+compared statement n leaves openings =
+    pick (isDone (compareRow n leaves (length openings))) (firstDisagreement statement n leaves openings) Agree
