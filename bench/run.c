@@ -1,32 +1,15 @@
 /* Labelling: the proved run beside the plain C one, same input, one run after the other.
    Prints the median over the rounds of labels a second, and the ratio to plain C. */
 #define _POSIX_C_SOURCE 200809L
+#include "mastdock.h"
 #include "plain.h"
 #include <stdio.h>
 #include <stdlib.h>
 #include <string.h>
 #include <time.h>
 
-struct run_started { uint64_t refusal; struct plain_run run; };
-struct run_advanced { uint64_t refusal, labels; struct plain_run run; };
-struct run_started mastdock_run_start(const uint8_t statement[32], uint64_t depth, uint64_t memory,
-                                      const uint8_t *store, size_t len);
-struct run_advanced mastdock_run_advance(struct plain_run run, uint64_t budget, uint8_t *store, size_t len);
-
-struct opening {
-    uint8_t statement[32];
-    uint64_t depth, memory, leaf, made;
-    uint8_t held[1312];
-};
-struct opening_started { uint64_t refusal; struct opening opening; };
-struct opening_advanced { uint64_t refusal, labels; struct opening opening; };
-struct opening_started mastdock_opening_start(const uint8_t statement[32], uint64_t depth, uint64_t memory, uint64_t leaf,
-                                              const uint8_t *store, size_t store_len, uint8_t *out, size_t out_len);
-struct opening_advanced mastdock_opening_advance(struct opening opening, uint64_t budget, const uint8_t *store,
-                                                 size_t store_len, uint8_t *out, size_t out_len);
-
-enum { DEPTH = 18, MEMORY = 10, STORE = 32 * ((2 << MEMORY) - 1), ROUNDS = 9 };
-static const uint64_t ALL = ((uint64_t)2 << DEPTH) - 1;
+enum { DEPTH = 18, MEMORY = 10, STORE = MASTDOCK_STORE_SIZE(MEMORY), ROUNDS = 9 };
+static const uint64_t ALL = MASTDOCK_LABELS(DEPTH);
 
 static double now(void) {
     struct timespec t;
@@ -42,7 +25,7 @@ static int by_value(const void *a, const void *b) {
 static double proved(uint64_t budget, uint8_t *store, uint8_t root[32]) {
     uint8_t statement[32] = {1, 2, 3};
     double start = now();
-    struct plain_run run = mastdock_run_start(statement, DEPTH, MEMORY, store, STORE).run;
+    mastdock_run run = mastdock_run_start(statement, DEPTH, MEMORY, store, STORE).run;
     while (run.made < ALL)
         run = mastdock_run_advance(run, budget, store, STORE).run;
     memcpy(root, run.held, 32);
@@ -81,7 +64,7 @@ static int compare(const char *name, uint64_t budget) {
 static double opened(uint8_t *store) {
     uint8_t statement[32] = {1, 2, 3}, out[32 * (DEPTH + 1)];
     double start = now();
-    struct opening o = mastdock_opening_start(statement, DEPTH, 0, 12345, store, 32, out, sizeof out).opening;
+    mastdock_opening o = mastdock_opening_start(statement, DEPTH, 0, 12345, store, 32, out, sizeof out).opening;
     mastdock_opening_advance(o, ALL - 1, store, 32, out, sizeof out);
     return now() - start;
 }

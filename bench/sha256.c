@@ -1,6 +1,7 @@
 /* SHA-256: the proved code beside a plain C version and OpenSSL, interleaved in one run.
    Prints the median over the rounds of bytes a second, and the ratio to plain C. */
 #define _POSIX_C_SOURCE 200809L
+#include "mastdock.h"
 #include "plain.h"
 #include <stdio.h>
 #include <stdlib.h>
@@ -10,24 +11,14 @@
 #include <openssl/sha.h>
 #endif
 
-struct words { uint32_t w[8]; };
-struct hash { struct words words; uint8_t tail[64]; uint64_t taken; };
-struct updated { uint64_t refusal; struct hash hash; };
-struct finished { uint64_t refusal; uint8_t digest[32]; struct hash hash; };
-struct digested { uint64_t refusal; uint8_t digest[32]; };
-struct hash mastdock_hash_new(void);
-struct updated mastdock_hash_update(struct hash hash, const uint8_t *part, size_t len);
-struct finished mastdock_hash_finish(struct hash hash);
-struct digested mastdock_digest(const uint8_t *message, size_t len);
-
 static void proved_portion(const uint8_t *m, size_t len, uint8_t d[32]) {
-    struct updated u = mastdock_hash_update(mastdock_hash_new(), m, len);
-    struct finished f = mastdock_hash_finish(u.hash);
+    mastdock_hash_updated u = mastdock_hash_update(mastdock_hash_new(), m, len);
+    mastdock_hash_finished f = mastdock_hash_finish(u.hash);
     memcpy(d, f.digest, 32);
 }
 
 static void proved_call(const uint8_t *m, size_t len, uint8_t d[32]) {
-    struct digested r = mastdock_digest(m, len);
+    mastdock_digested r = mastdock_digest(m, len);
     memcpy(d, r.digest, 32);
 }
 

@@ -1,14 +1,14 @@
 -- Laws of reading: the head's numbers one by one, their bounds, sizes, and openings as parts of the bytes.
 use mathlib.Core.Path.{_≡_, refl, sym, _∙_}
 use mathlib.Core.Bool.{Bool, true, false, not}
-use mathlib.Core.List.{List, []}
+use mathlib.Core.List.{List}
 use Prim.Native.Nat.{ℕ, _+_, _-_, _*_, _≤_, _<_}
-use native.Mathlib.Nat.{mul-le-mul-right, add-zero, add-comm}
+use native.Mathlib.Nat.{mul-le-mul-right, add-comm}
 use native.Mathlib.Omega.{arith}
-use borrow.Author.Tests.{eq-eqb, ne-eqb}
+use borrow.Author.Tests.{eq-eqb, ne-eqb, eqb-true, not-true}
 use lib.Dec.{eqb}
 use lib.ListN.{length, take, drop, getD}
-use Rattle.base.specs.Choice.{pick}
+use Rattle.base.proofs.ChoiceLaws.{both-first, both-second}
 use Rattle.refusal.specs.declared.Refusal.{Refusal}
 use Rattle.refusal.specs.declared.Refusal.the-variants.{Edition, Depth, Count}
 use Rattle.refusal.specs.Row.{outside}
@@ -21,8 +21,7 @@ use Rattle.groups.proofs.ShortestOnly.{only-shortest}
 use Rattle.opening.specs.Rows.{openingSize}
 use Rattle.proof.specs.declared.HeadNumbers.{HeadNumbers}
 use Rattle.proof.specs.declared.HeadNumbers.the-variants.{Numbers, NotRead}
-use Rattle.proof.specs.Layout.{openingFrom}
-use Rattle.proof.specs.Head.{checked, headOf, lengthFrom, hasOpening, partStart, openingPart}
+use Rattle.proof.specs.Head.{checked, headOf, lengthFrom, hasOpening, partStart, partLength, openingPart}
 use Rattle.proof.specs.HeadSteps.{countFrom, depthFrom}
 use Rattle.verify.proofs.Parts.{part-size}
 use Rattle.verify.proofs.Ranges.{range-of}
@@ -152,20 +151,6 @@ opening-inside n t i low high = next (i - 1) (omega arith)
     next j h = omega (arith, mul-le-mul-right {m = j + 1} {n = t} (openingSize n) h)
 
 -- ---- parts
--- a part of the bytes, and its place: empty, where there is none
-abbrev pub Part : List ℕ → ℕ × ℕ → Bool → ℕ → ℕ → List ℕ → ℕ × ℕ → Type 0
-Part bytes ptr has start size part place =
-    (part ≡ take (pick has size 0) (drop (pick has start 0) bytes)) × (place ≡ (ptr .0, ptr .1 + pick has start 0))
-
-module _ (bytes : List ℕ) (ptr : ℕ × ℕ) (has : Bool) (start size : ℕ) where
-  pub part-none : has ≡ false → Part bytes ptr has start size [] ptr
-  part-none e = (rw e, rw (e, add-zero))
-
-  pub part-some : (from : ℕ) → from ≡ start → has ≡ true
-      → Part bytes ptr has start size (take (from + size - from) (drop from bytes)) (ptr .0, from + ptr .1)
-  part-some from s e =
-      (rw (s, e, part-size bytes start size), rw (s, e, add-comm start (ptr .1)))
-
 module _ (bytes : List ℕ) (n t at i : ℕ) where
   pub other-length : (length bytes ≡ lengthFrom n t at → ⊥) → hasOpening bytes n t at i ≡ false
   other-length d = rw (ne-eqb (length bytes) (lengthFrom n t at) d)
@@ -176,16 +161,27 @@ module _ (bytes : List ℕ) (n t at i : ℕ) where
   pub an-opening : length bytes ≡ lengthFrom n t at → outside 1 t i ≡ false → hasOpening bytes n t at i ≡ true
   an-opening e o = rw (eq-eqb (length bytes) (lengthFrom n t at) e, o)
 
-abbrev pub IsPart : List ℕ → ℕ × ℕ → ℕ → List ℕ → ℕ × ℕ → Type 0
-IsPart bytes ptr i part place = (part ≡ openingPart bytes i) × (place ≡ (ptr .0, ptr .1 + partStart bytes i (headOf bytes)))
+-- an opening's part lies within the bytes
+pub part-inside : (bytes : List ℕ) (i : ℕ) (h : HeadNumbers) → partStart bytes i h + partLength bytes i h ≤ length bytes
+part-inside bytes i (NotRead r) = omega arith
+part-inside bytes i (Numbers n t c) = cases (hasOpening bytes n t (c .at) i) refl
+  where
+    cases : (b : Bool) → hasOpening bytes n t (c .at) i ≡ b
+        → partStart bytes i (Numbers n t c) + partLength bytes i (Numbers n t c) ≤ length bytes
+    cases false e = rw e (omega arith)
+    cases true e =
+        let len =
+        eqb-true (length bytes) (lengthFrom n t (c .at))
+        (both-first (eqb (length bytes) (lengthFrom n t (c .at))) (not (outside 1 t i)) e) in
+        let range =
+        range-of 1 t i
+        (not-true (outside 1 t i) (both-second (eqb (length bytes) (lengthFrom n t (c .at))) (not (outside 1 t i)) e)) in
+        rw e (omega (arith, len, opening-inside n t i (range .0) (range .1)))
 
-module _ (bytes : List ℕ) (ptr : ℕ × ℕ) (i : ℕ) where
-  pub head-refused : (r : Refusal) → headOf bytes ≡ NotRead r → IsPart bytes ptr i [] ptr
-  unfolding openingPart
-  head-refused r e = (rw e, rw (e, add-zero))
-
-  pub head-read : (n t : ℕ) (c : Cursor) (part : List ℕ) (place : ℕ × ℕ) → headOf bytes ≡ Numbers n t c
-      → Part bytes ptr (hasOpening bytes n t (c .at) i) (openingFrom n (c .at + 64) i) (openingSize n) part place → IsPart bytes
-      ptr i part place
-  unfolding openingPart
-  head-read n t c part place e p = (rw e (p .0), rw e (p .1))
+-- the part from its start to its end, and its place
+pub is-part : (bytes : List ℕ) (ptr : ℕ × ℕ) (i start size : ℕ) → start ≡ partStart bytes i (headOf bytes) → size ≡ partLength bytes
+    i (headOf bytes)
+    → (take (start + size - start) (drop start bytes) ≡ openingPart bytes i) × (_≡_ {A = ℕ × ℕ} (ptr .0, start + ptr .1) (ptr .0, ptr .1 + partStart bytes i (headOf bytes)))
+unfolding openingPart
+is-part bytes ptr i start size s n =
+    (part-size bytes start size ∙ rw (s, n), rw (s, add-comm (partStart bytes i (headOf bytes)) (ptr .1)))

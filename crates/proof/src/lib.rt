@@ -1,7 +1,8 @@
 // The proof file: challenges, writing, reading and checking.
 mod challenges; // challenges.rt: the leaf that a challenge picks
 mod file; // file.rt: the check of a file
-mod head; // head.rt: the head read, and openings as parts of the bytes
+mod head; // head.rt: the head read
+mod place; // place.rt: where an opening lies, and openings as parts of the bytes
 mod sizes; // sizes.rt: sizes of a file and its parts
 mod writing; // writing.rt: the head written
 
@@ -10,8 +11,10 @@ pub use challenges::challenge;
 pub use file::check_file;
 pub use file::check_file_code;
 use groups::Cursor;
-pub use head::opening_part;
 pub use head::read_head;
+pub use place::Place;
+pub use place::opening_part;
+pub use place::opening_place;
 use refusal::Refusal;
 pub use writing::write_head;
 

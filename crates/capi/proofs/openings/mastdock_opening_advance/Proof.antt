@@ -1,0 +1,21 @@
+use mathlib.Core.Path.{ap, _∙_}
+use Rattle.refusal.specs.Number.{outcomeNumber}
+use borrow.Author.Needs.{needs}
+use Rattle.capi.proofs.openings.mastdock_opening_advance.Statement.{statement}
+use Rattle.capi.proofs.openings.mastdock_opening_advance.Tie as tie
+
+advance-requires : tie.Need-advance-requires
+advance-requires c κs = search needs
+
+outcome-number-requires : tie.Need-outcome-number-requires
+outcome-number-requires c κs = search needs
+
+same-length : tie.Need-same-length
+same-length c = search needs
+
+returns : tie.Need-returns
+returns c = (c .outcome-number .ensures ∙ ap outcomeNumber (c .before .before .before .before .advance .ensures .0), c .before .before .before .before .advance .ensures .1)
+
+pub mastdock-opening-advance-spec : {M : Type 1} → statement M
+mastdock-opening-advance-spec =
+    tie.close (tie.spec advance-requires outcome-number-requires same-length returns)

@@ -1,0 +1,90 @@
+// Challenges, the head, and the checks of openings and files.
+ghost use mathlib.Core.Path.{_≡_};
+ghost use lib.ListN.{length};
+ghost use Rattle.refusal.specs.Number.{outcomeNumber, codeOf};
+ghost use Rattle.verify.specs.OpeningCheck.{openingRow};
+ghost use Rattle.proof.specs.Challenge.{challengeRow, challenged};
+ghost use Rattle.proof.specs.Layout.{headRow, headWritten};
+ghost use Rattle.proof.specs.Head.{headOf, partStart, partLength};
+ghost use Rattle.proof.specs.FileCheck.{fileCheck};
+use proof::Place;
+use refusal::outcome_number;
+
+#[repr(C)]
+pub struct Challenged {
+    pub refusal: u64,
+    pub leaf: u64,
+}
+
+// The leaf of challenge i, from 1, or the refusal beside 0.
+#[no_mangle]
+pub extern "C" fn mastdock_challenge(
+    statement: &[u8; 32],
+    root: &[u8; 32],
+    depth: u64,
+    i: u64,
+) -> Challenged
+    ensures { λ r. ⌜ r .refusal ≡ outcomeNumber (challengeRow depth i) ⌝ }
+    ensures { λ r. ⌜ r .leaf ≡ challenged depth (now (statement .entry)) (now (root .entry)) i ⌝ }
+{
+    let c = proof::challenge(depth, *statement, *root, i);
+    let outcome = c.outcome;
+    let leaf = c.leaf;
+    Challenged {
+        refusal: outcome_number(outcome),
+        leaf,
+    }
+}
+
+// Writes the head of a file of `count` openings.
+#[no_mangle]
+pub extern "C" fn mastdock_write_head(
+    statement: &[u8; 32],
+    root: &[u8; 32],
+    depth: u64,
+    count: u64,
+    file: &mut [u8],
+) -> u64
+    ensures { λ r. ⌜ r ≡ outcomeNumber (headRow depth count (length (now (file .entry)))) ⌝ }
+    ensures { λ _. ⌜ now (file .exit) ≡ headWritten (now (statement .entry)) (now (root .entry)) depth count (now (file .entry)) ⌝ }
+{
+    let outcome = proof::write_head(*statement, *root, depth, count, file);
+    outcome_number(outcome)
+}
+
+// Where opening i, from 1, lies in a file; 0 and 0 where there is none.
+#[no_mangle]
+pub extern "C" fn mastdock_opening_place(file: &[u8], i: u64) -> Place
+    ensures { λ r. ⌜ r .offset ≡ partStart (now (file .entry)) i (headOf (now (file .entry))) ⌝ }
+    ensures { λ r. ⌜ r .length ≡ partLength (now (file .entry)) i (headOf (now (file .entry))) ⌝ }
+{
+    proof::opening_place(file, i)
+}
+
+// One opening checked: the refusal alone.
+#[no_mangle]
+pub extern "C" fn mastdock_check_opening(
+    statement: &[u8; 32],
+    root: &[u8; 32],
+    depth: u64,
+    leaf: u64,
+    opening: &[u8],
+) -> u64
+    ensures { λ r. ⌜ r ≡ outcomeNumber (openingRow (now (statement .entry)) depth leaf (now (root .entry)) (now (opening .entry))) ⌝ }
+{
+    let outcome = verify::check_opening(*statement, depth, leaf, *root, opening);
+    outcome_number(outcome)
+}
+
+// A file checked: 256 × refusal + opening, or 0 if accepted.
+#[no_mangle]
+pub extern "C" fn mastdock_check_file(
+    file: &[u8],
+    statement: &[u8; 32],
+    depth: u64,
+    count: u64,
+) -> u64
+    ensures { λ r. ⌜ r ≡ codeOf (fileCheck (now (file .entry)) (now (statement .entry)) depth count) ⌝ }
+{
+    proof::check_file_code(file, *statement, depth, count)
+}

@@ -1,0 +1,60 @@
+// Runs.
+ghost use mathlib.Core.Path.{_≡_};
+ghost use lib.ListN.{length};
+ghost use Rattle.refusal.specs.Number.{outcomeNumber};
+ghost use Rattle.run.specs.Rows.{startRow, continueRow};
+ghost use Rattle.run.specs.Steps.{started, stamped, labelsIn, advanced};
+use refusal::outcome_number;
+use run::Run;
+
+#[repr(C)]
+pub struct RunStarted {
+    pub refusal: u64,
+    pub run: Run,
+}
+
+#[repr(C)]
+pub struct RunAdvanced {
+    pub refusal: u64,
+    pub labels: u64,
+    pub run: Run,
+}
+
+// A new run, or the refusal beside an all-zero one.
+#[no_mangle]
+pub extern "C" fn mastdock_run_start(
+    statement: &[u8; 32],
+    depth: u64,
+    memory: u64,
+    store: &[u8],
+) -> RunStarted
+    ensures { λ r. ⌜ r .refusal ≡ outcomeNumber (startRow depth memory (length (now (store .entry)))) ⌝ }
+    ensures { λ r. ⌜ r .run ≡ started (now (statement .entry)) depth memory (length (now (store .entry))) ⌝ }
+{
+    let s = Run::start(*statement, depth, memory, store);
+    let outcome = s.outcome;
+    let run = s.run;
+    RunStarted {
+        refusal: outcome_number(outcome),
+        run,
+    }
+}
+
+// Labels the smaller of the budget and what remains.
+#[no_mangle]
+pub extern "C" fn mastdock_run_advance(run: Run, budget: u64, store: &mut [u8]) -> RunAdvanced
+    ensures { λ r. ⌜ r .refusal ≡ outcomeNumber (continueRow run (length (now (store .entry)))) ⌝ }
+    ensures { λ r. ⌜ r .labels ≡ labelsIn (stamped run (now (store .entry))) budget ⌝ }
+    ensures { λ r. ⌜ r .run ≡ advanced (stamped run (now (store .entry))) budget .run ⌝ }
+    ensures { λ r. ⌜ now (store .exit) ≡ advanced (stamped run (now (store .entry))) budget .store ⌝ }
+{
+    let a = run.advance(budget, store);
+    let outcome = a.outcome;
+    let labels = a.labels;
+    let next = a.run;
+    RunAdvanced {
+        refusal: outcome_number(outcome),
+        labels,
+        run: next,
+    }
+}

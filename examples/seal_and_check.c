@@ -1,0 +1,122 @@
+/* Seals a small report and checks the seal: the stamping unit's part and the office's part, in C.
+   It prints what examples/seal_and_check.stdout holds. */
+#include "mastdock.h"
+#include <stdio.h>
+#include <stdlib.h>
+#include <string.h>
+
+enum { DEPTH = 14, MEMORY = 6, COUNT = 21, BUDGET = 1000 };
+
+static const char REPORT[] = "big 14 21";
+
+static void fail(const char *call, uint64_t refusal) {
+    fprintf(stderr, "%s: refused %llu\n", call, (unsigned long long)refusal);
+    exit(1);
+}
+
+static void print_label(const char *name, const uint8_t label[32]) {
+    printf("%s ", name);
+    for (int i = 0; i < 32; i++)
+        printf("%02x", label[i]);
+    printf("\n");
+}
+
+/* The statement of a report that comes in portions. */
+static void hash_report(const char *report, size_t len, uint8_t statement[32]) {
+    mastdock_hash hash = mastdock_hash_new();
+    for (size_t at = 0; at < len; at += 4) {
+        size_t part = len - at < 4 ? len - at : 4;
+        mastdock_hash_updated updated = mastdock_hash_update(hash, (const uint8_t *)report + at, part);
+        if (updated.refusal)
+            fail("mastdock_hash_update", updated.refusal);
+        hash = updated.hash;
+    }
+    mastdock_hash_finished finished = mastdock_hash_finish(hash);
+    if (finished.refusal)
+        fail("mastdock_hash_finish", finished.refusal);
+    memcpy(statement, finished.digest, 32);
+}
+
+/* Labels the tree, some labels a call; the root is the last one held. */
+static void label_tree(const uint8_t statement[32], uint8_t *store, size_t store_len, uint8_t root[32]) {
+    mastdock_run_started started = mastdock_run_start(statement, DEPTH, MEMORY, store, store_len);
+    if (started.refusal)
+        fail("mastdock_run_start", started.refusal);
+    mastdock_run run = started.run;
+    while (run.made < MASTDOCK_LABELS(DEPTH)) {
+        mastdock_run_advanced advanced = mastdock_run_advance(run, BUDGET, store, store_len);
+        if (advanced.refusal)
+            fail("mastdock_run_advance", advanced.refusal);
+        run = advanced.run;
+    }
+    memcpy(root, run.held, 32);
+}
+
+/* Opens one leaf into its part of the file. */
+static void open_leaf(const uint8_t statement[32], uint64_t leaf, const uint8_t *store, size_t store_len, uint8_t *out) {
+    size_t out_len = MASTDOCK_OPENING_SIZE(DEPTH);
+    mastdock_opening_started started =
+        mastdock_opening_start(statement, DEPTH, MEMORY, leaf, store, store_len, out, out_len);
+    if (started.refusal)
+        fail("mastdock_opening_start", started.refusal);
+    mastdock_opening opening = started.opening;
+    while (opening.made < MASTDOCK_LABELS_ANEW(DEPTH, MEMORY)) {
+        mastdock_opening_advanced advanced = mastdock_opening_advance(opening, BUDGET, store, store_len, out, out_len);
+        if (advanced.refusal)
+            fail("mastdock_opening_advance", advanced.refusal);
+        opening = advanced.opening;
+    }
+}
+
+/* The head, then the opening of each challenge. */
+static void write_file(const uint8_t statement[32], const uint8_t root[32], const uint8_t *store, size_t store_len,
+                       uint8_t *file, size_t file_len) {
+    uint64_t refusal = mastdock_write_head(statement, root, DEPTH, COUNT, file, file_len);
+    if (refusal)
+        fail("mastdock_write_head", refusal);
+    for (uint64_t i = 1; i <= COUNT; i++) {
+        mastdock_challenged challenged = mastdock_challenge(statement, root, DEPTH, i);
+        if (challenged.refusal)
+            fail("mastdock_challenge", challenged.refusal);
+        mastdock_place place = mastdock_opening_place(file, file_len, i);
+        open_leaf(statement, challenged.leaf, store, store_len, file + place.offset);
+    }
+}
+
+/* The chain of the leaves that the file opens, planned from its head alone. */
+static void plan_chain(const uint8_t statement[32], const uint8_t root[32]) {
+    uint64_t leaves[COUNT], list[MASTDOCK_MAX_CHAIN];
+    for (uint64_t i = 1; i <= COUNT; i++)
+        leaves[i - 1] = mastdock_challenge(statement, root, DEPTH, i).leaf;
+    mastdock_planned planned = mastdock_plan(DEPTH, leaves, COUNT, list, MASTDOCK_MAX_CHAIN);
+    if (planned.refusal)
+        fail("mastdock_plan", planned.refusal);
+    printf("chain %llu nodes, last %llu\n", (unsigned long long)planned.count, (unsigned long long)list[planned.count - 1]);
+}
+
+int main(void) {
+    size_t store_len = MASTDOCK_STORE_SIZE(MEMORY), file_len = MASTDOCK_FILE_SIZE(DEPTH, COUNT);
+    uint8_t *store = malloc(store_len), *file = malloc(file_len), statement[32], root[32];
+    if (!store || !file)
+        return 1;
+    hash_report(REPORT, strlen(REPORT), statement);
+    print_label("statement", statement);
+    label_tree(statement, store, store_len, root);
+    print_label("root", root);
+    memset(file, 0, file_len);
+    write_file(statement, root, store, store_len, file, file_len);
+    print_label("file", mastdock_digest(file, file_len).digest);
+    printf("check %llu\n", (unsigned long long)mastdock_check_file(file, file_len, statement, DEPTH, COUNT));
+    plan_chain(statement, root);
+
+    /* One byte of opening 5 changed, checked in the file and alone. */
+    mastdock_place place = mastdock_opening_place(file, file_len, 5);
+    uint64_t leaf = mastdock_challenge(statement, root, DEPTH, 5).leaf;
+    file[place.offset] ^= 1;
+    uint64_t code = mastdock_check_file(file, file_len, statement, DEPTH, COUNT);
+    uint64_t refusal = mastdock_check_opening(statement, root, DEPTH, leaf, file + place.offset, place.length);
+    printf("damaged: check %llu, opening %llu\n", (unsigned long long)code, (unsigned long long)refusal);
+    free(store);
+    free(file);
+    return 0;
+}

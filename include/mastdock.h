@@ -1,0 +1,289 @@
+/* Mastdock for C11 and C++17: the calls of libcapi.a, which `rt staticlib capi` writes to target/staticlib.
+ *
+ * Conventions
+ * - Every call is decided for every value of its arguments. A state (hash, run, opening) is plain data: it may be copied, kept in
+ *   a file and continued later, and a call that is given one that cannot be continued refuses it.
+ * - A refusal is document 01's number, 0 where there is none; enum mastdock_refusal names them. Each call lists its refusals in
+ *   the order in which they are tested. A refused call changes no lent byte, hands a state back as it was and makes 0 labels; a
+ *   refused start hands back an all-zero state, and other values beside a refusal are 0.
+ * - Lent memory is a pointer and a number of elements.
+ *
+ * What pointers owe
+ * - A pointer to an array of 32 bytes points to 32 readable bytes. A pointer with a number of elements points to so many, readable
+ *   or, where it is not const, writable; it may be null if the number is 0. A uint64_t pointer is aligned.
+ * - Memory that a call may write overlaps no other memory lent to that call.
+ * Nothing else is asked. No call keeps a pointer, allocates, or uses global data, so calls on different memory may run at once. */
+#ifndef MASTDOCK_H
+#define MASTDOCK_H
+
+#include <stddef.h>
+#include <stdint.h>
+
+#ifdef __cplusplus
+extern "C" {
+#endif
+
+/* Refusals, with document 01's numbers. */
+enum mastdock_refusal {
+    MASTDOCK_DEPTH = 1,           /* depth n not 1..40 */
+    MASTDOCK_MEMORY_LEVEL = 2,    /* memory level m over min(n, 20) */
+    MASTDOCK_SHORT_STORE = 3,     /* store short */
+    MASTDOCK_STATE = 4,           /* a state that cannot be continued */
+    MASTDOCK_TOO_MANY_BYTES = 5,  /* over 2^61 - 1 bytes to hash in all */
+    MASTDOCK_LEAF_POSITION = 6,   /* a leaf's position 2^n or more */
+    MASTDOCK_SHORT_OUTPUT = 7,    /* output short */
+    MASTDOCK_COUNT = 8,           /* a challenge, or a count of them or of leaves, not 1..200 */
+    MASTDOCK_NOT_WANTED = 9,      /* statement, depth or count not those wanted */
+    MASTDOCK_BYTES_END = 10,      /* bytes end, or are too few */
+    MASTDOCK_NOT_SHORTEST = 11,   /* a number of the file not in its shortest form, or too long */
+    MASTDOCK_EDITION = 12,        /* edition not 1 */
+    MASTDOCK_BYTES_LEFT = 13,     /* bytes too many */
+    MASTDOCK_LEAF_LABEL = 14,     /* leaf label wrong */
+    MASTDOCK_ROOT = 15,           /* root wrong */
+    MASTDOCK_SHORT_LIST = 16,     /* list short */
+    MASTDOCK_INPUT = 17           /* input of the planning program; no call here gives it */
+};
+
+/* Limits and sizes. A state's size is its sizeof. The sizes are constant where their arguments are; n is 1..40, m at most
+ * min(n, 20), t 1..200. */
+#define MASTDOCK_MAX_DEPTH 40
+#define MASTDOCK_MAX_MEMORY 20
+#define MASTDOCK_MAX_COUNT 200
+#define MASTDOCK_HELD_SIZE 1312                                          /* 41 places of 32 bytes */
+#define MASTDOCK_STORE_SIZE(m) ((size_t)32 * (((size_t)2 << (m)) - 1))   /* bytes of a store of levels 0 to m */
+#define MASTDOCK_OPENING_SIZE(n) ((size_t)32 * ((size_t)(n) + 1))        /* bytes of an opening */
+#define MASTDOCK_HEAD_SIZE(t) ((size_t)((t) < 128 ? 67 : 68))            /* bytes before the openings */
+#define MASTDOCK_FILE_SIZE(n, t) (MASTDOCK_HEAD_SIZE(t) + (size_t)(t) * MASTDOCK_OPENING_SIZE(n))
+#define MASTDOCK_LABELS(n) (((uint64_t)2 << (n)) - 1)                    /* labels of a whole run */
+#define MASTDOCK_LABELS_ANEW(n, m) (((uint64_t)2 << ((n) - (m))) - 2)    /* labels that an opening makes anew */
+#define MASTDOCK_MAX_CHAIN 6855                                          /* nodes of a chain of 200 leaves, at most */
+
+/* ---- Hashing: SHA-256 in portions ---- */
+
+/* A hash under way: the eight hash words, the bytes that wait for their block to fill, and how many were taken in all. */
+typedef struct mastdock_hash {
+    uint32_t words[8];
+    uint8_t tail[64];
+    uint64_t taken;
+} mastdock_hash;
+
+typedef struct mastdock_hash_updated {
+    uint64_t refusal;
+    mastdock_hash hash;
+} mastdock_hash_updated;
+
+typedef struct mastdock_hash_finished {
+    uint64_t refusal;
+    uint8_t digest[32];
+    mastdock_hash hash;
+} mastdock_hash_finished;
+
+typedef struct mastdock_digested {
+    uint64_t refusal;
+    uint8_t digest[32];
+} mastdock_digested;
+
+/* A hash that has taken nothing. No refusal. */
+mastdock_hash mastdock_hash_new(void);
+
+/* Takes a portion more. Refusals: 5. */
+mastdock_hash_updated mastdock_hash_update(mastdock_hash hash, const uint8_t *part, size_t part_len);
+
+/* The digest of all that was taken; the hash is handed back as it was. Refusals: 5. */
+mastdock_hash_finished mastdock_hash_finish(mastdock_hash hash);
+
+/* The digest of a whole message. A report's is its statement. Refusals: 5. */
+mastdock_digested mastdock_digest(const uint8_t *message, size_t message_len);
+
+/* ---- Runs in lent memory ---- */
+
+/* A run: statement, n, m, the labels made, and the held labels. When all labels are made, the root is in held[0..31]. */
+typedef struct mastdock_run {
+    uint8_t statement[32];
+    uint64_t depth;
+    uint64_t memory;
+    uint64_t made;
+    uint8_t held[MASTDOCK_HELD_SIZE];
+} mastdock_run;
+
+typedef struct mastdock_run_started {
+    uint64_t refusal;
+    mastdock_run run;
+} mastdock_run_started;
+
+typedef struct mastdock_run_advanced {
+    uint64_t refusal;
+    uint64_t labels;
+    mastdock_run run;
+} mastdock_run_advanced;
+
+/* A new run, for a store of MASTDOCK_STORE_SIZE(memory) bytes or more, which it leaves as it is. Refusals: 1, 2, 3. */
+mastdock_run_started mastdock_run_start(const uint8_t statement[32], uint64_t depth, uint64_t memory, const uint8_t *store,
+                                        size_t store_len);
+
+/* Makes exactly the smaller of the budget and the labels that remain; stored labels are written as made. Refusals: 4, 3. */
+mastdock_run_advanced mastdock_run_advance(mastdock_run run, uint64_t budget, uint8_t *store, size_t store_len);
+
+/* ---- Openings ---- */
+
+/* An opening under way: a run's state with the leaf; count and held labels are those of the nodes labelled anew. */
+typedef struct mastdock_opening {
+    uint8_t statement[32];
+    uint64_t depth;
+    uint64_t memory;
+    uint64_t leaf;
+    uint64_t made;
+    uint8_t held[MASTDOCK_HELD_SIZE];
+} mastdock_opening;
+
+typedef struct mastdock_opening_started {
+    uint64_t refusal;
+    mastdock_opening opening;
+} mastdock_opening_started;
+
+typedef struct mastdock_opening_advanced {
+    uint64_t refusal;
+    uint64_t labels;
+    mastdock_opening opening;
+} mastdock_opening_advanced;
+
+/* A new opening of a leaf: copies what the store holds of it to the MASTDOCK_OPENING_SIZE(depth) bytes of the output. The store is
+ * a finished run's of the same statement, depth and memory level. Refusals: 1, 2, 3, 6, 7. */
+mastdock_opening_started mastdock_opening_start(const uint8_t statement[32], uint64_t depth, uint64_t memory, uint64_t leaf,
+                                                const uint8_t *store, size_t store_len, uint8_t *out, size_t out_len);
+
+/* Makes anew exactly the smaller of the budget and the labels that remain, and puts those of the opening in their places of the
+ * output. Refusals: 4, 3, 7. */
+mastdock_opening_advanced mastdock_opening_advance(mastdock_opening opening, uint64_t budget, const uint8_t *store,
+                                                   size_t store_len, uint8_t *out, size_t out_len);
+
+/* ---- Challenges and the file ---- */
+
+typedef struct mastdock_challenged {
+    uint64_t refusal;
+    uint64_t leaf;
+} mastdock_challenged;
+
+/* A part of lent bytes; 0 and 0 where there is none. */
+typedef struct mastdock_place {
+    size_t offset;
+    size_t length;
+} mastdock_place;
+
+/* The leaf of challenge i, from 1. Refusals: 1, 8. */
+mastdock_challenged mastdock_challenge(const uint8_t statement[32], const uint8_t root[32], uint64_t depth, uint64_t i);
+
+/* Writes the head of a file of so many openings: MASTDOCK_HEAD_SIZE(count) bytes at its front. The openings follow it in the order
+ * of their challenges. Gives the refusal: 1, 8, 7 (the whole file must fit). */
+uint64_t mastdock_write_head(const uint8_t statement[32], const uint8_t root[32], uint64_t depth, uint64_t count, uint8_t *file,
+                             size_t file_len);
+
+/* Where opening i, from 1, lies in a file: nowhere if a head number is refused, the length is not the layout's, or there is no
+ * opening of that number. No refusal. */
+mastdock_place mastdock_opening_place(const uint8_t *file, size_t file_len, uint64_t i);
+
+/* Checks one opening of a leaf against a root. Gives the refusal, 0 if it is right: 1, 6, 10, 13, 14, 15. */
+uint64_t mastdock_check_opening(const uint8_t statement[32], const uint8_t root[32], uint64_t depth, uint64_t leaf,
+                                const uint8_t *opening, size_t opening_len);
+
+/* Checks a file against the statement, depth and count that are wanted. Gives 0 if it is accepted, else 256 * refusal + opening,
+ * the opening from 1, or 0 outside openings. Refusals: edition 10, 11, 12; depth 10, 11, 1; count 10, 11, 8; 10; 13; 9; then for
+ * each opening 14, 15. */
+uint64_t mastdock_check_file(const uint8_t *file, size_t file_len, const uint8_t statement[32], uint64_t depth, uint64_t count);
+
+/* ---- Chains ---- */
+
+typedef struct mastdock_planned {
+    uint64_t refusal;
+    uint64_t count;
+} mastdock_planned;
+
+/* Writes the nodes on the leaves' ways to the root, in labelling order, each once, as 2^level + position, and gives their count.
+ * Leaves may stand in any order and repeat. Refusals: 1, 8, 6, 16. */
+mastdock_planned mastdock_plan(uint64_t depth, const uint64_t *leaves, size_t leaves_len, uint64_t *list, size_t list_len);
+
+#ifdef __cplusplus
+}
+#endif
+
+/* The layout that the library was compiled with. */
+#ifdef __cplusplus
+#define MASTDOCK_ASSERT(condition) static_assert(condition, #condition)
+#else
+#define MASTDOCK_ASSERT(condition) _Static_assert(condition, #condition)
+#endif
+#define MASTDOCK_AT(type, field, offset) MASTDOCK_ASSERT(offsetof(type, field) == (offset))
+
+MASTDOCK_ASSERT(sizeof(size_t) == 8);
+
+MASTDOCK_ASSERT(sizeof(mastdock_hash) == 104);
+MASTDOCK_AT(mastdock_hash, words, 0);
+MASTDOCK_AT(mastdock_hash, tail, 32);
+MASTDOCK_AT(mastdock_hash, taken, 96);
+
+MASTDOCK_ASSERT(sizeof(mastdock_hash_updated) == 112);
+MASTDOCK_AT(mastdock_hash_updated, refusal, 0);
+MASTDOCK_AT(mastdock_hash_updated, hash, 8);
+
+MASTDOCK_ASSERT(sizeof(mastdock_hash_finished) == 144);
+MASTDOCK_AT(mastdock_hash_finished, refusal, 0);
+MASTDOCK_AT(mastdock_hash_finished, digest, 8);
+MASTDOCK_AT(mastdock_hash_finished, hash, 40);
+
+MASTDOCK_ASSERT(sizeof(mastdock_digested) == 40);
+MASTDOCK_AT(mastdock_digested, refusal, 0);
+MASTDOCK_AT(mastdock_digested, digest, 8);
+
+MASTDOCK_ASSERT(sizeof(mastdock_run) == 1368);
+MASTDOCK_AT(mastdock_run, statement, 0);
+MASTDOCK_AT(mastdock_run, depth, 32);
+MASTDOCK_AT(mastdock_run, memory, 40);
+MASTDOCK_AT(mastdock_run, made, 48);
+MASTDOCK_AT(mastdock_run, held, 56);
+
+MASTDOCK_ASSERT(sizeof(mastdock_run_started) == 1376);
+MASTDOCK_AT(mastdock_run_started, refusal, 0);
+MASTDOCK_AT(mastdock_run_started, run, 8);
+
+MASTDOCK_ASSERT(sizeof(mastdock_run_advanced) == 1384);
+MASTDOCK_AT(mastdock_run_advanced, refusal, 0);
+MASTDOCK_AT(mastdock_run_advanced, labels, 8);
+MASTDOCK_AT(mastdock_run_advanced, run, 16);
+
+MASTDOCK_ASSERT(sizeof(mastdock_opening) == 1376);
+MASTDOCK_AT(mastdock_opening, statement, 0);
+MASTDOCK_AT(mastdock_opening, depth, 32);
+MASTDOCK_AT(mastdock_opening, memory, 40);
+MASTDOCK_AT(mastdock_opening, leaf, 48);
+MASTDOCK_AT(mastdock_opening, made, 56);
+MASTDOCK_AT(mastdock_opening, held, 64);
+
+MASTDOCK_ASSERT(sizeof(mastdock_opening_started) == 1384);
+MASTDOCK_AT(mastdock_opening_started, refusal, 0);
+MASTDOCK_AT(mastdock_opening_started, opening, 8);
+
+MASTDOCK_ASSERT(sizeof(mastdock_opening_advanced) == 1392);
+MASTDOCK_AT(mastdock_opening_advanced, refusal, 0);
+MASTDOCK_AT(mastdock_opening_advanced, labels, 8);
+MASTDOCK_AT(mastdock_opening_advanced, opening, 16);
+
+MASTDOCK_ASSERT(sizeof(mastdock_challenged) == 16);
+MASTDOCK_AT(mastdock_challenged, refusal, 0);
+MASTDOCK_AT(mastdock_challenged, leaf, 8);
+
+MASTDOCK_ASSERT(sizeof(mastdock_place) == 16);
+MASTDOCK_AT(mastdock_place, offset, 0);
+MASTDOCK_AT(mastdock_place, length, 8);
+
+MASTDOCK_ASSERT(sizeof(mastdock_planned) == 16);
+MASTDOCK_AT(mastdock_planned, refusal, 0);
+MASTDOCK_AT(mastdock_planned, count, 8);
+
+/* Document 01's table: T5, T8 and T9. */
+MASTDOCK_ASSERT(MASTDOCK_STORE_SIZE(0) == 32 && MASTDOCK_STORE_SIZE(10) == 65504);
+MASTDOCK_ASSERT(MASTDOCK_FILE_SIZE(1, 1) == 131 && MASTDOCK_FILE_SIZE(40, 200) == 262468);
+
+#undef MASTDOCK_AT
+#undef MASTDOCK_ASSERT
+
+#endif

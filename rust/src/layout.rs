@@ -1,0 +1,30 @@
+//! The layout that the library was compiled with: the assertions of `include/mastdock.h`.
+use crate::ffi::*;
+use crate::{Hash, Opening, Place, Run};
+use std::mem::{align_of, offset_of, size_of};
+
+/// Size and alignment of a struct, and the offset of each field.
+macro_rules! layout {
+    ($name:ty, $size:literal, $align:literal, $($field:ident $offset:literal),*) => {
+        const _: () = {
+            assert!(size_of::<$name>() == $size);
+            assert!(align_of::<$name>() == $align);
+            $(assert!(offset_of!($name, $field) == $offset);)*
+        };
+    };
+}
+
+const _: () = assert!(size_of::<usize>() == 8);
+layout!(Hash, 104, 8, words 0, tail 32, taken 96);
+layout!(HashUpdated, 112, 8, refusal 0, hash 8);
+layout!(HashFinished, 144, 8, refusal 0, digest 8, hash 40);
+layout!(Digested, 40, 8, refusal 0, digest 8);
+layout!(Run, 1368, 8, statement 0, depth 32, memory 40, made 48, held 56);
+layout!(RunStarted, 1376, 8, refusal 0, run 8);
+layout!(RunAdvanced, 1384, 8, refusal 0, labels 8, run 16);
+layout!(Opening, 1376, 8, statement 0, depth 32, memory 40, leaf 48, made 56, held 64);
+layout!(OpeningStarted, 1384, 8, refusal 0, opening 8);
+layout!(OpeningAdvanced, 1392, 8, refusal 0, labels 8, opening 16);
+layout!(Challenged, 16, 8, refusal 0, leaf 8);
+layout!(Place, 16, 8, offset 0, length 8);
+layout!(Planned, 16, 8, refusal 0, count 8);

@@ -1,0 +1,45 @@
+//! Runs in lent memory.
+use crate::ffi;
+use crate::refusal::{answered, Refusal};
+use crate::sizes::{labels, HELD_SIZE};
+
+/// A run. Every value of the fields is possible: one that cannot be continued is refused with 4.
+#[repr(C)]
+#[derive(Clone, Debug, PartialEq, Eq)]
+pub struct Run {
+    pub statement: [u8; 32],
+    pub depth: u64,
+    /// The memory level: the store keeps levels 0 to this one.
+    pub memory: u64,
+    /// How many labels were made.
+    pub made: u64,
+    /// 41 places of 32 bytes for held labels.
+    pub held: [u8; HELD_SIZE],
+}
+
+impl Run {
+    /// A new run, for a store of [`store_size`](crate::store_size) bytes or more, which it leaves as it is. Refused with 1, 2, 3.
+    pub fn start(statement: &[u8; 32], depth: u64, memory: u64, store: &[u8]) -> Result<Run, Refusal> {
+        // SAFETY: pointers and lengths are those of a reference and a slice.
+        let started = unsafe { ffi::mastdock_run_start(statement, depth, memory, store.as_ptr(), store.len()) };
+        answered(started.refusal, started.run)
+    }
+
+    /// Makes exactly the smaller of the budget and the labels that remain, and gives that number. Stored labels are written as
+    /// made. Refused with 4, 3, which changes nothing.
+    pub fn advance(&mut self, budget: u64, store: &mut [u8]) -> Result<u64, Refusal> {
+        // SAFETY: pointer and length are a slice's, which is borrowed alone, and every state is allowed.
+        let advanced = unsafe { ffi::mastdock_run_advance(self.clone(), budget, store.as_mut_ptr(), store.len()) };
+        *self = advanced.run;
+        answered(advanced.refusal, advanced.labels)
+    }
+
+    /// The root's label, if all labels are made.
+    pub fn root(&self) -> Option<[u8; 32]> {
+        if labels(self.depth) == Some(self.made) {
+            self.held.first_chunk().copied()
+        } else {
+            None
+        }
+    }
+}

@@ -1,0 +1,83 @@
+//! The cases: inputs, a call, the model's answer, and the comparison.
+mod chain;
+mod file;
+mod hash;
+mod opening;
+mod run;
+
+use crate::random::Random;
+pub use file::proof_file;
+use mastdock::Refusal;
+use std::collections::BTreeMap;
+use std::sync::Mutex;
+
+/// A part of the tests: how many cases it has for a seed, and one of them, which gives the number of calls that it compared.
+pub struct Part {
+    pub name: &'static str,
+    pub cases: u64,
+    pub run: fn(&mut Random) -> u64,
+}
+
+pub const PARTS: &[Part] = &[
+    Part { name: "digest: one call", cases: 6000, run: hash::digests },
+    Part { name: "hash: portions from the start", cases: 2000, run: hash::portions },
+    Part { name: "hash: any state", cases: 4000, run: hash::any_state },
+    Part { name: "run: start", cases: 3000, run: run::starts },
+    Part { name: "run: whole runs by budgets", cases: 300, run: run::whole },
+    Part { name: "run: any state", cases: 6000, run: run::any_state },
+    Part { name: "run: the largest store", cases: 2, run: run::largest_store },
+    Part { name: "opening: start", cases: 4000, run: opening::starts },
+    Part { name: "opening: whole openings by budgets", cases: 700, run: opening::whole },
+    Part { name: "opening: any state", cases: 5000, run: opening::any_state },
+    Part { name: "challenge", cases: 5000, run: file::challenges },
+    Part { name: "head written", cases: 5000, run: file::heads },
+    Part { name: "where openings lie", cases: 1500, run: file::places },
+    Part { name: "one opening checked", cases: 4000, run: file::openings },
+    Part { name: "file checked", cases: 4000, run: file::files },
+    Part { name: "plan", cases: 6000, run: chain::plans },
+];
+
+/// The numbers of each place of document 01's table, 0 for none. All of them are to be seen; only so many bytes that the digest in
+/// one call refuses them cannot be lent.
+const ROWS: &[(&str, &[u64])] = &[
+    ("hash update", &[0, 5]),
+    ("hash finish", &[0, 5]),
+    ("digest", &[0]),
+    ("run start", &[0, 1, 2, 3]),
+    ("run advance", &[0, 4, 3]),
+    ("opening start", &[0, 1, 2, 3, 6, 7]),
+    ("opening advance", &[0, 4, 3, 7]),
+    ("challenge", &[0, 1, 8]),
+    ("write head", &[0, 1, 8, 7]),
+    ("check opening", &[0, 1, 6, 10, 13, 14, 15]),
+    ("check file", &[0, 10, 11, 12, 1, 8, 13, 9, 14, 15]),
+    ("plan", &[0, 1, 8, 6, 16]),
+];
+
+/// How often each place answered each number.
+static SEEN: Mutex<BTreeMap<(&str, u64), u64>> = Mutex::new(BTreeMap::new());
+
+fn see(place: &'static str, number: u64) {
+    *SEEN.lock().unwrap().entry((place, number)).or_default() += 1;
+}
+
+/// A refusal's number, to compare with the model's.
+fn numbered<A>(place: &'static str, answer: Result<A, Refusal>) -> Result<A, u64> {
+    let answer = answer.map_err(Refusal::number);
+    see(place, answer.as_ref().err().copied().unwrap_or(0));
+    answer
+}
+
+/// Prints how often each number was seen, and fails if one of a row was not.
+pub fn print_seen() {
+    let seen = SEEN.lock().unwrap();
+    let times = |place, number| seen.get(&(place, number)).copied().unwrap_or(0);
+    for (place, numbers) in ROWS {
+        let counts: Vec<String> = numbers.iter().map(|number| format!("{number}: {}", times(place, *number))).collect();
+        println!("  {place:<16} {}", counts.join(", "));
+    }
+    for (place, numbers) in ROWS {
+        assert!(numbers.iter().all(|number| times(place, *number) > 0), "{place}: a number was not seen");
+    }
+    assert!(seen.keys().all(|(place, _)| ROWS.iter().any(|row| row.0 == *place)), "a place is not in the table");
+}

@@ -1,0 +1,123 @@
+use super::numbered;
+use crate::lent::Lent;
+use crate::model::run::{advance, start, store_size};
+use crate::model::tree::{place_in_order, size, Labels, Node};
+use crate::random::Random;
+use mastdock::{ffi, Run};
+
+/// What stands beside a refused start.
+const NO_RUN: Run = Run { statement: [0; 32], depth: 0, memory: 0, made: 0, held: [0; 1312] };
+
+/// A depth and a memory level, refused now and then, and a store near the size for it.
+pub fn level_and_store(random: &mut Random, deepest: u64, most: u64) -> (u64, u64, Vec<u8>) {
+    let n = random.between(1, deepest);
+    let m = random.below(n.min(most) + 1);
+    let len = random.near(store_size(m));
+    let store = random.bytes(len);
+    let n = random.or_edge(n, 40);
+    let m = if random.once_in(8) { random.pick(&[n.wrapping_add(1), 20, 21, 64, u64::MAX]) } else { m };
+    (n, m, store)
+}
+
+pub fn starts(random: &mut Random) -> u64 {
+    let statement = random.array();
+    let (n, m, store) = level_and_store(random, 40, 6);
+    let mut lent = Lent::bytes(random, &store);
+    let expected = start(&statement, n, m, &store);
+    assert_eq!(numbered("run start", Run::start(&statement, n, m, lent.get())), expected);
+    lent.is_now(&store);
+    // SAFETY: pointers and length are those of a reference and a slice.
+    let started = unsafe { ffi::mastdock_run_start(&statement, n, m, store.as_ptr(), store.len()) };
+    assert_eq!(started.run, expected.unwrap_or(NO_RUN));
+    2
+}
+
+/// One call on a run and its store.
+fn advance_both(random: &mut Random, run: &mut Run, budget: u64, store: &mut [u8]) {
+    let mut lent = Lent::bytes(random, store);
+    let mut model = run.clone();
+    assert_eq!(numbered("run advance", run.advance(budget, lent.get())), advance(&mut model, budget, store));
+    assert_eq!(*run, model);
+    lent.is_now(store);
+}
+
+pub fn whole(random: &mut Random) -> u64 {
+    let statement = random.array();
+    let n = random.between(1, 8);
+    let m = random.below(n + 1);
+    let beyond = random.below(50) as usize;
+    let mut store = random.bytes(store_size(m) + beyond);
+    let old = store.clone();
+    let mut run = Run::start(&statement, n, m, &store).unwrap();
+    let most = random.pick(&[2, 10, 100, 1000]);
+    let mut calls = 0;
+    while run.made < size(n) {
+        assert_eq!(run.root(), None);
+        let budget = random.below(most);
+        advance_both(random, &mut run, budget, &mut store);
+        calls += 1;
+    }
+    // 'Budget 0 and a finished run change nothing.'
+    let done = run.clone();
+    advance_both(random, &mut run, 5, &mut store);
+    assert_eq!(run, done);
+    let labels = Labels::of(statement, n);
+    assert_eq!(run.root(), Some(labels.root()));
+    assert_eq!(store, [labels.store(m), old[store_size(m)..].to_vec()].concat());
+    calls + 1
+}
+
+/// Labels made, of so many: any, near the end, or so that a node of a stored level is next.
+fn made(random: &mut Random, n: u64, m: u64) -> u64 {
+    match random.below(4) {
+        0 => size(n) - random.below(6).min(size(n)),
+        1 => random.below(size(n) + 1),
+        _ => {
+            let level = random.below(m + 1);
+            let position = random.below(1 << level);
+            place_in_order(n, Node::at(level, position))
+        }
+    }
+}
+
+pub fn any_state(random: &mut Random) -> u64 {
+    let (n, m, mut store) = level_and_store(random, 40, 5);
+    let possible = (1..=40).contains(&n) && m <= n.min(20);
+    let made = match random.once_in(10) {
+        true => random.wide(),
+        false if possible => made(random, n, m),
+        false => random.wide(),
+    };
+    let over = possible && random.once_in(10);
+    let mut run = Run {
+        statement: random.array(),
+        depth: n,
+        memory: m,
+        made: if over { size(n) + random.below(3) } else { made },
+        held: random.array(),
+    };
+    let budget = random.below(6);
+    advance_both(random, &mut run, budget, &mut store);
+    1
+}
+
+/// Memory level 20: enough, and one byte short.
+pub fn largest_store(random: &mut Random) -> u64 {
+    let statement = random.array();
+    let n = random.between(20, 40);
+    let mut store = vec![0; store_size(20)];
+    let short = store.len() - 1;
+    assert_eq!(numbered("run start", Run::start(&statement, n, 20, &store[..short])), Err(3));
+    let mut run = Run::start(&statement, n, 20, &store).unwrap();
+    let position = random.below(1 << 20);
+    run.made = place_in_order(n, Node::at(20, position));
+    run.held = random.array();
+    let mut model = run.clone();
+    let mut expected = store.clone();
+    assert_eq!(numbered("run advance", run.advance(1, &mut store[..short])), Err(3));
+    assert_eq!(run, model);
+    assert_eq!(numbered("run advance", run.advance(3, &mut store)), advance(&mut model, 3, &mut expected));
+    assert_eq!(run, model);
+    assert!(store == expected);
+    4
+}

@@ -1,0 +1,118 @@
+//! Document 01, 'Table and other cases': T1 to T12 and the rest, each through the library where a call shows it and else by the
+//! model; and the comparison, 'tested on openings made by hand'.
+use crate::model::chain::{compare, Clash};
+use crate::model::file::{groups, inputs};
+use crate::model::run::slot;
+use crate::model::sha256;
+use crate::model::tree::{input, parents, Node};
+use mastdock::{challenge, check_file, file_size, plan, write_head, Opening, Refusal, Rejected, Run};
+
+pub fn run() {
+    labels();
+    sizes();
+    numbers();
+    chains();
+    limits();
+    clashes();
+}
+
+/// The parents of a leaf and the length of its hash input.
+fn leaf_input(n: u64, leaf: u64) -> (Vec<Node>, usize) {
+    let parents = parents(n, Node::at(n, leaf));
+    let len = input(&[0; 32], Node::at(n, leaf), &vec![[0; 32]; parents.len()]).len();
+    (parents, len)
+}
+
+/// T1 to T4, T6.
+fn labels() {
+    assert_eq!(leaf_input(4, 0b1101), (vec![Node::at(1, 0), Node::at(2, 0b10), Node::at(4, 0b1100)], 137));
+    assert_eq!(leaf_input(4, 0), (vec![], 41));
+    assert_eq!(input(&[0; 32], Node::at(2, 1), &[[0; 32]; 2]).len(), 105);
+    assert_eq!(leaf_input(40, (1 << 40) - 1).1, 1321);
+    assert_eq!(slot(Node::at(2, 3)), 32 * 6);
+}
+
+/// T5, T8, T9.
+fn sizes() {
+    for (m, size) in [(0, 32), (10, 65504)] {
+        assert!(Run::start(&[0; 32], 10, m, &vec![0; size]).is_ok());
+        assert_eq!(Run::start(&[0; 32], 10, m, &vec![0; size - 1]), Err(Refusal::ShortStore));
+    }
+    for (n, t, size) in [(1, 1, 131), (40, 200, 262468)] {
+        assert_eq!(file_size(n, t), Some(size));
+        assert_eq!(write_head(&[0; 32], &[0; 32], n, t, &mut vec![0; size]), Ok(()));
+        assert_eq!(write_head(&[0; 32], &[0; 32], n, t, &mut vec![0; size - 1]), Err(Refusal::ShortOutput));
+    }
+}
+
+fn rejected(refusal: Refusal) -> Result<(), Rejected> {
+    Err(Rejected { refusal, opening: 0 })
+}
+
+/// T7; an empty file, and one byte more than the layout.
+fn numbers() {
+    assert_eq!((groups(128), groups(200)), (vec![0x80, 0x01], vec![0xc8, 0x01]));
+    let mut file = vec![0; file_size(1, 200).unwrap()];
+    for (t, bytes) in [(128, [0x80, 0x01]), (200, [0xc8, 0x01])] {
+        write_head(&[0; 32], &[0; 32], 1, t, &mut file).unwrap();
+        assert_eq!(file[2..4], bytes);
+    }
+    assert_eq!(check_file(&[1, 1, 0xc8, 0], &[0; 32], 1, 200), rejected(Refusal::NotShortest));
+    assert_eq!(check_file(&[], &[0; 32], 1, 200), rejected(Refusal::BytesEnd));
+    file.push(0);
+    assert_eq!(check_file(&file, &[0; 32], 1, 200), rejected(Refusal::BytesLeft));
+}
+
+/// T10 to T12; 'With t = 200 at most 6,855 nodes', which so many leaves spread over levels 7 and 8 have.
+fn chains() {
+    let count = |n: u64, leaves: &[u64]| plan(n, leaves, &mut [0; 6855]).unwrap();
+    assert_eq!(count(2, &[0]), 3);
+    assert_eq!(count(2, &[0, 3]), 5);
+    assert_eq!(count(4, &[0, 1, 2, 3, 8, 9, 13, 14, 15]), 20);
+    let left = (0..128u64).map(|i| i << 33);
+    let right = (0..72u64).map(|i| (2 * i + 1) << 32);
+    assert_eq!(count(40, &left.chain(right).collect::<Vec<u64>>()), 6855);
+}
+
+/// 'n 0 and 41 refused, 1 and 40 accepted; n = 3 with m = 3 opens with no new label, m = 4 refused; t 0 and 201 refused'.
+fn limits() {
+    let store = [7; 480];
+    for (n, refused) in [(0, true), (41, true), (1, false), (40, false)] {
+        assert_eq!(Run::start(&[0; 32], n, 0, &store) == Err(Refusal::Depth), refused);
+        assert_eq!(Opening::start(&[0; 32], n, 0, 0, &store, &mut [0; 1312]) == Err(Refusal::Depth), refused);
+        assert_eq!(challenge(&[0; 32], &[0; 32], n, 1) == Err(Refusal::Depth), refused);
+        assert_eq!(plan(n, &[0], &mut [0; 41]) == Err(Refusal::Depth), refused);
+    }
+    let mut out = [0; 128];
+    let mut opening = Opening::start(&[0; 32], 3, 3, 5, &store, &mut out).unwrap();
+    assert_eq!(out, [7; 128]);
+    assert_eq!(opening.advance(1, &store, &mut out), Ok(0));
+    assert_eq!(Opening::start(&[0; 32], 3, 4, 5, &store, &mut out), Err(Refusal::MemoryLevel));
+    for (t, refused) in [(0, true), (201, true), (1, false), (200, false)] {
+        assert_eq!(challenge(&[0; 32], &[0; 32], 1, t) == Err(Refusal::Count), refused);
+        assert_eq!(write_head(&[0; 32], &[0; 32], 1, t, &mut [0; 13000]) == Err(Refusal::Count), refused);
+        assert_eq!(plan(1, &vec![0; t as usize], &mut [0; 3]) == Err(Refusal::Count), refused);
+    }
+}
+
+/// Openings of leaves 0, 1 and 0 at depth 2 by hand.
+fn clashes() {
+    let statement = [9; 32];
+    let [a, b, c, d] = [[1; 32], [2; 32], [3; 32], [4; 32]];
+    let first = [a, b, c].concat();
+    let none = [&first[..], &[b, a, c].concat(), &first].concat();
+    assert_eq!(compare(&statement, 2, &[0, 1, 0], &none), Ok(None));
+    // The third gives another sibling of the leaf, so its computed label on level 1 differs as well: the root comes first.
+    let third = [a, d, c].concat();
+    let clash = [&first[..], &[b, a, c].concat(), &third].concat();
+    let expected = Clash {
+        i: 1,
+        j: 3,
+        level: 0,
+        first: inputs(&statement, 2, 0, &first)[2].clone(),
+        second: inputs(&statement, 2, 0, &third)[2].clone(),
+    };
+    assert_eq!(expected.first[73..], c);
+    assert_eq!(expected.first[41..73], sha256::digest(&input(&statement, Node::at(1, 0), &[a, b])));
+    assert_eq!(compare(&statement, 2, &[0, 1, 0], &clash), Ok(Some(expected)));
+}

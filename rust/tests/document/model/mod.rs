@@ -1,0 +1,42 @@
+//! Document 01 written out in Rust, from the document and for reading: no care for speed, and nothing taken from the Rattle code.
+//! Its sentences are cited. Refusals are its numbers. States are the crate's plain structs.
+pub mod chain;
+pub mod file;
+pub mod opening;
+pub mod run;
+pub mod sha256;
+pub mod step;
+pub mod tree;
+pub mod writing;
+
+/// A label, a statement or a root.
+pub type Label = [u8; 32];
+
+/// 'n not 1..40'.
+pub fn depth_refused(n: u64) -> bool {
+    !(1..=40).contains(&n)
+}
+
+/// 'i not 1..200', 't not 1..200', 'not 1..200 leaves'.
+pub fn count_refused(x: u64) -> bool {
+    !(1..=200).contains(&x)
+}
+
+/// 'm over min(n, 20)'.
+pub fn memory_refused(n: u64, m: u64) -> bool {
+    m > n.min(20)
+}
+
+/// 'Within a place the order is as listed. Each is given just when its condition holds and no earlier one did.' The conditions are
+/// functions, since a later one may be meaningless where an earlier one holds.
+pub fn row(checks: &[(u64, &dyn Fn() -> bool)]) -> Result<(), u64> {
+    match checks.iter().find(|(_, holds)| holds()) {
+        Some((number, _)) => Err(*number),
+        None => Ok(()),
+    }
+}
+
+/// The 32 bytes at a place.
+pub fn label_at(bytes: &[u8], at: usize) -> Label {
+    bytes[at..at + 32].try_into().unwrap()
+}

@@ -1,0 +1,41 @@
+//! Document 01, 'Runs in lent memory': runs.
+use super::step::step;
+use super::tree::{size, Node, ROOT};
+use super::{depth_refused, memory_refused, row, Label};
+use mastdock::Run;
+
+/// 'It needs 32 × (2^(m+1) − 1) bytes'.
+pub fn store_size(m: u64) -> usize {
+    32 * ((2 << m) - 1)
+}
+
+/// 'level l, position p, takes 32 bytes from 32 × (2^l − 1 + p)'.
+pub fn slot(v: Node) -> usize {
+    32 * ((1 << v.level) - 1 + v.position as usize)
+}
+
+/// 'A new run has made 0 labels and all its places are zero; starting it writes nothing to the store.' Row 'Starting a run'.
+pub fn start(statement: &Label, n: u64, m: u64, store: &[u8]) -> Result<Run, u64> {
+    row(&[(1, &|| depth_refused(n)), (2, &|| memory_refused(n, m)), (3, &|| store.len() < store_size(m))])?;
+    Ok(Run { statement: *statement, depth: n, memory: m, made: 0, held: [0; 1312] })
+}
+
+/// 'A call with a budget labels exactly the smaller of the budget and what remains, reports that number, and hands back the run as
+/// it now is. Stored labels are written as made.' Row 'Continuing a run'.
+pub fn advance(run: &mut Run, budget: u64, store: &mut [u8]) -> Result<u64, u64> {
+    let (n, m) = (run.depth, run.memory);
+    row(&[
+        (4, &|| depth_refused(n) || memory_refused(n, m) || run.made > size(n)),
+        (3, &|| store.len() < store_size(m)),
+    ])?;
+    let labels = budget.min(size(n) - run.made);
+    for _ in 0..labels {
+        let none = |w: Node| unreachable!("{w:?} is in the tree");
+        let (v, label) = step(&run.statement, n, ROOT, run.made, &mut run.held, &none);
+        if v.level <= m {
+            store[slot(v)..][..32].copy_from_slice(&label);
+        }
+        run.made += 1;
+    }
+    Ok(labels)
+}

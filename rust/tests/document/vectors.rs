@@ -1,0 +1,188 @@
+//! The shared vectors, each through the library and through the model.
+use crate::cases::proof_file;
+use crate::model::chain::{draw, leaves_opened, plan, Drawn};
+use crate::model::file::{check, code};
+use crate::model::tree::Labels;
+use crate::model::{run, sha256, writing};
+use mastdock::{
+    challenge, check_file, digest, file_size, head_size, opening_size, store_size, write_head, Opening, Rejected, Run,
+    MAX_CHAIN,
+};
+
+/// The lines of a file of vectors, as words.
+fn lines(text: &str) -> impl Iterator<Item = Vec<&str>> {
+    text.lines().filter(|line| !line.starts_with('#') && !line.is_empty()).map(|line| line.split(' ').collect())
+}
+
+/// Bytes in hex, `-` if there are none.
+fn hex(word: &str) -> Vec<u8> {
+    match word {
+        "-" => vec![],
+        word => (0..word.len()).step_by(2).map(|i| u8::from_str_radix(&word[i..i + 2], 16).unwrap()).collect(),
+    }
+}
+
+fn label(word: &str) -> [u8; 32] {
+    hex(word).try_into().unwrap()
+}
+
+fn number(word: &str) -> u64 {
+    word.parse().unwrap()
+}
+
+/// Runs all of them. Gives their number.
+pub fn run() -> usize {
+    digests() + roots() + files() + checks() + chains() + plans()
+}
+
+/// `length L, SHA-256 of the L bytes whose i-th, from 0, is (7 i + L) mod 256`
+fn digests() -> usize {
+    let mut count = 0;
+    for words in lines(include_str!("../vectors/sha256.txt")) {
+        let (len, expected) = (number(words[0]), label(words[1]));
+        let message: Vec<u8> = (0..len).map(|i| (7 * i + len) as u8).collect();
+        assert_eq!(digest(&message), Ok(expected));
+        assert_eq!(sha256::digest(&message), expected);
+        count += 1;
+    }
+    count
+}
+
+/// A finished run and its store.
+fn stamp(statement: &[u8; 32], n: u64, m: u64) -> (Run, Vec<u8>) {
+    let mut store = vec![0; store_size(m).unwrap()];
+    let mut run = Run::start(statement, n, m, &store).unwrap();
+    while run.advance(100, &mut store).unwrap() != 0 {}
+    (run, store)
+}
+
+/// `report in hex (- if empty), depth, root, memory level, SHA-256 of the whole store at that level`
+fn roots() -> usize {
+    let mut count = 0;
+    for words in lines(include_str!("../vectors/roots.txt")) {
+        let (n, m, root) = (number(words[1]), number(words[3]), label(words[2]));
+        let statement = digest(&hex(words[0])).unwrap();
+        let (run, store) = stamp(&statement, n, m);
+        assert_eq!((run.root(), digest(&store)), (Some(root), Ok(label(words[4]))));
+        let mut model_store = vec![0; run::store_size(m)];
+        let mut model = run::start(&statement, n, m, &model_store).unwrap();
+        assert_eq!(run::advance(&mut model, u64::MAX, &mut model_store), Ok(run.made));
+        assert!(model == run && model_store == store);
+        count += 1;
+    }
+    count
+}
+
+/// The proof file of a report, by the library.
+fn seal(report: &[u8], n: u64, m: u64, t: u64) -> Vec<u8> {
+    let statement = digest(report).unwrap();
+    let (run, store) = stamp(&statement, n, m);
+    let root = run.root().unwrap();
+    let mut file = vec![0; file_size(n, t).unwrap()];
+    write_head(&statement, &root, n, t, &mut file).unwrap();
+    let openings = &mut file[head_size(t).unwrap()..];
+    for (i, out) in (1..).zip(openings.chunks_exact_mut(opening_size(n).unwrap())) {
+        let leaf = challenge(&statement, &root, n, i).unwrap();
+        let mut opening = Opening::start(&statement, n, m, leaf, &store, out).unwrap();
+        while opening.advance(100, &store, out).unwrap() != 0 {}
+    }
+    file
+}
+
+/// The proof file of a report, by the model's writing over its own store.
+fn seal_by_model(labels: &Labels, m: u64, t: u64) -> Vec<u8> {
+    let store = labels.store(m);
+    let mut file = vec![0; file_size(labels.n, t).unwrap()];
+    let mut writing = writing::start(&labels.statement, &labels.root(), labels.n, m, t, &store, &mut file).unwrap();
+    while writing::advance(&mut writing, 37, &store, &mut file).unwrap() != 0 {}
+    file
+}
+
+/// `report in hex, depth, challenges, the whole proof file`
+fn files() -> usize {
+    let mut count = 0;
+    for words in lines(include_str!("../vectors/files.txt")) {
+        let (report, n, t, expected) = (hex(words[0]), number(words[1]), number(words[2]), hex(words[3]));
+        let labels = Labels::of(sha256::digest(&report), n);
+        assert_eq!(proof_file(&labels, t), expected);
+        for m in 0..=n {
+            assert_eq!(seal(&report, n, m, t), expected);
+            assert_eq!(seal_by_model(&labels, m, t), expected);
+        }
+        count += 1;
+    }
+    count
+}
+
+/// `proof file (- if empty), statement, depth and count wanted, answer as one number`
+fn checks() -> usize {
+    let mut count = 0;
+    for words in lines(include_str!("../vectors/checks.txt")) {
+        let (file, statement, n, t) = (hex(words[0]), label(words[1]), number(words[2]), number(words[3]));
+        assert_eq!(check_file(&file, &statement, n, t).map_or_else(Rejected::code, |()| 0), number(words[4]));
+        assert_eq!(code(check(&file, &statement, n, t)), number(words[4]));
+        count += 1;
+    }
+    count
+}
+
+/// `report in hex, depth, challenges, length of the file, SHA-256 of the file, length of its chain, SHA-256 of the chain's nodes,
+/// each in 8 bytes, big-endian`
+fn chains() -> usize {
+    let mut count = 0;
+    for words in lines(include_str!("../vectors/chains.txt")) {
+        let (report, n, t) = (hex(words[0]), number(words[1]), number(words[2]));
+        let file = seal(&report, n, 8, t);
+        assert_eq!((file.len() as u64, digest(&file)), (number(words[3]), Ok(label(words[4]))));
+        let mut planned = [0; MAX_CHAIN];
+        let length = mastdock::plan(n, &leaves_opened(&file), &mut planned).unwrap();
+        let nodes: Vec<u8> = planned[..length].iter().flat_map(|code| code.to_be_bytes()).collect();
+        assert_eq!((length as u64, digest(&nodes)), (number(words[5]), Ok(label(words[6]))));
+        let mut drawn = [0; MAX_CHAIN];
+        assert_eq!(draw(&file, &digest(&report).unwrap(), n, t, &mut drawn), Drawn::Chain(length as u64));
+        assert_eq!(drawn, planned);
+        count += 1;
+    }
+    count
+}
+
+/// What the planning program prints, over a way to plan.
+fn planning(text: &[u8], plan: impl Fn(u64, &[u64], &mut [u64]) -> Result<u64, u64>) -> String {
+    let known = text.len() <= 65536 && text.iter().all(|byte| byte.is_ascii_digit() || b" \n".contains(byte));
+    let text = String::from_utf8_lossy(text);
+    let numbers: Option<Vec<u64>> = text.split_ascii_whitespace().map(|word| word.parse().ok()).collect();
+    let (depth, leaves) = match numbers.as_deref() {
+        Some([depth, leaves @ ..]) if known => (*depth, leaves),
+        _ => return "refused 17\n".to_string(),
+    };
+    let mut list = [0; MAX_CHAIN];
+    match plan(depth, leaves, &mut list) {
+        Err(refusal) => format!("refused {refusal}\n"),
+        Ok(count) => {
+            let mut different = leaves.to_vec();
+            different.sort();
+            different.dedup();
+            let mut lines = format!("depth {depth} leaves {} chain {count}\n", different.len());
+            for code in &list[..count as usize] {
+                let level = code.ilog2();
+                lines += &format!("{level} {}\n", code - (1 << level));
+            }
+            lines
+        }
+    }
+}
+
+/// `standard input in hex (- if empty), what the planning program prints in hex`: through the library's plan and the model's.
+fn plans() -> usize {
+    let library = |n: u64, leaves: &[u64], list: &mut [u64]| {
+        mastdock::plan(n, leaves, list).map(|count| count as u64).map_err(|refusal| refusal.number())
+    };
+    let mut count = 0;
+    for words in lines(include_str!("../vectors/plans.txt")) {
+        let (text, expected) = (hex(words[0]), String::from_utf8(hex(words[1])).unwrap());
+        assert_eq!(planning(&text, library), expected);
+        assert_eq!(planning(&text, plan), expected);
+        count += 1;
+    }
+    count
+}
