@@ -1,7 +1,7 @@
 -- Any cut of budgets carries a file to its end, and it is then the tree's at every memory level.
 use mathlib.Core.Path.{_≡_, sym, ap, _∙_}
-use Prim.Native.Nat.{ℕ, zero, suc, _+_, _-_, _*_, _≤_, _<_, min}
-use native.Mathlib.Nat.{zero-add, add-zero, add-suc, sub-zero}
+use Prim.Native.Nat.{ℕ, _+_, _-_, _*_, _≤_, _<_, min}
+use native.Mathlib.Nat.{zero-add, sub-zero}
 use native.Mathlib.Omega.{arith}
 use mathlib.Core.List.{List, _++_}
 use lib.ListN.{length, take, drop, length-append, length-drop}
@@ -16,18 +16,13 @@ use Rattle.reached.proofs.Calls.{calls-reach, calls-report}
 use Rattle.reached.proofs.OpeningRun.{length-after}
 use Rattle.accepted.specs.TreeFile.{treeFile}
 use Rattle.writing.specs.Rows.{rewriteRow}
-use Rattle.writing.specs.Steps.{Written, stepped, steps, remaining, labelsIn, advanced}
+use Rattle.writing.specs.Steps.{steps, remaining, labelsIn, advanced}
+use Rattle.writing.proofs.StepLaws.{steps-add}
 use Rattle.filed.specs.Filed.{Writable, newFile, labelsAnew, laidSize, underWay, leafAfter, openingsDone, writtenAt, writtenAfter}
 use Rattle.filed.proofs.Laid.{size-next, size-fits, part-size, leaf-inside, laid-length, front-accepted}
-use Rattle.filed.proofs.Filing.{reached-at, file-written}
+use Rattle.filed.proofs.Filing.{stays-at, reached-at, file-written}
 use Rattle.filed.proofs.Rows.{rewrite-done}
 use Rattle.filed.proofs.Places.{Place, place-found, behind-place}
-
--- k labels and then j more
-pub steps-add : (store : List ℕ) (j k : ℕ) (s : Written) → steps store j (steps store k s) ≡ steps store (k + j) s
-unfolding steps
-steps-add store zero k s = rw (add-zero k)
-steps-add store (suc j) k s = rw (add-suc k j) (ap (stepped store) (steps-add store j k s))
 
 module _
     (statement : List ℕ) (n m t : ℕ) (store file : List ℕ) (size : length statement ≡ 32)
@@ -65,12 +60,13 @@ module _
         (omega (arith, size-next n t q, size-fits n t q few))
 
     goes-on-at :
-        rewriteRow (writtenAt statement n m t file q r .writing) (length store) (length (writtenAt statement n m t file q r .file)) ≡ Done
+        r < nodesAnew n m + (q + 2 - t)
+        → rewriteRow (writtenAt statement n m t file q r .writing) (length store) (length (writtenAt statement n m t file q r .file)) ≡ Done
     unfolding writtenAt underWay
-    goes-on-at =
+    goes-on-at small =
         rw length-at
         (rewrite-done (writtenAt statement n m t file q r .writing) (length store) (length file) fits under
-        (leaf-inside statement n q (fits .depth .1)) (omega arith))
+        (leaf-inside statement n q (fits .depth .1)) (omega arith) (stays-at statement n m t store file size holds fits q r small))
 
     remaining-at : remaining (writtenAt statement n m t file q r .writing) ≡ labelsAnew n m t - (q * nodesAnew n m + r)
     unfolding writtenAt underWay
@@ -90,7 +86,7 @@ module _
       (length (steps store k (newFile statement n m t store file) .file))
       ≡ Done
   unfolding writtenAfter
-  file-goes-on k small = rw (file-reached k small) (goes-on-at _ _ (place k small .inside) (at-place k small))
+  file-goes-on k small = rw (file-reached k small) (goes-on-at _ _ (place k small .inside) (at-place k small) (place k small .under))
 
   pub file-remaining :
       (k : ℕ) → k ≤ labelsAnew n m t

@@ -23,16 +23,11 @@ use Rattle.reached.specs.Openings.{HoldsLabels, newOpen, openAfter, outAfter}
 use Rattle.reached.proofs.OpeningRun.{opening-start, opening-step, length-after, opening-done}
 use Rattle.reached.proofs.OpeningCalls.{none-anew}
 use Rattle.accepted.specs.TreeFile.{rootOf, treeFile}
-use Rattle.writing.specs.Steps.{Written, begun, mayFollow, followed, stepped, newWriting, steps}
+use Rattle.writing.specs.Steps.{begun, mayFollow, followed, stepped, newWriting, steps}
+use Rattle.writing.proofs.StepLaws.{followed-stays}
 use Rattle.filed.specs.Filed.{laid, laidSize, underWay, leafAfter, writtenAt, Writable, newFile, labelsAnew}
 use Rattle.filed.proofs.Laid.{size-from, laid-length, laid-next, size-all, laid-all, laid-head, leaf-inside, part-size, part-split, front-accepted}
 use Rattle.filed.proofs.Places.{last-size}
-
--- nothing follows an opening that is not done, or is the last
-followed-stays : (store : List ℕ) (left : ℕ) (s : Written) → mayFollow (s .writing) ≡ false → followed store left s ≡ s
-unfolding followed
-followed-stays store zero s e = refl
-followed-stays store (suc left) s e = rw e
 
 -- a part of bytes
 part-there : (a b c : List ℕ) (at size : ℕ) → length a ≡ at → length b ≡ size → take size (drop at (a ++ (b ++ c))) ≡ b
@@ -122,16 +117,19 @@ module _
       rw (done, eq-eqb (nodesAnew n m) (nodesAnew n m) refl, lt-ltb (q + 1) t few, opening-ended q (omega arith))
       (ap (followed store left) (opening-begun (q + 1) few))
 
+  pub stays-at :
+      (q r : ℕ) → r < nodesAnew n m + (q + 2 - t) → mayFollow (writtenAt statement n m t file q r .writing) ≡ false
+  unfolding writtenAt underWay
+  stays-at q r small =
+      ⊎-elim
+      (λ before. rw (ne-eqb r (nodesAnew n m) (omega arith)))
+      (λ done. rw (le-ltb (q + 1) t (omega arith)) (both-false (eqb r (nodesAnew n m))))
+      (lt-or-le r (nodesAnew n m))
+
   follows-none :
       (left q r : ℕ) → r < nodesAnew n m + (q + 2 - t)
       → followed store left (writtenAt statement n m t file q r) ≡ writtenAt statement n m t file q r
-  unfolding writtenAt underWay
-  follows-none left q r small =
-      followed-stays store left (writtenAt statement n m t file q r)
-      (⊎-elim
-      (λ before. rw (ne-eqb r (nodesAnew n m) (omega arith)))
-      (λ done. rw (le-ltb (q + 1) t (omega arith)) (both-false (eqb r (nodesAnew n m))))
-      (lt-or-le r (nodesAnew n m)))
+  follows-none left q r small = followed-stays store left (writtenAt statement n m t file q r) (stays-at q r small)
 
   -- with no labels to make all openings follow at once
   follows-all :

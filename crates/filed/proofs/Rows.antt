@@ -20,7 +20,7 @@ use Rattle.accepted.specs.IsProof.{IsDepth, IsCount}
 use Rattle.accepted.proofs.RowLaws.{within, done-head}
 use Rattle.writing.specs.declared.Writing.{Writing}
 use Rattle.writing.specs.Rows.{writeRow, rewriteRow}
-use Rattle.writing.specs.Steps.{newWriting, started}
+use Rattle.writing.specs.Steps.{mayFollow, newWriting, started}
 use Rattle.filed.specs.Filed.{Writable}
 
 module _ (n m t store file : ℕ) where
@@ -72,10 +72,10 @@ started-done statement root n m t store file fits = rw (write-done n m t (length
 pub rewrite-done :
     (w : Writing) (store file : ℕ) → Writable (w .opening .depth) (w .opening .memory) (w .count) store file
     → w .opening .made ≤ nodesAnew (w .opening .depth) (w .opening .memory) → w .opening .leaf < 2 ^ (w .opening .depth)
-    → (1 ≤ w .number) × (w .number ≤ w .count)
+    → (1 ≤ w .number) × (w .number ≤ w .count) → mayFollow w ≡ false
     → rewriteRow w store file ≡ Done
 unfolding rewriteRow
-rewrite-done w store file fits few inside number =
+rewrite-done w store file fits few inside number under =
     rw (
       within 1 maxDepth (w .opening .depth) (fits .depth),
       le-ltb (min (w .opening .depth) maxMemory) (w .opening .memory) (fits .memory),
@@ -83,6 +83,7 @@ rewrite-done w store file fits few inside number =
       lt-leb (2 ^ (w .opening .depth)) (w .opening .leaf) inside,
       within 1 maxChallenges (w .count) (fits .count),
       within 1 (w .count) (w .number) number,
+      under,
       le-ltb store (storeSize (w .opening .memory)) (fits .storeFits),
       le-ltb file (fileSize (w .opening .depth) (w .count)) (fits .fileFits),
     )

@@ -35,7 +35,7 @@ fn output_short(depth: u64, out: usize) -> bool
     (out as u64) < 32 * (depth + 1)
 }
 
-fn not_possible(depth: u64, memory: u64, made: u64, leaf: u64) -> bool
+pub fn not_possible(depth: u64, memory: u64, made: u64, leaf: u64) -> bool
     ensures { λ r. ⌜ r ≡ either (impossible depth memory made (nodesAnew depth memory)) (leb (2 ^ depth) leaf) ⌝ }
 {
     if depth_outside(depth) {

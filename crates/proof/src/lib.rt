@@ -16,6 +16,7 @@ pub use place::Place;
 pub use place::opening_part;
 pub use place::opening_place;
 use refusal::Refusal;
+pub use writing::file_size;
 pub use writing::write_head;
 
 // What reading the head's numbers gives: depth, count and the place after them, or the refusal.

@@ -12,7 +12,7 @@ use refusal::Refusal;
 use verify::beyond;
 
 // The length of the whole file: edition and depth take a byte each, the count one or two.
-fn file_size(n: u64, t: u64) -> usize
+pub fn file_size(n: u64, t: u64) -> usize
     requires { ⌜ (n ≤ 40) × (t ≤ 200) ⌝ }
     ensures { λ r. ⌜ r ≡ fileSize n t ⌝ }
 {

@@ -2,7 +2,8 @@
 -- opening' (1, 2, 3) and then that of the head (8, 7); continuing takes the row 'Continuing an opening'.
 use Prim.Native.Nat.{ℕ, _^_}
 use mathlib.Core.List.{[], _∷_}
-use lib.Dec.{ltb, leb}
+use lib.Dec.{ltb, leb, eqb}
+use Rattle.base.specs.Choice.{both}
 use Rattle.base.specs.Limits.{maxDepth, maxChallenges}
 use Rattle.refusal.specs.declared.Refusal.the-variants.{Depth, MemoryLevel, ShortStore, State, ShortOutput, Count}
 use Rattle.refusal.specs.declared.Outcome.{Outcome}
@@ -26,7 +27,8 @@ writeRow n m t store file =
     ∷ []
     )
 
--- 4 (also a leaf of 2^n or more, a count not 1..200 or an opening's number not 1..t); 3; 7
+-- 4 (also a leaf of 2^n or more, a count not 1..200, an opening's number not 1..t, or an opening done that is not the last,
+-- which no start or call leaves); 3; 7
 unfoldable pub rewriteRow : Writing → ℕ → ℕ → Outcome
 rewriteRow w store file =
     let o : Opening = w .opening in
@@ -34,7 +36,9 @@ rewriteRow w store file =
     ((
       either
           (impossible (o .depth) (o .memory) (o .made) (nodesAnew (o .depth) (o .memory)))
-          (either (leb (2 ^ (o .depth)) (o .leaf)) (either (outside 1 maxChallenges (w .count)) (outside 1 (w .count) (w .number)))),
+          (either (leb (2 ^ (o .depth)) (o .leaf))
+          (either (outside 1 maxChallenges (w .count))
+          (either (outside 1 (w .count) (w .number)) (both (eqb (o .made) (nodesAnew (o .depth) (o .memory))) (ltb (w .number) (w .count)))))),
       State,
     )
     ∷ (ltb store (storeSize (o .memory)), ShortStore)

@@ -1,0 +1,148 @@
+-- The calls on an opening's part of the file, as the definitions have them.
+use mathlib.Core.Path.{_≡_, sym, ap, subst, _∙_}
+use mathlib.Core.List.{List, _++_}
+use Prim.Native.Nat.{ℕ, _+_, _-_, _^_, _≤_, _<_}
+use native.Mathlib.Omega.{arith}
+use lib.ListN.{length, take, drop}
+use Rattle.base.specs.Bytes.{written}
+use Rattle.verify.proofs.Parts.{part-size, part-length}
+use Rattle.opening.specs.declared.Opening.{Opening}
+use Rattle.opening.specs.Rows.{openingSize, nodesAnew}
+use Rattle.opening.specs.Steps as openings
+use Rattle.opening.specs.Possible.{openOf}
+use Rattle.proof.specs.Challenge.{challengeLeaf, challenged}
+use Rattle.proof.specs.Layout.{head, headSize, openingFrom, headWritten}
+use Rattle.reached.specs.Openings.{Openable}
+use Rattle.reached.proofs.OpeningCalls.{started-fits, startedOut-fits}
+use Rattle.accepted.proofs.Leaves.{challengeLeaf-small}
+use Rattle.accepted.proofs.RowLaws.{challenge-done, head-done}
+use Rattle.writing.specs.declared.Writing.{Writing}
+use Rattle.writing.specs.Possible.{Room, Ready, writingOf, writtenOf, labelled}
+use Rattle.writing.specs.Steps.{Written, begun, followed, newWriting}
+use Rattle.writing.proofs.PartLaws.{part-fits, part-back}
+use Rattle.writing.proofs.OpenLaws.{advanced-all}
+
+-- an opening over its part can be started and continued
+part-openable :
+    (n m t i : ℕ) (store file : List ℕ) (leaf : ℕ) → Room n m t i (length store) (length file) → leaf < 2 ^ n
+    → Openable n m leaf (length store) (length (take (openingSize n) (drop (openingFrom n (headSize n t) i) file)))
+part-openable n m t i store file leaf room inside =
+    record {
+      depth = room .depth;
+      memory = room .memory;
+      storeFits = room .storeFits;
+      position = inside;
+      outFits =
+          omega (
+            arith,
+            part-length file (openingFrom n (headSize n t) i) (openingSize n)
+                (part-fits n t i (room .number .0) (room .number .1) (length file) (room .fileFits)),
+          );
+    }
+
+-- the challenge of an opening that can be written is not refused
+module _ (statement root : List ℕ) (n m t i store file : ℕ) (room : Room n m t i store file) where
+  leaf-picked : challenged n statement root i ≡ challengeLeaf n statement root i
+  unfolding challenged
+  leaf-picked = rw (challenge-done n i (room .depth) (omega (arith, room .number, room .count)))
+
+  leaf-inside : challengeLeaf n statement root i < 2 ^ n
+  leaf-inside = challengeLeaf-small n statement root i (omega (arith, room .depth))
+
+  -- what is begun can be continued
+  pub begun-ready : (bytes out : List ℕ) → Ready (begun statement root n m t bytes i out .writing) store file
+  unfolding begun
+  begun-ready bytes out = record { room = room; position = leaf-inside; few = omega arith }
+
+module _
+    (statement root : List ℕ) (n m t i : ℕ) (store file : List ℕ) (room : Room n m t i (length store) (length file))
+    (leaf from : ℕ) (is : leaf ≡ challenged n statement root i) (at : from ≡ openingFrom n (headSize n t) i)
+    (part : List ℕ) (lent : part ≡ take (from + openingSize n - from) (drop from file))
+    (o : Opening) (part′ : List ℕ) (made : o ≡ openings.started statement n m leaf (length store) (length part))
+    (put : part′ ≡ openings.startedOut n m leaf store part) (same : length part′ ≡ length part) where
+  there : part ≡ take (openingSize n) (drop (openingFrom n (headSize n t) i) file)
+  there = lent ∙ part-size file from (openingSize n) ∙ rw at
+
+  picked : leaf ≡ challengeLeaf n statement root i
+  picked = is ∙ leaf-picked statement root n m t i (length store) (length file) room
+
+  openable : Openable n m leaf (length store) (length part)
+  openable =
+      rw there (part-openable n m t i store file leaf room (rw picked (leaf-inside statement root n m t i (length store) (length file) room)))
+
+  pub begun-opening : o ≡ begun statement root n m t store i file .writing .opening
+  unfolding begun
+  begun-opening = made ∙ started-fits statement n m leaf (length store) (length part) openable ∙ rw picked
+
+  pub begun-file :
+      take from file ++ (part′ ++ drop (from + openingSize n - from) (drop from file)) ≡ begun statement root n m t store i file .file
+  unfolding begun
+  begun-file =
+      let size : from + openingSize n - from ≡ openingSize n = omega arith in
+      let whole : length part′ ≡ openingSize n =
+      same ∙ ap length there ∙ part-length file (openingFrom n (headSize n t) i) (openingSize n)
+      (part-fits n t i (room .number .0) (room .number .1) (length file) (room .fileFits)) in
+      rw (size, part-back file part′ from (openingSize n) whole, put, startedOut-fits n m leaf store part openable, there, picked, at)
+
+module _
+    (w : Writing) (store file : List ℕ) (ready : Ready w (length store) (length file)) (k from : ℕ)
+    (few : w .opening .made + k ≤ nodesAnew (w .opening .depth) (w .opening .memory))
+    (at : from ≡ openingFrom (w .opening .depth) (headSize (w .opening .depth) (w .count)) (w .number))
+    (part : List ℕ) (lent : part ≡ take (from + openingSize (w .opening .depth) - from) (drop from file))
+    (o : Opening) (part′ : List ℕ) (made : o ≡ openings.advanced store (openOf (w .opening) part) k .opening)
+    (put : part′ ≡ openings.advanced store (openOf (w .opening) part) k .out) (same : length part′ ≡ length part) where
+  abbrev n : ℕ
+  n = w .opening .depth
+
+  under-there : part ≡ take (openingSize n) (drop (openingFrom n (headSize n (w .count)) (w .number)) file)
+  under-there = lent ∙ part-size file from (openingSize n) ∙ rw at
+
+  all-made : openings.advanced store (openOf (w .opening) part) k ≡ openings.steps store k (openOf (w .opening) part)
+  all-made =
+      advanced-all store (w .opening) part k
+      (rw under-there
+      (part-openable n (w .opening .memory) (w .count) (w .number) store file (w .opening .leaf) (ready .room) (ready .position)))
+      few
+
+  pub labelled-writing : writingOf (w .root) (w .count) (w .number) o ≡ labelled store k (writtenOf w file) .writing
+  unfolding labelled
+  labelled-writing = rw (made, all-made, under-there)
+
+  pub labelled-file :
+      take from file ++ (part′ ++ drop (from + openingSize n - from) (drop from file)) ≡ labelled store k (writtenOf w file) .file
+  unfolding labelled
+  labelled-file =
+      let size : from + openingSize n - from ≡ openingSize n = omega arith in
+      let whole : length part′ ≡ openingSize n =
+      same ∙ ap length under-there ∙ part-length file (openingFrom n (headSize n (w .count)) (w .number)) (openingSize n)
+      (part-fits n (w .count) (w .number) (ready .room .number .0) (ready .room .number .1) (length file) (ready .room .fileFits)) in
+      rw (size, part-back file part′ from (openingSize n) whole, put, all-made, under-there, at)
+
+-- a new writing: head, first opening, and what follows it
+module _
+    (statement root : List ℕ) (n m t : ℕ) (store file file₁ : List ℕ) (room : Room n m t 1 (length store) (length file))
+    (e₁ : file₁ ≡ headWritten statement root n t file) (o : Opening) (file₂ : List ℕ)
+    (e₂ : o ≡ begun statement root n m t store 1 file₁ .writing .opening) (f₂ : file₂ ≡ begun statement root n m t store 1 file₁ .file) where
+  first-begun : writtenOf (writingOf root t 1 o) file₂ ≡ begun statement root n m t store 1 file₁
+  unfolding begun
+  first-begun = rw (e₂, f₂)
+
+  pub first-ready : length file₂ ≡ length file → Ready (writingOf root t 1 o) (length store) (length file₂)
+  first-ready size =
+      rw size
+      (subst (λ (s : Written). Ready (s .writing) (length store) (length file)) (sym first-begun)
+      (begun-ready statement root n m t 1 (length store) (length file) room store file₁))
+
+  head-there : file₁ ≡ written file 0 (head statement root n t)
+  unfolding headWritten
+  head-there = rw (head-done n t (length file) (room .depth) (omega (arith, room .number, room .count)) (room .fileFits)) at e₁
+
+  all-begun : followed store t (writtenOf (writingOf root t 1 o) file₂) ≡ newWriting statement root n m t store file
+  unfolding newWriting
+  all-begun = rw (first-begun, head-there)
+
+  pub new-written :
+      (w : Writing) (file₃ : List ℕ) → w ≡ followed store t (writtenOf (writingOf root t 1 o) file₂) .writing
+      → file₃ ≡ followed store t (writtenOf (writingOf root t 1 o) file₂) .file
+      → (w ≡ newWriting statement root n m t store file .writing) × (file₃ ≡ newWriting statement root n m t store file .file)
+  new-written w file₃ e f = (e ∙ ap (λ (s : Written). s .writing) all-begun, f ∙ ap (λ (s : Written). s .file) all-begun)

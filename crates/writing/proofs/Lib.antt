@@ -1,0 +1,6 @@
+pub mod RowLaws
+pub mod PartLaws
+pub mod OpenLaws
+pub mod BegunLaws
+pub mod StepLaws
+pub mod FollowLaws

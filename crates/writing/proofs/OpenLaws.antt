@@ -1,0 +1,106 @@
+-- Several steps of any opening: what they keep, and that the output keeps its length.
+use mathlib.Core.Path.{_≡_, refl, sym, _∙_}
+use mathlib.Core.Bool.{Bool, true, false}
+use mathlib.Core.List.{List}
+use Prim.Native.Nat.{ℕ, zero, suc, _+_, _-_, _*_, _≤_, _<_}
+use native.Mathlib.Nat.{add-zero}
+use native.Mathlib.Omega.{arith}
+use lib.ListN.{length}
+use Rattle.base.specs.Choice.{pick}
+use Rattle.base.specs.Bytes.{written}
+use Rattle.base.proofs.Copying.{length-written}
+use Rattle.tree.specs.Nodes.{Node, node, sameNode}
+use Rattle.label.specs.Step.{nextNode, nextLabel}
+use Rattle.label.proofs.RuleLaws.{digest-length}
+use Rattle.opening.specs.declared.Opening.{Opening}
+use Rattle.opening.specs.Rows.{openingSize, nodesAnew}
+use Rattle.opening.specs.Possible.{openOf}
+use Rattle.opening.specs.Steps.{Open, ancestor, beside, placed, front, stepped, steps, labelsIn, advanced}
+use Rattle.opening.proofs.StepLaws.{anew-few, next-below}
+use Rattle.reached.specs.Openings.{Openable}
+use Rattle.reached.proofs.OpeningCalls.{reopen-fits}
+
+-- a label put in its place
+placed-length :
+    (n leaf : ℕ) (out : List ℕ) (w : Node) (label : List ℕ) → 1 ≤ n → openingSize n ≤ length out → 1 ≤ w .level → length label ≡ 32
+    → length (placed n leaf out w label) ≡ length out
+unfolding placed
+placed-length n leaf out w label deep fits low whole = go (sameNode w (node n leaf)) (sameNode w (beside n leaf (w .level)))
+  where
+    go :
+        (s t : Bool)
+        → length (pick s (written out 0 label) (pick t (written out (32 * (n - w .level + 1)) label) out)) ≡ length out
+    go true t = length-written out 0 label (omega arith)
+    go false true = length-written out (32 * (n - w .level + 1)) label (omega arith)
+    go false false = refl
+
+module _ (store : List ℕ) (s : Open) where
+  pub open-none : steps store 0 s ≡ s
+  unfolding steps
+  open-none = refl
+
+  pub open-more : (k : ℕ) → steps store (suc k) s ≡ stepped store (steps store k s)
+  unfolding steps
+  open-more k = refl
+
+  pub depth-kept : (k : ℕ) → steps store k s .opening .depth ≡ s .opening .depth
+  unfolding steps stepped
+  depth-kept zero = refl
+  depth-kept (suc k) = depth-kept k
+
+  pub memory-kept : (k : ℕ) → steps store k s .opening .memory ≡ s .opening .memory
+  unfolding steps stepped
+  memory-kept zero = refl
+  memory-kept (suc k) = memory-kept k
+
+  pub leaf-kept : (k : ℕ) → steps store k s .opening .leaf ≡ s .opening .leaf
+  unfolding steps stepped
+  leaf-kept zero = refl
+  leaf-kept (suc k) = leaf-kept k
+
+  pub made-after : (k : ℕ) → steps store k s .opening .made ≡ s .opening .made + k
+  unfolding steps stepped
+  made-after zero = sym (add-zero (s .opening .made))
+  made-after (suc k) = rw (made-after k) (omega arith)
+
+  pub anew-kept : (k : ℕ) → nodesAnew (steps store k s .opening .depth) (steps store k s .opening .memory) ≡ nodesAnew (s .opening .depth) (s .opening .memory)
+  anew-kept k = rw (depth-kept k, memory-kept k)
+
+-- one step of an opening that has a node left
+stepped-length :
+    (store : List ℕ) (s : Open) → s .opening .made < nodesAnew (s .opening .depth) (s .opening .memory)
+    → 1 ≤ s .opening .depth → openingSize (s .opening .depth) ≤ length (s .out) → length (stepped store s .out) ≡ length (s .out)
+unfolding stepped nextLabel
+stepped-length store s few deep fits =
+    let o : Opening = s .opening in
+    let h : ℕ = o .depth - o .memory in
+    let v : Node = ancestor (o .depth) (o .leaf) (o .memory) in
+    placed-length (o .depth) (o .leaf) (s .out) (nextNode h v (o .made))
+    (nextLabel (o .statement) h v (front (o .depth) (o .memory) (o .leaf) store) (o .held) (o .made)) deep fits
+    (omega (arith, next-below h (o .made) v (nextNode h v (o .made)) (anew-few (o .depth) (o .memory) (o .made) few) refl))
+    (digest-length _)
+
+pub steps-length :
+    (store : List ℕ) (s : Open) (k : ℕ) → s .opening .made + k ≤ nodesAnew (s .opening .depth) (s .opening .memory)
+    → 1 ≤ s .opening .depth → openingSize (s .opening .depth) ≤ length (s .out) → length (steps store k s .out) ≡ length (s .out)
+unfolding steps
+steps-length store s zero few deep fits = refl
+steps-length store s (suc k) few deep fits =
+    let so-far : length (steps store k s .out) ≡ length (s .out) = steps-length store s k (omega arith) deep fits in
+    stepped-length store (steps store k s)
+    (omega (arith, made-after store s k, anew-kept store s k))
+    (omega (arith, depth-kept store s k))
+    (omega (arith, depth-kept store s k))
+    ∙ so-far
+
+-- a call whose budget is left makes as many labels
+module _
+    (store : List ℕ) (o : Opening) (out : List ℕ) (k : ℕ) (fits : Openable (o .depth) (o .memory) (o .leaf) (length store) (length out))
+    (few : o .made + k ≤ nodesAnew (o .depth) (o .memory)) where
+  labels-all : labelsIn store (openOf o out) k ≡ k
+  unfolding labelsIn
+  labels-all = rw (reopen-fits o (length store) (length out) fits (omega arith)) (omega arith)
+
+  pub advanced-all : advanced store (openOf o out) k ≡ steps store k (openOf o out)
+  unfolding advanced
+  advanced-all = rw labels-all

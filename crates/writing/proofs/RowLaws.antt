@@ -1,0 +1,110 @@
+-- What is known of a writing that may be started or continued, and what a call gives by its answer.
+use mathlib.Core.Path.{_≡_, refl}
+use mathlib.Core.Bool.{Bool, true, false}
+use mathlib.Core.List.{List}
+use Prim.Native.Nat.{ℕ, _^_, _≤_, _<_, min}
+use borrow.Author.Tests.{ltb-false, leb-false}
+use lib.Dec.{ltb, leb}
+use lib.ListN.{length}
+use Rattle.base.specs.Limits.{maxDepth, maxMemory, maxChallenges}
+use Rattle.refusal.specs.declared.Refusal.{Refusal}
+use Rattle.refusal.specs.declared.Outcome.the-variants.{Done, Refused}
+use Rattle.refusal.specs.Row.{outside, either}
+use Rattle.run.specs.Rows.{memoryOver, impossible}
+use Rattle.run.proofs.RowLaws.{neither}
+use Rattle.opening.specs.declared.Opening.{Opening}
+use Rattle.opening.specs.Rows.{nodesAnew}
+use Rattle.accepted.proofs.RowLaws.{bounds}
+use Rattle.writing.specs.declared.Writing.{Writing}
+use Rattle.writing.specs.Rows.{writeRow, rewriteRow}
+use Rattle.writing.specs.Possible.{stateOutside, writtenOf}
+use Rattle.writing.specs.Steps.{mayFollow, newWriting, noWriting, started, steps, remaining, labelsIn, advanced}
+
+-- what the first condition of continuing leaves
+pub record Bounded (w : Writing) : Type 0 where
+  pub depth : (1 ≤ w .opening .depth) × (w .opening .depth ≤ maxDepth)
+  pub memory : w .opening .memory ≤ min (w .opening .depth) maxMemory
+  pub few : w .opening .made ≤ nodesAnew (w .opening .depth) (w .opening .memory)
+  pub position : w .opening .leaf < 2 ^ (w .opening .depth)
+  pub count : (1 ≤ w .count) × (w .count ≤ maxChallenges)
+  pub number : (1 ≤ w .number) × (w .number ≤ w .count)
+  pub under : mayFollow w ≡ false
+
+pub state-bounds : (w : Writing) → stateOutside w ≡ false → Bounded w
+state-bounds w e =
+    let o : Opening = w .opening in
+    let n : ℕ = o .depth in
+    let m : ℕ = o .memory in
+    let anew : ℕ = nodesAnew n m in
+    let (a, b) = neither (impossible n m (o .made) anew) _ e in
+    let (d, g) = neither (outside 1 maxDepth n) (either (memoryOver n m) (ltb anew (o .made))) a in
+    let (l, k) = neither (memoryOver n m) (ltb anew (o .made)) g in
+    let (p, q) = neither (leb (2 ^ n) (o .leaf)) _ b in
+    let (t, r) = neither (outside 1 maxChallenges (w .count)) _ q in
+    let (i, u) = neither (outside 1 (w .count) (w .number)) (mayFollow w) r in
+    record {
+      depth = bounds 1 maxDepth n d;
+      memory = ltb-false (min n maxMemory) m l;
+      few = ltb-false anew (o .made) k;
+      position = leb-false (2 ^ n) (o .leaf) p;
+      count = bounds 1 maxChallenges (w .count) t;
+      number = bounds 1 (w .count) (w .number) i;
+      under = u;
+    }
+
+-- ---- what a start and a call give, by their answers
+module _ (statement root : List ℕ) (n m t : ℕ) (store file : List ℕ) where
+  pub start-done :
+      writeRow n m t (length store) (length file) ≡ Done
+      → newWriting statement root n m t store file ≡ started statement root n m t store file
+  unfolding started
+  start-done e = rw e
+
+  pub start-refused :
+      (r : Refusal) → writeRow n m t (length store) (length file) ≡ Refused r
+      → (noWriting ≡ started statement root n m t store file .writing) × (file ≡ started statement root n m t store file .file)
+  unfolding started
+  start-refused r e = (rw e, rw e)
+
+module _ (w : Writing) (store file : List ℕ) (budget : ℕ) where
+  pub labels-done :
+      rewriteRow w (length store) (length file) ≡ Done → min budget (remaining w) ≡ labelsIn store (writtenOf w file) budget
+  unfolding labelsIn
+  labels-done e = rw e
+
+  pub labels-refused :
+      (r : Refusal) → rewriteRow w (length store) (length file) ≡ Refused r → 0 ≡ labelsIn store (writtenOf w file) budget
+  unfolding labelsIn
+  labels-refused r e = rw e
+
+  pub advanced-by :
+      (k : ℕ) (w′ : Writing) (file′ : List ℕ) → k ≡ labelsIn store (writtenOf w file) budget
+      → w′ ≡ steps store k (writtenOf w file) .writing → file′ ≡ steps store k (writtenOf w file) .file
+      → (w′ ≡ advanced store (writtenOf w file) budget .writing) × (file′ ≡ advanced store (writtenOf w file) budget .file)
+  unfolding advanced
+  advanced-by k w′ file′ e a b = (rw (← e) a, rw (← e) b)
+
+  pub unchanged :
+      0 ≡ labelsIn store (writtenOf w file) budget
+      → (w ≡ advanced store (writtenOf w file) budget .writing) × (file ≡ advanced store (writtenOf w file) budget .file)
+  unfolding steps
+  unchanged e = advanced-by 0 w file e refl refl
+
+-- ---- the first condition of continuing, one law for each return
+module _ (a b c d f : Bool) where
+  pub state-first : either a b ≡ true → true ≡ either a (either b (either c (either d f)))
+  state-first e = go a b e
+    where
+      go : (a b : Bool) → either a b ≡ true → true ≡ either a (either b (either c (either d f)))
+      go true b e = refl
+      go false b e = rw e
+
+  module _ (e : either a b ≡ false) where
+    pub state-second : c ≡ true → true ≡ either a (either b (either c (either d f)))
+    state-second p = let (x, y) = neither a b e in rw (x, y, p)
+
+    pub state-third : c ≡ false → d ≡ true → true ≡ either a (either b (either c (either d f)))
+    state-third p q = let (x, y) = neither a b e in rw (x, y, p, q)
+
+    pub state-last : c ≡ false → d ≡ false → f ≡ either a (either b (either c (either d f)))
+    state-last p q = let (x, y) = neither a b e in rw (x, y, p, q)

@@ -1,0 +1,120 @@
+-- `writing::Writing::advance` meets its contract, by the answer: a writing that may be continued has its labels left.
+use mathlib.Core.Path.{_≡_, sym, ap, _∙_}
+use mathlib.Core.Bool.{Bool, false}
+use mathlib.Core.List.{List, [], _∷_}
+use borrow.Author.Tests.{ltb-false}
+use lib.Dec.{ltb}
+use Rattle.refusal.specs.declared.Refusal.{Refusal}
+use Rattle.refusal.specs.declared.Refusal.the-variants.{ShortStore, State, ShortOutput}
+use Rattle.refusal.proofs.RowLaws.{NoneHolds, none-holds}
+use Rattle.tree.specs.Store.{storeSize}
+use Rattle.proof.specs.Layout.{fileSize}
+use Rattle.writing.specs.declared.Writing.{Writing}
+use Prim.Native.Nat.{ℕ, min}
+use native.Mathlib.Omega.{arith}
+use lib.ListN.{length}
+use Rattle.refusal.specs.declared.Outcome.{Outcome}
+use Rattle.refusal.specs.declared.Outcome.the-variants.{Done}
+use Rattle.writing.specs.Rows.{rewriteRow}
+use Rattle.writing.specs.Possible.{Ready, stateOutside, writtenOf}
+use Rattle.writing.specs.Steps.{mayFollow, labelsIn}
+use Rattle.writing.proofs.RowLaws.{Bounded, state-bounds, labels-done, labels-refused, advanced-by, unchanged}
+use borrow.Author.Needs.{needs}
+use Rattle.writing.proofs.Writing.advance.Statement.{statement}
+use Rattle.writing.proofs.Writing.advance.Tie as tie
+
+-- a writing that may be continued
+rewrite-ready : (w : Writing) (store file : ℕ) → rewriteRow w store file ≡ Done → Ready w store file × (mayFollow w ≡ false)
+unfolding rewriteRow
+rewrite-ready w store file e =
+    let row : List (Bool × Refusal) =
+    (stateOutside w, State)
+    ∷ (ltb store (storeSize (w .opening .memory)), ShortStore)
+    ∷ (ltb file (fileSize (w .opening .depth) (w .count)), ShortOutput)
+    ∷ [] in
+    let none : NoneHolds row = none-holds row e in
+    let known : Bounded w = state-bounds w (none .0) in (
+      record {
+        room =
+            record {
+              depth = known .depth;
+              memory = known .memory;
+              storeFits = ltb-false store (storeSize (w .opening .memory)) (none .1 .0);
+              number = known .number;
+              count = known .count .1;
+              fileFits = ltb-false file (fileSize (w .opening .depth) (w .count)) (none .1 .1 .0);
+            };
+        position = known .position;
+        few = known .few;
+      },
+      known .under,
+    )
+
+-- the row's answer, and what is known if it is Done
+abbrev row : tie.Start → Outcome
+row s = rewriteRow (s .args .self) (length (s .args .store .now)) (length (s .args .file .now))
+
+done : (c : tie.After-enum-told) → row (c .before .before .before .before .before) ≡ Done
+done c = sym (c .before .before .may-continue .ensures) ∙ c .enum-told .given .1
+
+abbrev CanGoOn : tie.Start → Type 0
+CanGoOn s = Ready (s .args .self) (length (s .args .store .now)) (length (s .args .file .now)) × (mayFollow (s .args .self) ≡ false)
+
+ready : (c : tie.After-enum-told) → CanGoOn (c .before .before .before .before .before)
+ready c = rewrite-ready _ _ _ (done c)
+
+may-continue-requires : tie.Need-may-continue-requires
+may-continue-requires c κs = search needs
+
+enum-told : tie.Need-enum-told
+enum-told c = search needs
+
+labels-left-requires : tie.Need-labels-left-requires
+labels-left-requires c κs =
+    let r = ready c .0 in
+    ((r .room .depth .1, omega (arith, r .room .memory)), (r .few, (r .room .number .1, r .room .count)))
+
+smaller-requires : tie.Need-smaller-requires
+smaller-requires c κs = search needs
+
+label-many-requires : tie.Need-label-many-requires
+label-many-requires c κs =
+    let k = c .before in
+    (ready (k .before .before), omega (arith, k .smaller .ensures, k .before .labels-left .ensures))
+
+enum-told-2 : tie.Need-enum-told-2
+enum-told-2 c = search needs
+
+same-length : tie.Need-same-length
+same-length c = search needs
+
+returns : tie.Need-returns
+returns c =
+    let m = c .before .before in
+    let k = m .before .before in
+    let t = k .before .before in
+    let a = t .before .before .before .before .before .args in
+    let e : k .smaller .result ≡ labelsIn (a .store .now) (writtenOf (a .self) (a .file .now)) (a .budget) =
+    k .smaller .ensures ∙ ap (min (a .budget)) (k .before .labels-left .ensures) ∙ labels-done (a .self) (a .store .now) (a .file .now) (a .budget) (done t) in
+    (t .before .before .may-continue .ensures, (e, advanced-by (a .self) (a .store .now) (a .file .now) (a .budget) _ _ _ e (m .label-many .ensures .0) (m .label-many .ensures .1)))
+
+returns-2 : tie.Need-returns-2
+returns-2 c =
+    let m = c .before .before in
+    let a = m .before .before .before .args in
+    let z = labels-refused (a .self) (a .store .now) (a .file .now) (a .budget) _ (sym (m .may-continue .ensures) ∙ c .enum-told2 .given .1) in
+    (m .may-continue .ensures, (z, unchanged (a .self) (a .store .now) (a .file .now) (a .budget) z))
+
+pub advance-spec : {M : Type 1} → statement M
+advance-spec =
+    tie.close
+    (tie.spec
+    may-continue-requires
+    enum-told
+    labels-left-requires
+    smaller-requires
+    label-many-requires
+    enum-told-2
+    same-length
+    returns
+    returns-2)

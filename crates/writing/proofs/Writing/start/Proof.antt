@@ -1,0 +1,104 @@
+-- `writing::Writing::start` meets its contract, by the answer.
+use mathlib.Core.Bool.{Bool}
+use mathlib.Core.List.{List, [], _∷_}
+use Prim.Native.Nat.{ℕ, _≤_, min}
+use native.Mathlib.Omega.{arith}
+use borrow.Author.Tests.{ltb-false}
+use lib.Dec.{ltb}
+use Rattle.base.specs.Limits.{maxDepth, maxMemory, maxChallenges}
+use Rattle.refusal.specs.declared.Refusal.{Refusal}
+use Rattle.refusal.specs.declared.Refusal.the-variants.{Depth, MemoryLevel, ShortStore, Count, ShortOutput}
+use Rattle.refusal.specs.Row.{outside}
+use Rattle.refusal.proofs.RowLaws.{NoneHolds, none-holds}
+use Rattle.tree.specs.Store.{storeSize}
+use Rattle.run.specs.Rows.{memoryOver}
+use Rattle.proof.specs.Layout.{fileSize}
+use Rattle.accepted.proofs.RowLaws.{bounds}
+use Rattle.writing.specs.Possible.{Room}
+use borrow.Author.Needs.{needs}
+use mathlib.Core.Path.{_≡_, sym, ap, _∙_}
+use lib.ListN.{length}
+use Rattle.refusal.specs.declared.Outcome.{Outcome}
+use Rattle.refusal.specs.declared.Outcome.the-variants.{Done}
+use Rattle.writing.specs.Rows.{writeRow}
+use Rattle.writing.specs.Steps.{Written}
+use Rattle.writing.proofs.RowLaws.{start-done, start-refused}
+use Rattle.writing.proofs.Writing.start.Statement.{statement}
+use Rattle.writing.proofs.Writing.start.Tie as tie
+
+-- a start that is done has room for its first opening
+write-room : (n m t store file : ℕ) → writeRow n m t store file ≡ Done → Room n m t 1 store file
+unfolding writeRow
+write-room n m t store file e =
+    let row : List (Bool × Refusal) =
+    (outside 1 maxDepth n, Depth)
+    ∷ (memoryOver n m, MemoryLevel)
+    ∷ (ltb store (storeSize m), ShortStore)
+    ∷ (outside 1 maxChallenges t, Count)
+    ∷ (ltb file (fileSize n t), ShortOutput)
+    ∷ [] in
+    let none : NoneHolds row = none-holds row e in
+    let count : (1 ≤ t) × (t ≤ maxChallenges) = bounds 1 maxChallenges t (none .1 .1 .1 .0) in
+    record {
+      depth = bounds 1 maxDepth n (none .0);
+      memory = ltb-false (min n maxMemory) m (none .1 .0);
+      storeFits = ltb-false store (storeSize m) (none .1 .1 .0);
+      number = (omega arith, count .0);
+      count = count .1;
+      fileFits = ltb-false file (fileSize n t) (none .1 .1 .1 .1 .0);
+    }
+
+-- the row's answer
+abbrev row : tie.Start → Outcome
+row s = writeRow (s .args .depth) (s .args .memory) (s .args .count) (length (s .args .store .now)) (length (s .args .file .now))
+
+done : (c : tie.After-enum-told) → row (c .before .before .before .before .before) ≡ Done
+done c = sym (c .before .before .may-start .ensures) ∙ c .enum-told .given .1
+
+may-start-requires : tie.Need-may-start-requires
+may-start-requires c κs = search needs
+
+enum-told : tie.Need-enum-told
+enum-told c = search needs
+
+write-first-requires : tie.Need-write-first-requires
+write-first-requires c κs = write-room _ _ _ _ _ (done (c .before))
+
+enum-told-2 : tie.Need-enum-told-2
+enum-told-2 c = search needs
+
+no-writing-requires : tie.Need-no-writing-requires
+no-writing-requires c κs = search needs
+
+same-length : tie.Need-same-length
+same-length c = search needs
+
+returns : tie.Need-returns
+returns c =
+    let w = c .before .before in
+    let t = w .before .before in
+    let a = t .before .before .before .before .before .args in
+    let e = start-done (a .statement) (a .root) (a .depth) (a .memory) (a .count) (a .store .now) (a .file .now) (done t) in (
+      t .before .before .may-start .ensures,
+      (w .write-first .ensures .0 ∙ ap (λ (s : Written). s .writing) e, w .write-first .ensures .1 ∙ ap (λ (s : Written). s .file) e),
+    )
+
+returns-2 : tie.Need-returns-2
+returns-2 c =
+    let m = c .before .before .before in
+    let a = m .before .before .before .args in
+    let (o, f) = start-refused (a .statement) (a .root) (a .depth) (a .memory) (a .count) (a .store .now) (a .file .now) _ (sym (m .may-start .ensures) ∙ c .before .enum-told2 .given .1) in
+    (m .may-start .ensures, (c .no-writing .ensures ∙ o, f))
+
+pub start-spec : {M : Type 1} → statement M
+start-spec =
+    tie.close
+    (tie.spec
+    may-start-requires
+    enum-told
+    write-first-requires
+    enum-told-2
+    no-writing-requires
+    same-length
+    returns
+    returns-2)

@@ -1,0 +1,89 @@
+-- `writing::labels::label_many` meets its contract. The invariant: what is left to make gives the same. The measure is what is left.
+use Rattle.writing.proofs.labels.label_many.Statement.{statement}
+use mathlib.Core.Path.{_≡_, refl}
+use Prim.Native.Nat.{_+_, _≤_}
+use native.Mathlib.Omega.{arith}
+use borrow.Author.Needs.{needs}
+use lib.ListN.{length}
+use Rattle.opening.specs.Rows.{nodesAnew}
+use Rattle.writing.specs.declared.Writing.{Writing}
+use Rattle.writing.proofs.FollowLaws.{Labelling, chunk-some, labelling-more, labelling-done}
+use Rattle.writing.proofs.labels.label_many.Tie as tie
+
+abbrev Inv-loop : tie.InvT-loop
+Inv-loop labels store file₀ current₀ left₀ file current left =
+    Labelling store file₀ current₀ labels file current left × (length file ≡ length file₀)
+
+abbrev μ-loop : tie.MeasureT-loop
+μ-loop labels store file₀ current₀ left₀ file current left = left
+
+-- the labels of this turn
+abbrev under : tie.After-smaller Inv-loop μ-loop → Writing
+under c = c .before .before .before .before .before .loop .current
+
+chunk : (c : tie.After-smaller Inv-loop μ-loop)
+    → (1 ≤ c .smaller .result) × (c .smaller .result ≤ c .before .before .before .before .before .loop .left)
+    × (under c .opening .made + c .smaller .result ≤ nodesAnew (under c .opening .depth) (under c .opening .memory))
+chunk c =
+    chunk-some _ _ _ _ _ (under c) _ (c .before .before .before .before .before .loop .inv .0) _ (c .smaller .result) (c .before .before .before .before .loop-test .taken)
+    (c .before .before .nodes-anew .ensures) (c .smaller .ensures)
+
+loop-holds : tie.Need-loop-holds Inv-loop μ-loop
+loop-holds c =
+    let p = c .before .before .pre in
+    (record { ready = p .0 .0; under = p .0 .1; few = p .1; same = refl }, refl)
+
+nodes-anew-requires : tie.Need-nodes-anew-requires Inv-loop μ-loop
+nodes-anew-requires c κs =
+    let r = c .before .before .loop .inv .0 .ready .room in
+    (r .depth .1, omega (arith, r .memory))
+
+sub-smaller : tie.Need-sub-smaller Inv-loop μ-loop
+sub-smaller c = omega (arith, c .before .nodes-anew .ensures, c .before .before .before .before .loop .inv .0 .ready .few)
+
+smaller-requires : tie.Need-smaller-requires Inv-loop μ-loop
+smaller-requires c κs = search needs
+
+label-some-requires : tie.Need-label-some-requires Inv-loop μ-loop
+label-some-requires c κs =
+    let l = c .before .before .before .before .before .before in
+    let k = chunk (c .before) in
+    ((rw (l .loop .inv .1) (l .loop .inv .0 .ready), k .0), k .2)
+
+sub-left : tie.Need-sub-left Inv-loop μ-loop
+sub-left c = chunk (c .before .before .before .before) .1
+
+loop-less : tie.Need-loop-less Inv-loop μ-loop
+loop-less c = let k = chunk (c .before .before .before .before) in omega (arith, k .0, k .1)
+
+loop-again : tie.Need-loop-again Inv-loop μ-loop
+loop-again c =
+    let l = c .before .before .before .before .before .before .before .before .before in
+    let n = c .before .before .label-some in (
+      labelling-more _ _ _ _ _ _ _ (l .loop .inv .0) _ _ _ (chunk (c .before .before .before .before) .1) (n .ensures .0) (n .ensures .1 .0)
+          (rw (l .loop .inv .1) at (n .ensures .1 .1)),
+      search needs,
+    )
+
+same-length : tie.Need-same-length Inv-loop μ-loop
+same-length c = c .before .loop .inv .1
+
+returns : tie.Need-returns Inv-loop μ-loop
+returns c = labelling-done _ _ _ _ _ _ _ (c .before .loop .inv .0) (omega (arith, c .loop-test .left))
+
+pub label-many-spec : {M : Type 1} → statement M
+label-many-spec =
+    tie.close
+    (tie.spec
+    Inv-loop
+    μ-loop
+    loop-holds
+    nodes-anew-requires
+    sub-smaller
+    smaller-requires
+    label-some-requires
+    sub-left
+    loop-less
+    loop-again
+    same-length
+    returns)

@@ -1,0 +1,68 @@
+-- `writing::parts::label_part` meets its contract: the call in the part is not refused, and its budget is left.
+use borrow.Author.Needs.{needs}
+use mathlib.Core.Path.{refl}
+use Prim.Native.Nat.{_+_, _≤_}
+use native.Mathlib.Omega.{arith}
+use lib.ListN.{length}
+use Rattle.opening.specs.Rows.{openingSize}
+use Rattle.writing.proofs.BegunLaws.{labelled-writing, labelled-file}
+use Rattle.writing.proofs.parts.label_part.Statement.{statement}
+use Rattle.writing.proofs.parts.label_part.Tie as tie
+
+part-start-requires : tie.Need-part-start-requires
+part-start-requires c κs = search needs
+
+-- the part lies within the file
+part-inside : (c : tie.After-struct-known) → c .before .part-start .result + openingSize (c .before .before .before .before .before .before .args .writing .opening .depth) ≤ length (c .before .before .before .before .before .before .args .file .now)
+part-inside c = omega (arith, c .before .part-start .ensures .1, c .before .before .before .before .before .before .pre .0 .room .fileFits)
+
+add-end : tie.Need-add-end
+add-end c = search needs
+
+mul-end : tie.Need-mul-end
+mul-end c = search needs
+
+add-end-2 : tie.Need-add-end-2
+add-end-2 c = omega (arith, part-inside c)
+
+sub-advance : tie.Need-sub-advance
+sub-advance c = search needs
+
+part-advance-start : tie.Need-part-advance-start
+part-advance-start c = search needs
+
+part-advance-end : tie.Need-part-advance-end
+part-advance-end c = part-inside c
+
+advance-requires : tie.Need-advance-requires
+advance-requires c κs = search needs
+
+same-length : tie.Need-same-length
+same-length c = search needs
+
+returns : tie.Need-returns
+returns c =
+    let p = c .before .before .before .before .before .before in
+    let s = p .before .before .before .before .before in
+    let a = s .args in
+    let o = c .before .before .before .advance in (
+      labelled-writing (a .writing) (a .store .now) (a .file .now) (s .pre .0) (a .labels) (p .part-start .result) (s .pre .1)
+          (p .part-start .ensures .0) _ refl _ _ (o .ensures .1 .1 .0) (o .ensures .1 .1 .1) (o .kept .1 .1 .1 .0),
+      labelled-file (a .writing) (a .store .now) (a .file .now) (s .pre .0) (a .labels) (p .part-start .result) (s .pre .1)
+          (p .part-start .ensures .0) _ refl _ _ (o .ensures .1 .1 .0) (o .ensures .1 .1 .1) (o .kept .1 .1 .1 .0),
+    )
+
+pub label-part-spec : {M : Type 1} → statement M
+label-part-spec =
+    tie.close
+    (tie.spec
+    part-start-requires
+    add-end
+    mul-end
+    add-end-2
+    sub-advance
+    part-advance-start
+    part-advance-end
+    advance-requires
+    same-length
+    returns)

@@ -1,0 +1,70 @@
+// What may be started and continued: the rows of writing a file, for every number.
+ghost use mathlib.Core.Path.{_≡_};
+ghost use Rattle.writing.specs.Rows.{writeRow, rewriteRow};
+ghost use Rattle.writing.specs.Possible.{stateOutside};
+use crate::Writing;
+use crate::labels::may_follow;
+use opening::nodes_anew;
+use opening::not_possible;
+use proof::file_size;
+use refusal::Outcome;
+use refusal::Refusal;
+use run::depth_outside;
+use run::memory_over;
+use run::store_short;
+use verify::beyond;
+
+pub fn may_start(depth: u64, memory: u64, count: u64, store: usize, file: usize) -> Outcome
+    ensures { λ r. ⌜ r ≡ writeRow depth memory count store file ⌝ }
+{
+    if depth_outside(depth) {
+        return Outcome::Refused(Refusal::Depth);
+    }
+    if memory_over(depth, memory) {
+        return Outcome::Refused(Refusal::MemoryLevel);
+    }
+    if store_short(memory, store) {
+        return Outcome::Refused(Refusal::ShortStore);
+    }
+    if beyond(200, count) {
+        return Outcome::Refused(Refusal::Count);
+    }
+    if file < file_size(depth, count) {
+        return Outcome::Refused(Refusal::ShortOutput);
+    }
+    Outcome::Done
+}
+
+// The first condition of continuing.
+fn state_outside(writing: Writing) -> bool
+    ensures { λ r. ⌜ r ≡ stateOutside writing ⌝ }
+{
+    let opening = writing.opening;
+    if not_possible(opening.depth, opening.memory, opening.made, opening.leaf) {
+        return true;
+    }
+    if beyond(200, writing.count) {
+        return true;
+    }
+    if beyond(writing.count, writing.number) {
+        return true;
+    }
+    let anew = nodes_anew(opening.depth, opening.memory);
+    may_follow(opening.made, anew, writing.number, writing.count)
+}
+
+pub fn may_continue(writing: Writing, store: usize, file: usize) -> Outcome
+    ensures { λ r. ⌜ r ≡ rewriteRow writing store file ⌝ }
+{
+    if state_outside(writing) {
+        return Outcome::Refused(Refusal::State);
+    }
+    let opening = writing.opening;
+    if store_short(opening.memory, store) {
+        return Outcome::Refused(Refusal::ShortStore);
+    }
+    if file < file_size(opening.depth, writing.count) {
+        return Outcome::Refused(Refusal::ShortOutput);
+    }
+    Outcome::Done
+}

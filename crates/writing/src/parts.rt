@@ -1,0 +1,73 @@
+// An opening in its part of the file: begun, and labelled.
+ghost use mathlib.Core.Path.{_≡_};
+ghost use Prim.Native.Nat.{_+_, _≤_};
+ghost use lib.ListN.{length};
+ghost use Rattle.opening.specs.Rows.{openingSize, nodesAnew};
+ghost use Rattle.proof.specs.Layout.{headSize, openingFrom, fileSize};
+ghost use Rattle.writing.specs.Possible.{Room, Ready, writtenOf, labelled};
+ghost use Rattle.writing.specs.Steps.{begun};
+use crate::Writing;
+use opening::Opening;
+use proof::challenge;
+use proof::file_size;
+
+// Where opening i begins: t + 1 − i openings before the file's end.
+fn part_start(n: u64, t: u64, i: u64) -> usize
+    requires { ⌜ (n ≤ 40) × (1 ≤ i) × (i ≤ t) × (t ≤ 200) ⌝ }
+    ensures { λ r. ⌜ r ≡ openingFrom n (headSize n t) i ⌝ }
+    ensures { λ r. ⌜ r + openingSize n ≤ fileSize n t ⌝ }
+{
+    file_size(n, t) - ((t + 1 - i) * (32 * (n + 1))) as usize
+}
+
+// Begins opening `number` at the leaf of its challenge.
+pub fn begin(
+    statement: [u8; 32],
+    root: [u8; 32],
+    depth: u64,
+    memory: u64,
+    count: u64,
+    number: u64,
+    store: &[u8],
+    file: &mut [u8],
+) -> Opening
+    requires { ⌜ Room depth memory count number (length (now store)) (length (now file)) ⌝ }
+    ensures { λ r. ⌜ r ≡ begun statement root depth memory count (now (store .entry)) number (now (file .entry)) .writing .opening ⌝ }
+    ensures { λ _. ⌜ now (file .exit) ≡ begun statement root depth memory count (now (store .entry)) number (now (file .entry)) .file ⌝ }
+{
+    let picked = challenge(depth, statement, root, number);
+    let from = part_start(depth, count, number);
+    let end = from + (32 * (depth + 1)) as usize;
+    let started = Opening::start(
+        statement,
+        depth,
+        memory,
+        picked.leaf,
+        store,
+        &mut file[from..end],
+    );
+    started.opening
+}
+
+// Makes labels of the opening under way. Its caller knows that they are left.
+pub fn label_part(writing: Writing, labels: u64, store: &[u8], file: &mut [u8]) -> Writing
+    requires { ⌜ Ready writing (length (now store)) (length (now file)) ⌝ }
+    requires { ⌜ writing .opening .made + labels ≤ nodesAnew (writing .opening .depth) (writing .opening .memory) ⌝ }
+    ensures { λ r. ⌜ r ≡ labelled (now (store .entry)) labels (writtenOf writing (now (file .entry))) .writing ⌝ }
+    ensures { λ _. ⌜ now (file .exit) ≡ labelled (now (store .entry)) labels (writtenOf writing (now (file .entry))) .file ⌝ }
+{
+    let root = writing.root;
+    let count = writing.count;
+    let number = writing.number;
+    let under = writing.opening;
+    let from = part_start(under.depth, count, number);
+    let end = from + (32 * (under.depth + 1)) as usize;
+    let done = under.advance(labels, store, &mut file[from..end]);
+    let opening = done.opening;
+    Writing {
+        root,
+        count,
+        number,
+        opening,
+    }
+}
