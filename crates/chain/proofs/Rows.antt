@@ -78,7 +78,7 @@ three-refused false false true s r e = e
 three-refused false false false s r e = absurd (not-both r (sym e))
 
 module _ (n : ℕ) (leaves : List ℕ) (done : leavesRow n leaves ≡ Done) where
-  passed : (outside 1 maxDepth n ≡ false) × (outside 1 maxChallenges (length leaves) ≡ false) × (not (every (isLeaf n) leaves) ≡ false)
+  pub passed : (outside 1 maxDepth n ≡ false) × (outside 1 maxChallenges (length leaves) ≡ false) × (not (every (isLeaf n) leaves) ≡ false)
   unfolding leavesRow
   passed = three-done (outside 1 maxDepth n) (outside 1 maxChallenges (length leaves)) (not (every (isLeaf n) leaves)) done
 
@@ -87,7 +87,7 @@ module _ (n : ℕ) (leaves : List ℕ) (done : leavesRow n leaves ≡ Done) wher
       record { depth = below 1 maxDepth n (passed .0); few = below 1 maxChallenges (length leaves) (passed .1); inside = not-false _ (passed .2) }
 
   -- the list is the last check
-  list-check : (list : ℕ) → planRow n leaves list ≡ pick (ltb list (length (chain n leaves))) (Refused ShortList) Done
+  pub list-check : (list : ℕ) → planRow n leaves list ≡ pick (ltb list (length (chain n leaves))) (Refused ShortList) Done
   unfolding planRow
   list-check list = simp (passed .0, passed .1, passed .2)
 

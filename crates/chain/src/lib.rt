@@ -4,5 +4,6 @@ mod planning;
 mod sorting;
 
 pub use planning::Planned;
+pub use planning::check_leaves;
 pub use planning::different_leaves;
 pub use planning::plan;

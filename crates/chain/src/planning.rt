@@ -41,7 +41,7 @@ fn are_leaves(depth: u64, leaves: &[u64]) -> bool
 }
 
 // The checks of depth and leaves.
-fn check_leaves(depth: u64, leaves: &[u64]) -> Outcome
+pub fn check_leaves(depth: u64, leaves: &[u64]) -> Outcome
     ensures { λ r. ⌜ r ≡ leavesRow depth (now (leaves .entry)) ⌝ }
 {
     if depth < 1 {

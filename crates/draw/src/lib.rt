@@ -1,5 +1,9 @@
 // Drawing a chain from a proof: the chain, or the first clash of two openings.
+mod leaves; // leaves.rt: the leaves opened
+mod whole; // whole.rt: the chain or the clash
+
 use refusal::Refusal;
+pub use whole::draw;
 
 // Refused, with the opening's number; a chain, with its count of nodes; or a clash: the first pair i < j, from 1, that disagrees,
 // and the smallest level.

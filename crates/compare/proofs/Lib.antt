@@ -1,0 +1,7 @@
+pub mod Checks
+pub mod FirstPairLaws
+pub mod InputLaws
+pub mod Filling
+pub mod Lookup
+pub mod Turns
+pub mod Cells

@@ -1,0 +1,146 @@
+-- `compare::table::fill_table` meets its contract. The invariant: the rows before i are filled. The measure is what is left.
+use mathlib.Core.Path.{_≡_, ap, _∙_}
+use Prim.Native.Nat.{_+_, _-_, _*_, _≤_}
+use lib.ListN.{length}
+use Rattle.opening.specs.Rows.{openingSize}
+use Rattle.verify.proofs.Parts.{part-size, part-length}
+use Rattle.compare.specs.Table.{TableOf}
+use Rattle.compare.proofs.Filling.{opening-fits, lent-back, table-more}
+use borrow.Author.Needs.{needs}
+use native.Mathlib.Omega.{arith}
+use Rattle.compare.proofs.table.fill_table.Statement.{statement}
+use Rattle.compare.proofs.table.fill_table.Tie as tie
+
+abbrev Inv-loop : tie.InvT-loop
+Inv-loop table₀ statement n leaves openings size i₀ table i =
+    (i ≤ length leaves) × (length table ≡ 512000) × TableOf statement n leaves openings i table
+
+abbrev μ-loop : tie.MeasureT-loop
+μ-loop table₀ statement n leaves openings size i₀ table i = length leaves - i
+
+add-size : tie.Need-add-size Inv-loop μ-loop
+add-size c = omega (arith, c .before .before .before .pre .0 .most)
+
+mul-size : tie.Need-mul-size Inv-loop μ-loop
+mul-size c = omega (arith, c .before .before .before .pre .0 .most)
+
+loop-holds : tie.Need-loop-holds Inv-loop μ-loop
+loop-holds c = (omega arith, c .before .before .before .pre .1, record { rows = λ i small. absurd (omega arith) })
+
+-- this turn's row and opening lie within the table and the openings
+within : (c : tie.In-loop Inv-loop μ-loop)
+    → (2560 * c .before .loop .i + 2560 ≤ 512000) ×
+    (c .before .loop .i * openingSize (c .before .before .before .before .before .args .n)
+    + openingSize (c .before .before .before .before .before .args .n) ≤ length
+    (c .before .before .before .before .before .args .openings .now))
+within c =
+    let s = c .before .before .before .before .before in (
+      omega (arith, s .pre .0 .few, c .loop-test .taken),
+      omega (
+        arith,
+        opening-fits (s .args .n) (c .before .loop .i) (length (s .args .leaves .now)) (c .loop-test .taken),
+        s .pre .0 .whole,
+      ),
+    )
+
+mul-at : tie.Need-mul-at Inv-loop μ-loop
+mul-at c = omega (arith, within c)
+
+add-end : tie.Need-add-end Inv-loop μ-loop
+add-end c = omega (arith, within c)
+
+mul-from : tie.Need-mul-from Inv-loop μ-loop
+mul-from c = omega (arith, within c)
+
+add-to : tie.Need-add-to Inv-loop μ-loop
+add-to c = omega (arith, within c)
+
+sub-fill-row : tie.Need-sub-fill-row Inv-loop μ-loop
+sub-fill-row c = search needs
+
+part-fill-row-start : tie.Need-part-fill-row-start Inv-loop μ-loop
+part-fill-row-start c = omega (arith, within c)
+
+part-fill-row-end : tie.Need-part-fill-row-end Inv-loop μ-loop
+part-fill-row-end c = omega (arith, within c)
+
+mul-fill-row : tie.Need-mul-fill-row Inv-loop μ-loop
+mul-fill-row c = search needs
+
+shared-slice-read-fill-row : tie.Need-shared-slice-read-fill-row Inv-loop μ-loop
+shared-slice-read-fill-row c = search needs
+
+sub-fill-row-2 : tie.Need-sub-fill-row-2 Inv-loop μ-loop
+sub-fill-row-2 c = search needs
+
+part-fill-row-start-2 : tie.Need-part-fill-row-start-2 Inv-loop μ-loop
+part-fill-row-start-2 c = omega (arith, within (c .before .before))
+
+part-fill-row-end-2 : tie.Need-part-fill-row-end-2 Inv-loop μ-loop
+part-fill-row-end-2 c = omega (arith, within (c .before .before))
+
+fill-row-requires : tie.Need-fill-row-requires Inv-loop μ-loop
+fill-row-requires c κs =
+    let a = c .before .before .before .before .before .before .before .before .args in
+    let i = c .before .before .before .before .loop .i in
+    let size = openingSize (a .n) in
+    let room = within (c .before .before .before) in (
+      c .before .before .before .before .before .before .before .before .pre .0 .most,
+      ap length (part-size (a .openings .now) (i * size) size) ∙ part-length (a .openings .now) (i * size) size (room .1),
+      ap length (part-size (c .before .before .before .before .loop .table) (2560 * i) 2560)
+          ∙ part-length (c .before .before .before .before .loop .table) (2560 * i) 2560 (omega (arith, room .0)),
+    )
+
+add-i : tie.Need-add-i Inv-loop μ-loop
+add-i c = search needs
+
+loop-less : tie.Need-loop-less Inv-loop μ-loop
+loop-less c = search needs
+
+loop-again : tie.Need-loop-again Inv-loop μ-loop
+loop-again c =
+    let a = c .before .before .before .before .before .before .before .before .before .before .before .args in
+    let l = c .before .before .before .before .before .before .before .loop in
+    let row = c .before .before .fill-row in (
+      omega arith,
+      search needs,
+      table-more (a .statement) (a .n) (a .leaves .now) (a .openings .now) (l .table) (row .last .0) _ (l .i)
+          (omega (arith, within (c .before .before .before .before .before .before) .0)) (l .inv .1) (search needs) (l .inv .2)
+          (row .ensures) (lent-back (l .table) (row .last .0) (2560 * l .i) 2560 (search needs)),
+    )
+
+same-length : tie.Need-same-length Inv-loop μ-loop
+same-length c = search needs
+
+returns : tie.Need-returns Inv-loop μ-loop
+returns c =
+    let n : c .before .loop .i ≡ length (c .before .before .before .before .before .args .leaves .now) = omega arith in
+    rw n at (c .before .loop .inv .2)
+
+pub fill-table-spec : {M : Type 1} → statement M
+fill-table-spec =
+    tie.close
+    (tie.spec
+    Inv-loop
+    μ-loop
+    add-size
+    mul-size
+    loop-holds
+    mul-at
+    add-end
+    mul-from
+    add-to
+    sub-fill-row
+    part-fill-row-start
+    part-fill-row-end
+    mul-fill-row
+    shared-slice-read-fill-row
+    sub-fill-row-2
+    part-fill-row-start-2
+    part-fill-row-end-2
+    fill-row-requires
+    add-i
+    loop-less
+    loop-again
+    same-length
+    returns)

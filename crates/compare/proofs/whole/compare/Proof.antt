@@ -1,0 +1,44 @@
+-- `compare::compare` meets its contract: refused, or compared.
+use mathlib.Core.Path.{sym, _∙_}
+use Rattle.compare.proofs.Checks.{compared-done, compared-refused}
+use borrow.Author.Needs.{needs}
+use Rattle.compare.proofs.whole.compare.Statement.{statement}
+use Rattle.compare.proofs.whole.compare.Tie as tie
+
+check-requires : tie.Need-check-requires
+check-requires c κs = search needs
+
+enum-known-checked : tie.Need-enum-known-checked
+enum-known-checked c = search needs
+
+enum-told : tie.Need-enum-told
+enum-told c = search needs
+
+compare-all-requires : tie.Need-compare-all-requires
+compare-all-requires c κs = sym (c .before .before .check .ensures) ∙ c .enum-told .given .1
+
+returns : tie.Need-returns
+returns c =
+    let s = c .before .before .before .before .before .before in
+    let n = s .args .depth in
+    let leaves = s .args .leaves .now in
+    let openings = s .args .openings .now in
+    let row = sym (c .before .checked .given .1) ∙ c .before .before .before .check .ensures in
+    let e = compared-refused (s .args .statement) n leaves openings _ (sym row) in
+    (row, (sym e, (rw e, rw e)))
+
+returns-2 : tie.Need-returns-2
+returns-2 c =
+    let s = c .before .before .before .before .before .before in
+    let n = s .args .depth in
+    let leaves = s .args .leaves .now in
+    let openings = s .args .openings .now in
+    let row = sym (c .before .before .before .check .ensures) ∙ c .before .enum-told .given .1 in
+    let e = compared-done (s .args .statement) n leaves openings row in
+    let r = c .compare-all .ensures in
+    (r .0 ∙ sym row, (r .1 .0 ∙ sym e, (rw e (r .1 .1 .0), rw e (r .1 .1 .1))))
+
+pub compare-spec : {M : Type 1} → statement M
+compare-spec =
+    tie.close
+    (tie.spec check-requires enum-known-checked enum-told compare-all-requires returns returns-2)

@@ -1,0 +1,62 @@
+-- Internal to the comparison: its table of both child labels. A node on an opening's way takes 64 bytes, an opening 40 of them,
+-- the lowest node first. Contracts of callers cite Comparison.antt alone.
+use mathlib.Core.Path.{_≡_}
+use Prim.Native.Nat.{ℕ, suc, _+_, _-_, _*_, _≤_, _<_}
+use mathlib.Core.Bool.{Bool, not}
+use mathlib.Core.List.{List}
+use lib.Dec.{ltb}
+use lib.ListN.{length, getD, take, drop}
+use Rattle.base.specs.Choice.{both}
+use Rattle.base.specs.Bytes.{joined}
+use Rattle.base.specs.Lists.{sameBytes}
+use Rattle.base.specs.Limits.{maxDepth, maxChallenges}
+use Rattle.tree.specs.Labels.{Rule}
+use Rattle.tree.specs.Openings.{Given}
+use Rattle.tree.specs.Disagreement.{shared, childrenKnown}
+use Rattle.label.specs.Rule.{stampRule}
+use Rattle.opening.specs.Rows.{openingSize}
+use Rattle.verify.specs.OpeningCheck.{givenBy}
+use Rattle.compare.specs.Comparison.{leafOf}
+
+-- what the checks leave: so many leaves, and their openings end to end
+pub record Sized (n : ℕ) (leaves openings : List ℕ) : Type 0 where
+  pub most : n ≤ maxDepth
+  pub few : length leaves ≤ maxChallenges
+  pub whole : length openings ≡ length leaves * openingSize n
+
+-- part i of parts of one width
+abbrev pub partOf : ℕ → List ℕ → ℕ → List ℕ
+partOf width bytes i = take width (drop (width * i) bytes)
+
+-- a row: both child labels of each node on the way of one opening, of which k are filled
+pub record RowOf (r : Rule) (n leaf : ℕ) (given : Given) (k : ℕ) (row : List ℕ) : Type 0 where
+  pub filled : (h : ℕ) → h < k → partOf 64 row h ≡ joined (childrenKnown r n leaf given (n - suc h))
+
+-- the table, of which the rows of k openings are filled
+pub record TableOf (statement : List ℕ) (n : ℕ) (leaves openings : List ℕ) (k : ℕ) (table : List ℕ) : Type 0 where
+  pub rows :
+      (i : ℕ) → i < k →
+      RowOf
+      (stampRule statement)
+      n
+      (getD leaves i 0)
+      (givenBy (take (openingSize n) (drop (i * openingSize n) openings)))
+      n
+      (partOf 2560 table i)
+
+-- the child labels of the node of level l on the way of opening i, from 1
+unfoldable pub cell : ℕ → List ℕ → ℕ → ℕ → List ℕ
+cell n table i l = take 64 (drop (2560 * (i - 1) + 64 * (n - (l + 1))) table)
+
+-- leaves, and a table with room for their openings
+pub record Inside (n : ℕ) (leaves table : List ℕ) : Type 0 where
+  pub most : n ≤ maxDepth
+  pub few : length leaves ≤ maxChallenges
+  pub wide : length table ≡ 512000
+
+-- openings i and j disagree at their shared inner node of level l, as the table has them
+unfoldable pub tableDisagreement : ℕ → List ℕ → List ℕ → ℕ → ℕ → ℕ → Bool
+tableDisagreement n leaves table i j l =
+    both
+    (both (ltb l n) (shared n (leafOf leaves i) (leafOf leaves j) l))
+    (not (sameBytes (cell n table i l) (cell n table j l)))

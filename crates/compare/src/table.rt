@@ -1,0 +1,122 @@
+// The table of both child labels, 64 bytes for a node on an opening's way and 2,560 for an opening, the lowest node first.
+ghost use mathlib.Core.Path.{_≡_};
+ghost use Prim.Native.Nat.{_+_, _-_, _*_, _/_, _^_, _<_, _≤_};
+ghost use lib.ListN.{length};
+ghost use Rattle.base.specs.Choice.{odd};
+ghost use Rattle.base.specs.Bytes.{joined, written};
+ghost use Rattle.base.specs.Limits.{maxDepth};
+ghost use Rattle.tree.specs.Nodes.{node};
+ghost use Rattle.tree.specs.Labels.{labelBy};
+ghost use Rattle.tree.specs.Openings.{childLabels};
+ghost use Rattle.label.specs.Rule.{stampRule};
+ghost use Rattle.opening.specs.Rows.{openingSize};
+ghost use Rattle.verify.specs.OpeningCheck.{givenBy};
+ghost use Rattle.compare.specs.Comparison.{leafOf};
+ghost use Rattle.compare.specs.Table.{Sized, RowOf, TableOf, cell};
+use base::put;
+use label::label;
+use verify::label_at;
+
+// Room for 200 openings of depth 40. Alone, since a proof over so long a literal is slow.
+pub fn empty_table() -> [u8; 512000] {
+    [0u8; 512000]
+}
+
+// Writes both child labels of the node above a child at this position, the left one first.
+fn put_children(row: &mut [u8], at: usize, position: u64, child: [u8; 32], beside: &[u8])
+    requires { ⌜ (at + 64 ≤ length (now row)) × (length (now beside) ≡ 32) ⌝ }
+    ensures { λ _. ⌜ now (row .exit) ≡ written (now (row .entry)) at (joined (childLabels (odd position) child (now (beside .entry)))) ⌝ }
+{
+    if position % 2 == 1 {
+        put(row, at, beside);
+        put(row, at + 32, &child);
+        return;
+    }
+    put(row, at, &child);
+    put(row, at + 32, beside);
+}
+
+// The same, and the label of the node above.
+fn fill_node(
+    row: &mut [u8],
+    at: usize,
+    statement: [u8; 32],
+    level: u64,
+    position: u64,
+    child: [u8; 32],
+    beside: &[u8],
+) -> [u8; 32]
+    requires { ⌜ (level < 256) × (at + 64 ≤ length (now row)) × (length (now beside) ≡ 32) ⌝ }
+    ensures { λ r. ⌜ now (row .exit) ≡ written (now (row .entry)) at (joined (childLabels (odd position) child (now (beside .entry)))) ⌝ }
+    ensures { λ r. ⌜ r ≡ labelBy (stampRule statement) (node level (position / 2)) (childLabels (odd position) child (now (beside .entry))) ⌝ }
+{
+    put_children(row, at, position, child, beside);
+    let end = at + 64;
+    label(statement, level, position / 2, b"", &row[at..end])
+}
+
+// Fills an opening's row, walking its way upward once.
+fn fill_row(row: &mut [u8], statement: [u8; 32], n: u64, leaf: u64, bytes: &[u8])
+    requires { ⌜ (n ≤ maxDepth) × (length (now bytes) ≡ openingSize n) × (length (now row) ≡ 2560) ⌝ }
+    ensures { λ _. ⌜ RowOf (stampRule statement) n leaf (givenBy (now (bytes .entry))) n (now (row .exit)) ⌝ }
+{
+    let mut child = label_at(bytes, 0);
+    let mut height: u64 = 0;
+    while height < n {
+        let at = 32 * (height + 1) as usize;
+        let end = at + 32;
+        let above = fill_node(
+            row,
+            64 * height as usize,
+            statement,
+            n - (height + 1),
+            leaf >> height,
+            child,
+            &bytes[at..end],
+        );
+        child = above;
+        height += 1;
+    }
+}
+
+// Fills the rows of all openings.
+pub fn fill_table(table: &mut [u8], statement: [u8; 32], n: u64, leaves: &[u64], openings: &[u8])
+    requires { ⌜ Sized n (now leaves) (now openings) × (length (now table) ≡ 512000) ⌝ }
+    ensures { λ _. ⌜ TableOf statement n (now (leaves .entry)) (now (openings .entry)) (length (now (leaves .entry))) (now (table .exit)) ⌝ }
+{
+    let size = 32 * (n + 1) as usize;
+    let mut i: usize = 0;
+    while i < leaves.len() {
+        let at = 2560 * i;
+        let end = at + 2560;
+        let from = i * size;
+        let to = from + size;
+        fill_row(
+            &mut table[at..end],
+            statement,
+            n,
+            leaves[i],
+            &openings[from..to],
+        );
+        i += 1;
+    }
+}
+
+// The child labels of the node of this level on the way of opening i.
+pub fn cell_at(n: u64, table: &[u8], i: u64, level: u64) -> &[u8]
+    requires { ⌜ (1 ≤ i) × (2560 * i ≤ length (now table)) × (level < n) × (n ≤ maxDepth) ⌝ }
+    ensures { λ r. ⌜ now r ≡ cell n (now (table .entry)) i level ⌝ }
+{
+    let at = 2560 * (i - 1) as usize + 64 * (n - (level + 1)) as usize;
+    let end = at + 64;
+    &table[at..end]
+}
+
+// The position of that node.
+pub fn way_position(n: u64, leaves: &[u64], i: u64, level: u64) -> u64
+    requires { ⌜ (1 ≤ i) × (i ≤ length (now leaves)) × (level ≤ n) × (n ≤ maxDepth) ⌝ }
+    ensures { λ r. ⌜ r ≡ leafOf (now (leaves .entry)) i / 2 ^ (n - level) ⌝ }
+{
+    let at = (i - 1) as usize;
+    leaves[at] >> (n - level)
+}

@@ -1,0 +1,91 @@
+// The comparison: the checks, then the table, then the first pair.
+ghost use mathlib.Core.Path.{_≡_};
+ghost use lib.ListN.{length};
+ghost use Rattle.refusal.specs.declared.Outcome.the-variants.{Done};
+ghost use Rattle.compare.specs.Comparison.{compareRow, compared, firstDisagreement, firstInput, secondInput};
+use crate::Compared;
+use crate::Pair;
+use crate::inputs::input_at;
+use crate::pairs::first_pair;
+use crate::table::empty_table;
+use crate::table::fill_table;
+use chain::check_leaves;
+use refusal::Outcome;
+use refusal::Refusal;
+
+// The checks: those of planning, then the size.
+fn check(depth: u64, leaves: &[u64], size: usize) -> Outcome
+    ensures { λ r. ⌜ r ≡ compareRow depth (now (leaves .entry)) size ⌝ }
+{
+    let checked = check_leaves(depth, leaves);
+    match checked {
+        Outcome::Refused(why) => return Outcome::Refused(why),
+        Outcome::Done => {}
+    }
+    let all = leaves.len() * (32 * (depth + 1) as usize);
+    if size < all {
+        return Outcome::Refused(Refusal::BytesEnd);
+    }
+    if all < size {
+        return Outcome::Refused(Refusal::BytesLeft);
+    }
+    Outcome::Done
+}
+
+// The comparison of openings that passed the checks.
+fn compare_all(statement: [u8; 32], depth: u64, leaves: &[u64], openings: &[u8]) -> Compared
+    requires { ⌜ compareRow depth (now leaves) (length (now openings)) ≡ Done ⌝ }
+    ensures { λ r. ⌜ r .outcome ≡ Done ⌝ }
+    ensures { λ r. ⌜ r .pair ≡ firstDisagreement statement depth (now (leaves .entry)) (now (openings .entry)) ⌝ }
+    ensures { λ r. ⌜ r .first ≡ firstInput statement depth (now (leaves .entry)) (now (openings .entry)) (firstDisagreement statement depth (now (leaves .entry)) (now (openings .entry))) ⌝ }
+    ensures { λ r. ⌜ r .second ≡ secondInput statement depth (now (leaves .entry)) (now (openings .entry)) (firstDisagreement statement depth (now (leaves .entry)) (now (openings .entry))) ⌝ }
+{
+    let mut table = empty_table();
+    fill_table(&mut table, statement, depth, leaves, openings);
+    let pair = first_pair(depth, leaves, &table);
+    match pair {
+        Pair::Agree => {
+            let first = [0u8; 105];
+            let second = [0u8; 105];
+            Compared {
+                outcome: Outcome::Done,
+                pair: Pair::Agree,
+                first,
+                second,
+            }
+        }
+        Pair::Disagree(i, j, level) => {
+            let first = input_at(statement, depth, leaves, &table, i, level);
+            let second = input_at(statement, depth, leaves, &table, j, level);
+            Compared {
+                outcome: Outcome::Done,
+                pair: Pair::Disagree(i, j, level),
+                first,
+                second,
+            }
+        }
+    }
+}
+
+// Compares openings, given one after the other, with their leaves. They need not be right.
+pub fn compare(statement: [u8; 32], depth: u64, leaves: &[u64], openings: &[u8]) -> Compared
+    ensures { λ r. ⌜ r .outcome ≡ compareRow depth (now (leaves .entry)) (length (now (openings .entry))) ⌝ }
+    ensures { λ r. ⌜ r .pair ≡ compared statement depth (now (leaves .entry)) (now (openings .entry)) ⌝ }
+    ensures { λ r. ⌜ r .first ≡ firstInput statement depth (now (leaves .entry)) (now (openings .entry)) (compared statement depth (now (leaves .entry)) (now (openings .entry))) ⌝ }
+    ensures { λ r. ⌜ r .second ≡ secondInput statement depth (now (leaves .entry)) (now (openings .entry)) (compared statement depth (now (leaves .entry)) (now (openings .entry))) ⌝ }
+{
+    let checked = check(depth, leaves, openings.len());
+    match checked {
+        Outcome::Refused(why) => {
+            let first = [0u8; 105];
+            let second = [0u8; 105];
+            Compared {
+                outcome: Outcome::Refused(why),
+                pair: Pair::Agree,
+                first,
+                second,
+            }
+        }
+        Outcome::Done => compare_all(statement, depth, leaves, openings),
+    }
+}

@@ -1,0 +1,132 @@
+-- A file that is accepted: where its parts lie, its leaves and openings pass the comparison's checks, and what is drawn.
+use mathlib.Core.Path.{_≡_, refl, sym, ap, _∙_}
+use Prim.Native.Nat.{ℕ, _+_, _-_, _*_, _<_}
+use native.Mathlib.Omega.{arith}
+use mathlib.Core.Bool.{true}
+use mathlib.Core.List.{List}
+use lib.ListN.{length, getD, take, drop, length-drop}
+use lib.Seq.{take-all}
+use Rattle.base.specs.Bytes.{zeros}
+use Rattle.base.specs.Limits.{maxDepth, maxChallenges}
+use Rattle.refusal.specs.declared.Refusal.{Refusal}
+use Rattle.refusal.specs.declared.Outcome.the-variants.{Done}
+use Rattle.refusal.specs.declared.Check.the-variants.{Accepted, Rejected}
+use Rattle.ways.specs.Ways.{chain}
+use Rattle.ways.specs.Planning.{every, isLeaf}
+use Rattle.opening.specs.Rows.{openingSize}
+use Rattle.verify.proofs.Ranges.{in-range}
+use Rattle.proof.specs.Layout.{headNumbers}
+use Rattle.proof.specs.Head.{headOf, lengthFrom, rootAt}
+use Rattle.proof.specs.FileCheck.{fileCheck}
+use Rattle.accepted.specs.IsProof.{IsDepth, IsCount, IsProof}
+use Rattle.accepted.proofs.Soundness.{accepted-proof}
+use Rattle.accepted.proofs.Completeness.{file-head, file-size}
+use Rattle.chain.specs.Place.{leavesRow}
+use Rattle.chain.proofs.Rows.{row-done}
+use Rattle.compare.specs.declared.Pair.{Pair}
+use Rattle.compare.specs.Comparison.{compared, firstInput, secondInput}
+use Rattle.compare.proofs.Checks.{size-right, compared-done}
+use Rattle.draw.specs.declared.Drawing.{Drawing}
+use Rattle.draw.specs.declared.Drawing.the-variants.{NotDrawn}
+use Rattle.draw.specs.Drawing.{leavesFrom, numbersEnd, leavesOf, openingsOf, pairOf, drawnFrom, drawingOf, drawnList, clashPair, firstDrawn, secondDrawn}
+use Rattle.draw.proofs.LeavesOpened.{length-leaves, leaves-inside}
+use Rattle.draw.proofs.Chains.{DrawnFrom, clash-pair}
+
+-- bytes from a place to the end
+pub rest-of : (bytes : List ℕ) (start : ℕ) → take (length bytes - start) (drop start bytes) ≡ drop start bytes
+rest-of bytes start = take-all (length bytes - start) (drop start bytes) (rw length-drop (omega arith))
+
+-- the answer and the list afterwards
+abbrev pub Answers : List ℕ → List ℕ → ℕ → ℕ → List ℕ → Drawing → List ℕ → List ℕ → List ℕ → Type 0
+Answers bytes statement n t list drawing after first second =
+    (drawing ≡ drawingOf bytes statement n t (length list))
+    × ((after ≡ drawnList bytes statement n t list)
+    × ((first ≡ firstDrawn bytes statement n t (length list)) × (second ≡ secondDrawn bytes statement n t (length list))))
+
+pub file-refused : (bytes statement : List ℕ) (n t : ℕ) (list : List ℕ) (r : Refusal) (i : ℕ) → fileCheck bytes statement n t ≡ Rejected r i
+    → Answers bytes statement n t list (NotDrawn r i) list (zeros 105) (zeros 105)
+unfolding drawingOf drawnList firstDrawn secondDrawn
+file-refused bytes statement n t list r i e = (rw e, (rw e, (rw e, rw e)))
+
+module _ (bytes statement : List ℕ) (n t : ℕ) (small : (j : ℕ) → getD bytes j 0 < 256) (ok : fileCheck bytes statement n t ≡ Accepted) where
+  isProof : IsProof bytes statement n t
+  isProof = accepted-proof bytes statement n t small ok
+
+  pub depth-known : IsDepth n
+  depth-known = isProof .depth
+
+  pub count-known : IsCount t
+  count-known = isProof .count
+
+  end-known : numbersEnd (headOf bytes) ≡ length (headNumbers n t)
+  end-known = ap numbersEnd (file-head bytes statement n t isProof)
+
+  pub size-known : (at : ℕ) → at ≡ numbersEnd (headOf bytes) → length bytes ≡ lengthFrom n t at
+  size-known at e = rw (e, end-known) (file-size bytes statement n t isProof)
+
+  pub leaves-known : (at : ℕ) (root leaves : List ℕ) → at ≡ numbersEnd (headOf bytes) → root ≡ rootAt bytes at
+      → leaves ≡ leavesFrom n statement root 1 t → leaves ≡ leavesOf bytes statement n t
+  unfolding leavesOf
+  leaves-known at root leaves e f g = g ∙ rw (f, e)
+
+  pub openings-known : (at : ℕ) (openings : List ℕ) → at ≡ numbersEnd (headOf bytes) → openings ≡ take (length bytes - (at + 64)) (drop (at + 64) bytes)
+      → openings ≡ openingsOf bytes
+  unfolding openingsOf
+  openings-known at openings e f = f ∙ rest-of bytes (at + 64) ∙ rw e
+
+  leaves-count : length (leavesOf bytes statement n t) ≡ t
+  unfolding leavesOf
+  leaves-count = length-leaves n statement (rootAt bytes (numbersEnd (headOf bytes))) 1 t
+
+  all-leaves : every (isLeaf n) (leavesOf bytes statement n t) ≡ true
+  unfolding leavesOf
+  all-leaves = leaves-inside n statement (rootAt bytes (numbersEnd (headOf bytes))) (depth-known .1) 1 t
+
+  leaves-row : leavesRow n (leavesOf bytes statement n t) ≡ Done
+  leaves-row =
+      sym
+      (row-done n (leavesOf bytes statement n t) (in-range 1 maxDepth n (depth-known .0) (depth-known .1))
+      (rw leaves-count (in-range 1 maxChallenges t (count-known .0) (count-known .1))) all-leaves)
+
+  pub leaves-done : (leaves : List ℕ) → leaves ≡ leavesOf bytes statement n t → leavesRow n leaves ≡ Done
+  leaves-done leaves e = rw e leaves-row
+
+  openings-length : length (openingsOf bytes) ≡ length (leavesOf bytes statement n t) * openingSize n
+  unfolding openingsOf
+  openings-length =
+      let all : length bytes ≡ lengthFrom n t (numbersEnd (headOf bytes)) = size-known (numbersEnd (headOf bytes)) refl in
+      rw (leaves-count, length-drop) (omega arith)
+
+  pair-known : compared statement n (leavesOf bytes statement n t) (openingsOf bytes) ≡ pairOf bytes statement n t
+  unfolding pairOf
+  pair-known =
+      compared-done statement n (leavesOf bytes statement n t) (openingsOf bytes)
+      (sym
+      (size-right n (leavesOf bytes statement n t) (length (openingsOf bytes)) leaves-row (omega (arith, openings-length))
+      (omega (arith, openings-length))))
+
+  drawing-by : (list : ℕ) → drawingOf bytes statement n t list ≡ drawnFrom (pairOf bytes statement n t) (length (chain n (leavesOf bytes statement n t))) list
+  unfolding drawingOf
+  drawing-by list = rw ok
+
+  clash-by : (list : ℕ) → clashPair (drawingOf bytes statement n t list) ≡ pairOf bytes statement n t
+  clash-by list =
+      ap clashPair (drawing-by list)
+      ∙ clash-pair (pairOf bytes statement n t) (length (chain n (leavesOf bytes statement n t))) list
+
+  -- what the comparison and the chain give is what is drawn
+  pub all-drawn : (leaves openings list after first second : List ℕ) (pair : Pair) (drawing : Drawing) → leaves ≡ leavesOf bytes statement n t
+      → openings ≡ openingsOf bytes → pair ≡ compared statement n leaves openings
+      → first ≡ firstInput statement n leaves openings (compared statement n leaves openings)
+      → second ≡ secondInput statement n leaves openings (compared statement n leaves openings) → DrawnFrom pair n leaves list drawing after
+      → Answers bytes statement n t list drawing after first second
+  unfolding drawnList firstDrawn secondDrawn
+  all-drawn leaves openings list after first second pair drawing el eo p f g d =
+      let e : pair ≡ pairOf bytes statement n t = p ∙ rw (el, eo) pair-known in
+      let q : drawing ≡ drawingOf bytes statement n t (length list) = d .0 ∙ rw (e, el) (sym (drawing-by (length list))) in (
+        q,
+        (
+          d .1 ∙ rw (q, el),
+          (f ∙ rw (el, eo, pair-known, clash-by (length list)), g ∙ rw (el, eo, pair-known, clash-by (length list))),
+        ),
+      )

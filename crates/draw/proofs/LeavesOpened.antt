@@ -1,0 +1,59 @@
+-- The leaves of a proof's challenges: written one after another, their count, and that they are leaves.
+use mathlib.Core.Path.{_≡_, refl, sym, ap, _∙_}
+use Prim.Native.Nat.{ℕ, zero, suc, _+_, _-_, _^_, _≤_, _<_}
+use native.Mathlib.Numerals.{add-one}
+use native.Mathlib.Omega.{arith}
+use mathlib.Core.Bool.{true}
+use mathlib.Core.List.{List, [], _∷_, _++_, append-nil}
+use borrow.Author.Tests.{lt-ltb}
+use lib.ListN.{length, take, set}
+use lib.Seq.{take-suc-set, append-snoc}
+use Rattle.ways.specs.Planning.{every, isLeaf}
+use Rattle.ways.proofs.Lists.{every-both}
+use Rattle.proof.specs.declared.HeadNumbers.{HeadNumbers}
+use Rattle.proof.specs.Challenge.{challengeLeaf, challenged}
+use Rattle.accepted.specs.IsProof.{IsDepth}
+use Rattle.accepted.proofs.RowLaws.{challenge-done}
+use Rattle.accepted.proofs.Leaves.{challengeLeaf-small}
+use Rattle.draw.specs.Drawing.{leavesFrom, numbersEnd}
+
+pub end-known : (head read : HeadNumbers) (at : ℕ) → head ≡ read → numbersEnd head ≡ at → at ≡ numbersEnd read
+end-known head read at e f = sym f ∙ ap numbersEnd e
+
+module _ (n : ℕ) (statement root : List ℕ) where
+  pub length-leaves : (i left : ℕ) → length (leavesFrom n statement root i left) ≡ left
+  unfolding leavesFrom
+  length-leaves i zero = refl
+  length-leaves i (suc left) = ap suc (length-leaves (i + 1) left)
+
+  pub leaves-inside : n ≤ 40 → (i left : ℕ) → every (isLeaf n) (leavesFrom n statement root i left) ≡ true
+  unfolding leavesFrom isLeaf
+  leaves-inside small i zero = unfold every in refl
+  leaves-inside small i (suc left) =
+      every-both (isLeaf n) (challengeLeaf n statement root i) (leavesFrom n statement root (i + 1) left)
+      (lt-ltb (challengeLeaf n statement root i) (2 ^ n) (challengeLeaf-small n statement root i (omega arith)))
+      (leaves-inside small (i + 1) left)
+
+  -- the loop that writes them
+  module _ (count : ℕ) where
+    pub leaves-none : leavesFrom n statement root 1 (count - 0) ≡ leavesFrom n statement root 1 count
+    leaves-none = let all : count - 0 ≡ count = omega arith in rw all
+
+    pub leaves-more : (leaves : List ℕ) (i leaf : ℕ) → IsDepth n → count ≤ 200 → length leaves ≡ 200 → i < count → leaf ≡ challenged n statement root (i + 1)
+        → take i leaves ++ leavesFrom n statement root (i + 1) (count - i) ≡ leavesFrom n statement root 1 count
+        → take (i + 1) (set leaves i leaf) ++ leavesFrom n statement root (i + 1 + 1) (count - (i + 1)) ≡ leavesFrom n statement root 1 count
+    unfolding leavesFrom challenged
+    leaves-more leaves i leaf depth few wide h e before =
+        let more : count - i ≡ suc (count - (i + 1)) = omega arith in
+        let here : leaf ≡ challengeLeaf n statement root (i + 1) = rw (challenge-done n (i + 1) depth (omega arith, omega arith)) at e in
+        let first : take (i + 1) (set leaves i leaf) ≡ take i leaves ++ (leaf ∷ []) = rw (add-one i) (take-suc-set leaves i leaf (omega arith)) in
+        rw (first, append-snoc, here) (rw more at before)
+
+    pub leaves-all : (leaves : List ℕ) (i : ℕ) → i ≤ count → count ≤ i
+        → take i leaves ++ leavesFrom n statement root (i + 1) (count - i) ≡ leavesFrom n statement root 1 count
+        → take count leaves ≡ leavesFrom n statement root 1 count
+    unfolding leavesFrom
+    leaves-all leaves i h k e =
+        let none : count - i ≡ 0 = omega arith in
+        let all : i ≡ count = omega arith in
+        sym (append-nil (take count leaves)) ∙ (rw (none, all) at e)

@@ -1,0 +1,3 @@
+pub mod LeavesOpened
+pub mod Chains
+pub mod AcceptedFile

@@ -1,0 +1,129 @@
+-- `draw::whole::draw_accepted` meets its contract: an accepted file is a proof, so its leaves and openings pass every check that
+-- follows.
+use mathlib.Core.Path.{_≡_, refl, sym}
+use Prim.Native.Nat.{ℕ, _<_}
+use lib.ListN.{length, getD, take}
+use lib.Seq.{length-take-le}
+use Rattle.proof.specs.Head.{lengthFrom}
+use Rattle.accepted.specs.IsProof.{IsProof}
+use Rattle.accepted.proofs.Soundness.{accepted-proof}
+use Rattle.draw.specs.Drawing.{leavesOf}
+use Rattle.draw.proofs.AcceptedFile.{size-known, leaves-known, openings-known, leaves-done, all-drawn}
+use native.Mathlib.Omega.{arith}
+use borrow.Author.Needs.{needs}
+use Rattle.draw.proofs.whole.draw_accepted.Statement.{statement}
+use Rattle.draw.proofs.whole.draw_accepted.Tie as tie
+
+numbers-end-requires : tie.Need-numbers-end-requires
+numbers-end-requires c κs = search needs
+
+-- the file's bytes, and what is known of it
+bytes : (c : tie.After-shared-slice-known) (j : ℕ) → getD (c .before .args .file .now) j 0 < 256
+bytes c j = c .shared-slice-known .given j .fits
+
+known : (c : tie.After-shared-slice-known)
+    → IsProof (c .before .args .file .now) (c .before .args .statement) (c .before .args .depth) (c .before .args .count)
+known c = accepted-proof _ _ _ _ (bytes c) (c .before .pre)
+
+size : (c : tie.After-numbers-end)
+    → length (c .before .before .before .args .file .now) ≡ lengthFrom (c .before .before .before .args .depth)
+    (c .before .before .before .args .count) (c .numbers-end .result)
+size c =
+    let s = c .before .before .before in
+    size-known (s .args .file .now) (s .args .statement) (s .args .depth) (s .args .count) (bytes (c .before .before)) (s .pre) _
+    (c .numbers-end .ensures)
+
+-- the leaves are those opened
+leaves : (c : tie.After-challenge-leaves)
+    → take (c .before .before .before .before .before .args .count) (c .challenge-leaves .result) ≡ leavesOf
+    (c .before .before .before .before .before .args .file .now) (c .before .before .before .before .before .args .statement)
+    (c .before .before .before .before .before .args .depth) (c .before .before .before .before .before .args .count)
+leaves c =
+    let s = c .before .before .before .before .before in
+    leaves-known (s .args .file .now) (s .args .statement) (s .args .depth) (s .args .count) (bytes (c .before .before .before .before))
+    (s .pre) _ _ _ (c .before .before .numbers-end .ensures) (c .before .label-at .ensures) (c .challenge-leaves .ensures)
+
+add-label-at : tie.Need-add-label-at
+add-label-at c = omega (arith, size c)
+
+label-at-requires : tie.Need-label-at-requires
+label-at-requires c κs = omega (arith, size c)
+
+challenge-leaves-requires : tie.Need-challenge-leaves-requires
+challenge-leaves-requires c κs = let k = known (c .before .before .before) in (k .depth .0, k .depth .1, k .count .1)
+
+add-start : tie.Need-add-start
+add-start c = omega (arith, size (c .before .before))
+
+array-share-prefix-leaves : tie.Need-array-share-prefix-leaves
+array-share-prefix-leaves c = omega (arith, known (c .before .before .before .before) .count)
+
+slice-aggregate-compare : tie.Need-slice-aggregate-compare
+slice-aggregate-compare c = sym (length-take-le _ _ (omega (arith, known (c .before .before .before .before .before) .count)))
+
+sub-compare : tie.Need-sub-compare
+sub-compare c = omega (arith, size (c .before .before .before))
+
+part-compare-start : tie.Need-part-compare-start
+part-compare-start c = omega (arith, size (c .before .before .before))
+
+part-compare-end : tie.Need-part-compare-end
+part-compare-end c = search needs
+
+compare-requires : tie.Need-compare-requires
+compare-requires c κs = search needs
+
+array-share-prefix-leaves-2 : tie.Need-array-share-prefix-leaves-2
+array-share-prefix-leaves-2 c =
+    omega (arith, known (c .before .before .before .before .before .before .before .before .before) .count)
+
+slice-aggregate-draw-pair : tie.Need-slice-aggregate-draw-pair
+slice-aggregate-draw-pair c =
+    sym (length-take-le _ _ (omega (
+      arith,
+      known
+          (c .before .before .before .before .before .before .before .before .before .before) .count,
+    )))
+
+draw-pair-requires : tie.Need-draw-pair-requires
+draw-pair-requires c κs =
+    let s = c .before .before .before .before .before .before .before .before .before .before .before .before in
+    leaves-done (s .args .file .now) (s .args .statement) (s .args .depth) (s .args .count)
+    (bytes (c .before .before .before .before .before .before .before .before .before .before .before)) (s .pre) _
+    (leaves (c .before .before .before .before .before .before .before))
+
+same-length : tie.Need-same-length
+same-length c = search needs
+
+returns : tie.Need-returns
+returns c =
+    let s = c .before .before .before .before .before .before .before .before .before .before .before .before .before .before .before in
+    let k = c .before .before .before .before .before .before .before .compare in
+    all-drawn (s .args .file .now) (s .args .statement) (s .args .depth) (s .args .count)
+    (bytes (c .before .before .before .before .before .before .before .before .before .before .before .before .before .before))
+    (s .pre) _ _ (s .args .list .now) _ _ _ _ _ (leaves
+    (c .before .before .before .before .before .before .before .before .before .before))
+    (openings-known (s .args .file .now) (s .args .statement) (s .args .depth) (s .args .count)
+    (bytes (c .before .before .before .before .before .before .before .before .before .before .before .before .before .before))
+    (s .pre) _ _ (c .before .before .before .before .before .before .before .before .before .before .before .before .numbers-end .ensures) refl) (k .ensures .1 .0) (k .ensures .1 .1 .0) (k .ensures .1 .1 .1) (c .before .before .draw-pair .ensures)
+
+pub draw-accepted-spec : {M : Type 1} → statement M
+draw-accepted-spec =
+    tie.close
+    (tie.spec
+    numbers-end-requires
+    add-label-at
+    label-at-requires
+    challenge-leaves-requires
+    add-start
+    array-share-prefix-leaves
+    slice-aggregate-compare
+    sub-compare
+    part-compare-start
+    part-compare-end
+    compare-requires
+    array-share-prefix-leaves-2
+    slice-aggregate-draw-pair
+    draw-pair-requires
+    same-length
+    returns)

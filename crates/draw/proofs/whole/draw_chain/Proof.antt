@@ -1,0 +1,47 @@
+-- `draw::whole::draw_chain` meets its contract: the list is short, or the chain is written.
+use mathlib.Core.Path.{sym, _∙_}
+use Rattle.draw.proofs.Chains.{chain-refused, chain-drawn}
+use borrow.Author.Needs.{needs}
+use Rattle.draw.proofs.whole.draw_chain.Statement.{statement}
+use Rattle.draw.proofs.whole.draw_chain.Tie as tie
+
+plan-requires : tie.Need-plan-requires
+plan-requires c κs = search needs
+
+enum-known-outcome : tie.Need-enum-known-outcome
+enum-known-outcome c = search needs
+
+enum-told : tie.Need-enum-told
+enum-told c = search needs
+
+same-length : tie.Need-same-length
+same-length c = search needs
+
+returns : tie.Need-returns
+returns c =
+    let s = c .before .before .before .before .before .before .before .before .before in
+    let p = c .before .before .before .before .before .plan in
+    chain-refused (s .args .depth) (s .args .leaves .now) (s .args .list .now) _ (p .result .count) (s .pre) (p .ensures .1 .0)
+    (p .ensures .1 .1) _ (sym (p .ensures .0) ∙ c .before .outcome .given .1)
+
+same-length-2 : tie.Need-same-length-2
+same-length-2 c = search needs
+
+returns-2 : tie.Need-returns-2
+returns-2 c =
+    let s = c .before .before .before .before .before .before .before .before in
+    let p = c .before .before .before .before .plan in
+    chain-drawn (s .args .depth) (s .args .leaves .now) (s .args .list .now) _ (p .result .count) (s .pre) (p .ensures .1 .0)
+    (p .ensures .1 .1) (sym (p .ensures .0) ∙ c .enum-told .given .1)
+
+pub draw-chain-spec : {M : Type 1} → statement M
+draw-chain-spec =
+    tie.close
+    (tie.spec
+    plan-requires
+    enum-known-outcome
+    enum-told
+    same-length
+    returns
+    same-length-2
+    returns-2)

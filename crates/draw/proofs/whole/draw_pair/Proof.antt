@@ -1,0 +1,34 @@
+-- `draw::whole::draw_pair` meets its contract: a clash, or the chain.
+use mathlib.Core.Path.{refl}
+use Rattle.draw.proofs.Chains.{pair-drawn}
+use borrow.Author.Needs.{needs}
+use Rattle.draw.proofs.whole.draw_pair.Statement.{statement}
+use Rattle.draw.proofs.whole.draw_pair.Tie as tie
+
+enum-known-pair : tie.Need-enum-known-pair
+enum-known-pair c = search needs
+
+enum-told : tie.Need-enum-told
+enum-told c = search needs
+
+draw-chain-requires : tie.Need-draw-chain-requires
+draw-chain-requires c κs = search needs
+
+returns : tie.Need-returns
+returns c =
+    let s = c .before .before .before .before .before in
+    pair-drawn (s .args .depth) (s .args .leaves .now) (s .args .list .now) _ _ _ _ (c .before .pair .given .1) (refl, refl)
+
+same-length : tie.Need-same-length
+same-length c = search needs
+
+returns-2 : tie.Need-returns-2
+returns-2 c =
+    let s = c .before .before .before .before .before .before .before .before in
+    pair-drawn (s .args .depth) (s .args .leaves .now) (s .args .list .now) _ _ _ _
+    (c .before .before .before .before .enum-told .given .1) (c .before .before .draw-chain .ensures)
+
+pub draw-pair-spec : {M : Type 1} → statement M
+draw-pair-spec =
+    tie.close
+    (tie.spec enum-known-pair enum-told draw-chain-requires returns same-length returns-2)

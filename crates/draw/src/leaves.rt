@@ -1,0 +1,36 @@
+// Document 01, 'The leaves opened are those of its challenges 1 to t.'
+ghost use mathlib.Core.Path.{_≡_};
+ghost use Prim.Native.Nat.{_≤_};
+ghost use lib.ListN.{take};
+ghost use Rattle.proof.specs.Head.{headOf};
+ghost use Rattle.draw.specs.Drawing.{leavesFrom, numbersEnd};
+use proof::HeadNumbers;
+use proof::challenge;
+use proof::read_head;
+
+// Where the head's numbers end; 0 if they cannot be read.
+pub fn numbers_end(file: &[u8]) -> usize
+    ensures { λ r. ⌜ r ≡ numbersEnd (headOf (now (file .entry))) ⌝ }
+{
+    let head = read_head(file);
+    match head {
+        HeadNumbers::NotRead(_) => 0,
+        HeadNumbers::Numbers(_, _, next) => next.at,
+    }
+}
+
+// The leaves of challenges 1 to count, in the first of 200 places.
+pub fn challenge_leaves(depth: u64, statement: [u8; 32], root: [u8; 32], count: u64) -> [u64; 200]
+    requires { ⌜ (1 ≤ depth) × (depth ≤ 40) × (count ≤ 200) ⌝ }
+    ensures { λ r. ⌜ take count r ≡ leavesFrom depth statement root 1 count ⌝ }
+{
+    let mut leaves = [0u64; 200];
+    let mut i: u64 = 0;
+    while i < count {
+        let challenged = challenge(depth, statement, root, i + 1);
+        let at = i as usize;
+        leaves[at] = challenged.leaf;
+        i += 1;
+    }
+    leaves
+}
