@@ -2,3 +2,4 @@ pub mod ReadLaws
 pub mod Laying
 pub mod AnswerLaws
 pub mod InputLaws
+pub mod LongEnough
