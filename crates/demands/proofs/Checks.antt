@@ -1,0 +1,290 @@
+-- Document 01's rows, each over the definition that a contract cites: the number answered, and what a refused call leaves.
+use mathlib.Core.Path.{_≡_, refl}
+use mathlib.Core.Logic.{_⊎_}
+use Prim.Native.Nat.{ℕ, _+_, _-_, _*_, _^_, _≤_, _<_, min}
+use native.Mathlib.Omega.{arith}
+use mathlib.Core.Bool.{Bool, true, false, not}
+use mathlib.Core.List.{List, [], _∷_}
+use lib.Dec.{ltb, leb, eqb}
+use lib.ListN.{length, getD}
+use borrow.Author.Tests.{leb-true, leb-false}
+use Rattle.base.specs.Choice.{pick, both}
+use Rattle.base.specs.Bytes.{zeros}
+use Rattle.base.specs.Limits.{maxHashed}
+use Rattle.refusal.specs.declared.Refusal.{Refusal}
+use Rattle.refusal.specs.declared.Refusal.the-variants.{Depth, MemoryLevel, ShortStore, State, TooManyBytes, LeafPosition, ShortOutput, Count, BytesEnd, BytesLeft, LeafLabel, Root, ShortList}
+use Rattle.refusal.specs.declared.Outcome.the-variants.{Done, Refused}
+use Rattle.refusal.specs.Number.{outcomeNumber}
+use Rattle.refusal.specs.Row.{outside, either}
+use Rattle.sha256.specs.declared.Hash.{Hash}
+use Rattle.sha256.specs.Portions.{newHash, tooMany, updateOutcome, updateState, finishOutcome, finishDigest, digestOutcome, digestAnswer}
+use Rattle.tree.specs.Walk.{nodesIn}
+use Rattle.tree.specs.Store.{storeSize}
+use Rattle.tree.specs.Openings.{LeafRight, RootRight}
+use Rattle.label.specs.Rule.{stampRule}
+use Rattle.run.specs.declared.Run.{Run}
+use Rattle.run.specs.Rows.{memoryOver, impossible, startRow, continueRow}
+use Rattle.run.specs.Steps as runs
+use Rattle.opening.specs.declared.Opening.{Opening}
+use Rattle.opening.specs.Rows.{openingSize, nodesAnew, openRow, reopenRow}
+use Rattle.opening.specs.Steps as openings
+use Rattle.verify.specs.OpeningCheck.{givenBy, leafWrong, rootWrong, openingRow}
+use Rattle.proof.specs.Challenge.{challengeRow, challenged}
+use Rattle.proof.specs.Layout.{fileSize, headRow, headWritten}
+use Rattle.ways.specs.Ways.{chain}
+use Rattle.ways.specs.Planning.{every, isLeaf}
+use Rattle.chain.specs.PlanRow.{planRow, plannedCount, plannedList}
+use Rattle.writing.specs.declared.Writing.{Writing}
+use Rattle.writing.specs.Rows.{writeRow, rewriteRow}
+use Rattle.writing.specs.Steps as writings
+use Rattle.demands.specs.Rows.{IsFirst, Outside, Impossible, planningChain, ImpossibleFile}
+use Rattle.demands.specs.Demand1.{HashingPortion, HashingEnd, HashingWhole, StartingRun, ContinuingRun, StartingOpening, ContinuingOpening, AChallenge, WritingHead, OneOpening, PlanningChain, StartingFile, ContinuingFile}
+use Rattle.demands.proofs.Decisions.{Decides, decides-outside, decides-lt, decides-le, decides-eq, decides-differ, decides-both, decides-either, decides-some, decides-under, Decided, is-first}
+
+-- ---- conditions that stand in several rows
+abbrev pub depth : ℕ → Decided
+depth n = record { test = outside 1 40 n; condition = Outside 1 40 n; decides = decides-outside 1 40 n; refusal = Depth }
+
+abbrev memory : ℕ → ℕ → Decided
+memory n m = record { test = memoryOver n m; condition = min n 20 < m; decides = decides-lt (min n 20) m; refusal = MemoryLevel }
+
+abbrev room : ℕ → ℕ → Decided
+room m store =
+    record {
+      test = ltb store (storeSize m);
+      condition = store < 32 * (2 ^ (m + 1) - 1);
+      decides = decides-lt store (storeSize m);
+      refusal = ShortStore;
+    }
+
+abbrev position : ℕ → ℕ → Decided
+position n leaf = record { test = leb (2 ^ n) leaf; condition = 2 ^ n ≤ leaf; decides = decides-le (2 ^ n) leaf; refusal = LeafPosition }
+
+abbrev output : ℕ → ℕ → Decided
+output n out =
+    record { test = ltb out (openingSize n); condition = out < 32 * (n + 1); decides = decides-lt out (openingSize n); refusal = ShortOutput }
+
+abbrev wholeFile : ℕ → ℕ → ℕ → Decided
+wholeFile n t out =
+    record { test = ltb out (fileSize n t); condition = out < fileSize n t; decides = decides-lt out (fileSize n t); refusal = ShortOutput }
+
+abbrev pub count : ℕ → Decided
+count t = record { test = outside 1 200 t; condition = Outside 1 200 t; decides = decides-outside 1 200 t; refusal = Count }
+
+decides-impossible : (n m made all : ℕ) → Decides (impossible n m made all) (Impossible n m made all)
+decides-impossible n m made all =
+    decides-either (decides-outside 1 40 n) (decides-either (decides-lt (min n 20) m) (decides-lt all made))
+
+-- ---- runs
+pub starting-run : (statement : List ℕ) (n m store : ℕ) → StartingRun statement n m store
+unfolding startRow runs.started
+starting-run statement n m store =
+    record { answer = is-first (depth n ∷ memory n m ∷ room m store ∷ []); refused = λ r e. rw e }
+
+pub continuing-run : (run : Run) (store : List ℕ) (budget : ℕ) → ContinuingRun run store budget
+unfolding continueRow nodesIn runs.labelsIn runs.advanced runs.steps
+continuing-run run store budget =
+    record {
+      answer =
+          is-first
+          (record {
+            test = impossible (run .depth) (run .memory) (run .made) (nodesIn (run .depth));
+            condition = Impossible (run .depth) (run .memory) (run .made) (2 ^ (run .depth + 1) - 1);
+            decides = decides-impossible (run .depth) (run .memory) (run .made) (nodesIn (run .depth));
+            refusal = State;
+          }
+          ∷ room (run .memory) (length store)
+          ∷ []
+          );
+      refused = λ r e. (rw e, rw e);
+    }
+
+-- ---- openings
+pub starting-opening : (statement : List ℕ) (n m leaf : ℕ) (store out : List ℕ) → StartingOpening statement n m leaf store out
+unfolding openRow openings.started openings.startedOut
+starting-opening statement n m leaf store out =
+    record {
+      answer = is-first (depth n ∷ memory n m ∷ room m (length store) ∷ position n leaf ∷ output n (length out) ∷ []);
+      refused = λ r e. (rw e, rw e);
+    }
+
+pub continuing-opening : (o : Opening) (store out : List ℕ) (budget : ℕ) → ContinuingOpening o store out budget
+unfolding reopenRow openings.labelsIn openings.advanced openings.steps
+continuing-opening o store out budget =
+    let all : ℕ = nodesAnew (o .depth) (o .memory) in
+    record {
+      answer =
+          is-first
+          (record {
+            test = either (impossible (o .depth) (o .memory) (o .made) all) (leb (2 ^ (o .depth)) (o .leaf));
+            condition = Impossible (o .depth) (o .memory) (o .made) all ⊎ (2 ^ (o .depth) ≤ o .leaf);
+            decides = decides-either (decides-impossible (o .depth) (o .memory) (o .made) all) (decides-le (2 ^ (o .depth)) (o .leaf));
+            refusal = State;
+          }
+          ∷ room (o .memory) (length store)
+          ∷ output (o .depth) (length out)
+          ∷ []
+          );
+      refused = λ r e. (rw e, rw e);
+    }
+
+pub one-opening : (statement : List ℕ) (n leaf : ℕ) (root bytes : List ℕ) → OneOpening statement n leaf root bytes
+unfolding openingRow
+one-opening statement n leaf root bytes =
+    is-first
+    (depth n
+    ∷ position n leaf
+    ∷ record {
+      test = ltb (length bytes) (openingSize n);
+      condition = length bytes < 32 * (n + 1);
+      decides = decides-lt (length bytes) (openingSize n);
+      refusal = BytesEnd;
+    }
+    ∷ record {
+      test = ltb (openingSize n) (length bytes);
+      condition = 32 * (n + 1) < length bytes;
+      decides = decides-lt (openingSize n) (length bytes);
+      refusal = BytesLeft;
+    }
+    ∷ record {
+      test = leafWrong (stampRule statement) n leaf bytes;
+      condition = LeafRight (stampRule statement) n leaf (givenBy bytes) → ⊥;
+      decides = decides-differ _ _;
+      refusal = LeafLabel;
+    }
+    ∷ record {
+      test = rootWrong (stampRule statement) n leaf bytes root;
+      condition = RootRight (stampRule statement) n leaf (givenBy bytes) root → ⊥;
+      decides = decides-differ _ _;
+      refusal = Root;
+    }
+    ∷ []
+    )
+
+-- ---- challenges and the head
+pub a-challenge : (n : ℕ) (statement root : List ℕ) (i : ℕ) → AChallenge n statement root i
+unfolding challengeRow challenged
+a-challenge n statement root i = record { answer = is-first (depth n ∷ count i ∷ []); refused = λ r e. rw e }
+
+pub writing-head : (statement root : List ℕ) (n t : ℕ) (out : List ℕ) → WritingHead statement root n t out
+unfolding headRow headWritten
+writing-head statement root n t out =
+    record { answer = is-first (depth n ∷ count t ∷ wholeFile n t (length out) ∷ []); refused = λ r e. rw e }
+
+-- ---- files by budgets
+pub starting-file : (statement root : List ℕ) (n m t : ℕ) (store file : List ℕ) → StartingFile statement root n m t store file
+unfolding writeRow writings.started
+starting-file statement root n m t store file =
+    record {
+      answer = is-first (depth n ∷ memory n m ∷ room m (length store) ∷ count t ∷ wholeFile n t (length file) ∷ []);
+      refused = λ r e. rw e;
+    }
+
+pub continuing-file : (w : Writing) (store file : List ℕ) (budget : ℕ) → ContinuingFile w store file budget
+unfolding rewriteRow writings.labelsIn writings.advanced writings.steps
+continuing-file w store file budget =
+    let o : Opening = w .opening in
+    let all : ℕ = nodesAnew (o .depth) (o .memory) in
+    record {
+      answer =
+          is-first
+          (record {
+            test =
+                either
+                (impossible (o .depth) (o .memory) (o .made) all)
+                (either (leb (2 ^ (o .depth)) (o .leaf))
+                (either (outside 1 200 (w .count)) (either (outside 1 (w .count) (w .number)) (both (eqb (o .made) all) (ltb (w .number) (w .count))))));
+            condition = Impossible (o .depth) (o .memory) (o .made) all ⊎ ImpossibleFile w;
+            decides =
+                decides-either
+                (decides-impossible (o .depth) (o .memory) (o .made) all)
+                (decides-either
+                (decides-le (2 ^ (o .depth)) (o .leaf))
+                (decides-either (decides-outside 1 200 (w .count))
+                (decides-either (decides-outside 1 (w .count) (w .number)) (decides-both (decides-eq (o .made) all) (decides-lt (w .number) (w .count))))));
+            refusal = State;
+          }
+          ∷ room (o .memory) (length store)
+          ∷ wholeFile (o .depth) (w .count) (length file)
+          ∷ []
+          );
+      refused = λ r e. (rw e, rw e);
+    }
+
+-- ---- planning
+-- some leaf is not of the tree
+pub decides-leaf : (n leaf : ℕ) → Decides (not (isLeaf n leaf)) (2 ^ n ≤ leaf)
+unfolding isLeaf
+decides-leaf n leaf = decides-under leaf (2 ^ n)
+
+abbrev pub someLeaf : ℕ → List ℕ → Decided
+someLeaf n leaves =
+    record {
+      test = not (every (isLeaf n) leaves);
+      condition = (i : ℕ) × (i < length leaves) × (2 ^ n ≤ getD leaves i 0);
+      decides = decides-some (isLeaf n) (λ leaf. 2 ^ n ≤ leaf) (decides-leaf n) leaves;
+      refusal = LeafPosition;
+    }
+
+pub planning-row : (n : ℕ) (leaves : List ℕ) (list : ℕ) → IsFirst (planningChain n leaves list) (outcomeNumber (planRow n leaves list))
+unfolding planRow
+planning-row n leaves list =
+    is-first
+    (depth n
+    ∷ count (length leaves)
+    ∷ someLeaf n leaves
+    ∷ record {
+      test = ltb list (length (chain n leaves));
+      condition = list < length (chain n leaves);
+      decides = decides-lt list (length (chain n leaves));
+      refusal = ShortList;
+    }
+    ∷ []
+    )
+
+pub planning-chain : (n : ℕ) (leaves list : List ℕ) → PlanningChain n leaves list
+unfolding plannedCount plannedList
+planning-chain n leaves list = record { answer = planning-row n leaves (length list); refused = λ r e. (rw e, rw e) }
+
+-- ---- hashing, which has one condition
+over : ℕ → ℕ → Decided
+over taken more =
+    record {
+      test = leb (maxHashed + 1) (taken + more);
+      condition = 2 ^ 61 - 1 < taken + more;
+      decides =
+          record {
+            yes = λ e. omega (arith, leb-true (maxHashed + 1) (taken + more) e);
+            no = λ e above. omega (arith, leb-false (maxHashed + 1) (taken + more) e);
+          };
+      refusal = TooManyBytes;
+    }
+
+-- what stands beside the one refusal
+beside-refused {ℓ} : {A : Type ℓ} (t : Bool) (r′ r : Refusal) (x y : A) → pick t (Refused r′) Done ≡ Refused r → pick t x y ≡ x
+beside-refused true r′ r x y e = refl
+beside-refused false r′ r x y e = absurd (let no : _≡_ {A = ℕ} 0 1 = cc in omega arith)
+
+pub hashing-portion : (s : Hash) (part : List ℕ) → HashingPortion s part
+unfolding updateOutcome updateState over
+hashing-portion s part =
+    record {
+      answer = is-first (over (s .taken) (length part) ∷ []);
+      refused = λ r e. beside-refused (tooMany s (length part)) TooManyBytes r s _ e;
+    }
+
+pub hashing-end : (s : Hash) → HashingEnd s
+unfolding finishOutcome finishDigest over
+hashing-end s =
+    record {
+      answer = is-first (over (s .taken) 0 ∷ []);
+      refused = λ r e. beside-refused (tooMany s 0) TooManyBytes r (zeros 32) _ e;
+    }
+
+pub hashing-whole : (message : List ℕ) → HashingWhole message
+unfolding digestOutcome digestAnswer over
+hashing-whole message =
+    record {
+      answer = is-first (over 0 (length message) ∷ []);
+      refused = λ r e. beside-refused (tooMany newHash (length message)) TooManyBytes r (zeros 32) _ e;
+    }

@@ -1,0 +1,203 @@
+-- A row answers the first of its conditions that holds: one law for every row, over tests that decide its conditions.
+use mathlib.Core.Path.{_≡_, refl, sym, _∙_}
+use mathlib.Core.Logic.{_⊎_, inl, inr, ⊎-elim, _↔_}
+use Prim.Native.Nat.{ℕ, zero, suc, _≤_, _<_}
+use native.Mathlib.Omega.{arith}
+use mathlib.Core.Bool.{Bool, true, false, not}
+use mathlib.Core.List.{List, [], _∷_, _++_}
+use lib.Dec.{ltb, leb, eqb, lit≤}
+use lib.ListN.{length, getD}
+use borrow.Author.Tests.{ltb-true, ltb-false, leb-true, leb-false, eqb-true, eqb-false, not-true, not-false}
+use Rattle.base.specs.Choice.{pick, both}
+use Rattle.base.specs.Lists.{sameBytes}
+use Rattle.base.proofs.ChoiceLaws.{both-first, both-second, true-false}
+use Rattle.base.proofs.ListsLaws.{tells-bytes, test-false}
+use Rattle.refusal.specs.declared.Refusal.{Refusal}
+use Rattle.refusal.specs.declared.Refusal.the-variants.{Depth, MemoryLevel, ShortStore, State, TooManyBytes, LeafPosition, ShortOutput, Count, NotWanted, BytesEnd, NotShortest, Edition, BytesLeft, LeafLabel, Root, ShortList, Input}
+use Rattle.refusal.specs.declared.Outcome.{Outcome}
+use Rattle.refusal.specs.declared.Outcome.the-variants.{Done, Refused}
+use Rattle.refusal.specs.Number.{numberOf, outcomeNumber}
+use Rattle.refusal.specs.Row.{firstOf, outside, either}
+use Rattle.refusal.proofs.RowLaws.{NoneHolds, none-holds}
+use Rattle.ways.specs.Planning.{every}
+use Rattle.demands.specs.Rows.{Row, IsFirst, Outside}
+
+-- ---- rows as tests
+-- some test of a row holds with this refusal, and none before it
+pub record FirstHolds (row : List (Bool × Refusal)) (r : Refusal) : Type 0 where
+  pub before : List (Bool × Refusal)
+  pub after : List (Bool × Refusal)
+  pub whole : row ≡ before ++ (true, r) ∷ after
+  pub none : NoneHolds before
+
+first-by :
+    (t : Bool) (r′ r : Refusal) (row : List (Bool × Refusal)) → (firstOf row ≡ Refused r → FirstHolds row r)
+    → pick t (Refused r′) (firstOf row) ≡ Refused r → FirstHolds ((t, r′) ∷ row) r
+first-by true r′ r row ih e = let same : r′ ≡ r = cc in record { before = []; after = row; whole = rw same; none = tt }
+first-by false r′ r row ih e =
+    let first : FirstHolds row r = ih e in
+    record { before = (false, r′) ∷ first .before; after = first .after; whole = rw (first .whole); none = (refl, first .none) }
+
+first-holds : (row : List (Bool × Refusal)) (r : Refusal) → firstOf row ≡ Refused r → FirstHolds row r
+first-holds [] r e = absurd (let no : _≡_ {A = ℕ} 0 1 = cc in omega arith)
+first-holds (check ∷ row) r e = first-by (check .0) (check .1) r row (first-holds row r) e
+
+none-done : (row : List (Bool × Refusal)) → NoneHolds row → firstOf row ≡ Done
+none-done [] none = refl
+none-done (check ∷ row) none = rw (none .0) (none-done row (none .1))
+
+first-after :
+    (before after : List (Bool × Refusal)) (r : Refusal) → NoneHolds before → firstOf (before ++ (true, r) ∷ after) ≡ Refused r
+first-after [] after r none = refl
+first-after (check ∷ before) after r none = rw (none .0) (first-after before after r (none .1))
+
+-- 'Each is given just when its condition holds and no earlier one did.'
+pub refused-exactly : (row : List (Bool × Refusal)) (r : Refusal) → firstOf row ≡ Refused r ↔ FirstHolds row r
+refused-exactly row r =
+    (first-holds row r, λ first. rw (first .whole) (first-after (first .before) (first .after) r (first .none)))
+
+pub done-exactly : (row : List (Bool × Refusal)) → firstOf row ≡ Done ↔ NoneHolds row
+done-exactly row = (none-holds row, none-done row)
+
+-- ---- tests that decide conditions
+pub record Decides (test : Bool) (condition : Type 0) : Type 0 where
+  pub yes : test ≡ true → condition
+  pub no : test ≡ false → condition → ⊥
+
+pub decides-lt : (x y : ℕ) → Decides (ltb x y) (x < y)
+decides-lt x y = record { yes = ltb-true x y; no = λ e lt. omega (arith, ltb-false x y e) }
+
+pub decides-le : (x y : ℕ) → Decides (leb x y) (x ≤ y)
+decides-le x y = record { yes = leb-true x y; no = λ e le. omega (arith, leb-false x y e) }
+
+pub decides-eq : (x y : ℕ) → Decides (eqb x y) (x ≡ y)
+decides-eq x y = record { yes = eqb-true x y; no = eqb-false x y }
+
+pub decides-same : (x y : List ℕ) → Decides (sameBytes x y) (x ≡ y)
+decides-same x y = record { yes = tells-bytes .equal x y; no = test-false tells-bytes x y }
+
+-- both of two
+both-no : (a b : Bool) {P Q : Type 0} → (a ≡ false → P → ⊥) → (b ≡ false → Q → ⊥) → both a b ≡ false → P × Q → ⊥
+both-no true b p q e found = q e (found .1)
+both-no false b p q e found = p refl (found .0)
+
+pub decides-both : {a b : Bool} {P Q : Type 0} → Decides a P → Decides b Q → Decides (both a b) (P × Q)
+decides-both {a} {b} p q =
+    record {
+      yes = λ e. (p .yes (both-first a b e), q .yes (both-second a b e));
+      no = both-no a b (p .no) (q .no);
+    }
+
+pub decides-between : (low high x : ℕ) → Decides (both (leb low x) (leb x high)) ((low ≤ x) × (x ≤ high))
+decides-between low high x = decides-both (decides-le low x) (decides-le x high)
+
+-- the contrary
+pub decides-not : {t : Bool} {P : Type 0} → Decides t P → Decides (not t) (P → ⊥)
+decides-not {t} d = record { yes = λ e. d .no (not-true t e); no = λ e none. none (d .yes (not-false t e)) }
+
+pub decides-outside : (low high x : ℕ) → Decides (outside low high x) (Outside low high x)
+decides-outside low high x = decides-not (decides-between low high x)
+
+pub decides-differ : (x y : List ℕ) → Decides (not (sameBytes x y)) (x ≡ y → ⊥)
+decides-differ x y = decides-not (decides-same x y)
+
+pub decides-under : (x y : ℕ) → Decides (not (ltb x y)) (y ≤ x)
+decides-under x y =
+    record {
+      yes = λ e. ltb-false x y (not-true (ltb x y) e);
+      no = λ e le. omega (arith, ltb-true x y (not-false (ltb x y) e));
+    }
+
+-- one of two
+either-yes : (a b : Bool) (P Q : Type 0) → (a ≡ true → P) → (b ≡ true → Q) → either a b ≡ true → P ⊎ Q
+either-yes true b P Q p q e = inl (p refl)
+either-yes false b P Q p q e = inr (q e)
+
+either-no : (a b : Bool) (P Q : Type 0) → (a ≡ false → P → ⊥) → (b ≡ false → Q → ⊥) → either a b ≡ false → P ⊎ Q → ⊥
+either-no true b P Q p q e some = true-false true refl e
+either-no false b P Q p q e some = ⊎-elim (p refl) (q e) some
+
+pub decides-either : {a b : Bool} {P Q : Type 0} → Decides a P → Decides b Q → Decides (either a b) (P ⊎ Q)
+decides-either {a} {b} {P} {Q} p q =
+    record { yes = either-yes a b P Q (p .yes) (q .yes); no = either-no a b P Q (p .no) (q .no) }
+
+-- some element does not pass a test
+module _ (test : ℕ → Bool) (Bad : ℕ → Type 0) (decides : (x : ℕ) → Decides (not (test x)) (Bad x)) where
+  some-bad : (xs : List ℕ) → every test xs ≡ false → (i : ℕ) × (i < length xs) × Bad (getD xs i 0)
+  unfolding every
+  some-bad [] e = absurd (true-false true refl e)
+  some-bad (x ∷ xs) e = go (test x) refl (some-bad xs)
+    where
+      go :
+          (t : Bool) → test x ≡ t → (every test xs ≡ false → (i : ℕ) × (i < length xs) × Bad (getD xs i 0))
+          → (i : ℕ) × (i < length (x ∷ xs)) × Bad (getD (x ∷ xs) i 0)
+      go false f later = (0, omega arith, decides x .yes (rw f))
+      go true f later = let found = later (rw f at e) in (suc (found .0), omega (arith, found .1), found .2)
+
+  none-bad : (xs : List ℕ) → every test xs ≡ true → (i : ℕ) → i < length xs → Bad (getD xs i 0) → ⊥
+  unfolding every
+  none-bad [] e i small bad = omega arith
+  none-bad (x ∷ xs) e zero small bad =
+      let good : test x ≡ true = both-first (test x) (every test xs) e in
+      decides x .no (rw good) bad
+  none-bad (x ∷ xs) e (suc i) small bad = none-bad xs (both-second (test x) (every test xs) e) i (omega arith) bad
+
+  pub decides-some : (xs : List ℕ) → Decides (not (every test xs)) ((i : ℕ) × (i < length xs) × Bad (getD xs i 0))
+  decides-some xs =
+      record {
+        yes = λ e. some-bad xs (not-true (every test xs) e);
+        no = λ e some. none-bad xs (not-false (every test xs) e) (some .0) (some .1) (some .2);
+      }
+
+-- ---- a row of decided conditions
+pub record Decided : Type 1 where
+  pub test : Bool
+  pub condition : Type 0
+  pub decides : Decides test condition
+  pub refusal : Refusal
+
+abbrev pub tests : List Decided → List (Bool × Refusal)
+tests [] = []
+tests (c ∷ cs) = (c .test, c .refusal) ∷ tests cs
+
+abbrev pub conditions : List Decided → Row
+conditions [] = []
+conditions (c ∷ cs) = (c .condition, numberOf (c .refusal)) ∷ conditions cs
+
+first-step :
+    (t : Bool) (P : Type 0) (r : Refusal) (row : Row) (next : Outcome) → Decides t P → IsFirst row (outcomeNumber next)
+    → IsFirst ((P, numberOf r) ∷ row) (outcomeNumber (pick t (Refused r) next))
+first-step true P r row next d rest = inl (d .yes refl, refl)
+first-step false P r row next d rest = inr (d .no refl, rest)
+
+pub is-first : (cs : List Decided) → IsFirst (conditions cs) (outcomeNumber (firstOf (tests cs)))
+is-first [] = refl
+is-first (c ∷ cs) = first-step (c .test) (c .condition) (c .refusal) (conditions cs) (firstOf (tests cs)) (c .decides) (is-first cs)
+
+-- a row gives one answer
+pub one-answer : (row : Row) (a b : ℕ) → IsFirst row a → IsFirst row b → a ≡ b
+one-answer [] a b p q = p ∙ sym q
+one-answer (check ∷ row) a b (inl p) (inl q) = p .1 ∙ sym (q .1)
+one-answer (check ∷ row) a b (inl p) (inr q) = absurd (q .0 (p .0))
+one-answer (check ∷ row) a b (inr p) (inl q) = absurd (p .0 (q .0))
+one-answer (check ∷ row) a b (inr p) (inr q) = one-answer row a b (p .1) (q .1)
+
+-- ---- no number is 0
+pub number-positive : (r : Refusal) → 1 ≤ numberOf r
+number-positive Depth = lit≤ tt
+number-positive MemoryLevel = lit≤ tt
+number-positive ShortStore = lit≤ tt
+number-positive State = lit≤ tt
+number-positive TooManyBytes = lit≤ tt
+number-positive LeafPosition = lit≤ tt
+number-positive ShortOutput = lit≤ tt
+number-positive Count = lit≤ tt
+number-positive NotWanted = lit≤ tt
+number-positive BytesEnd = lit≤ tt
+number-positive NotShortest = lit≤ tt
+number-positive Edition = lit≤ tt
+number-positive BytesLeft = lit≤ tt
+number-positive LeafLabel = lit≤ tt
+number-positive Root = lit≤ tt
+number-positive ShortList = lit≤ tt
+number-positive Input = lit≤ tt

@@ -1,0 +1,186 @@
+-- Demand 2, each sentence with its proof.
+use mathlib.Core.Path.{_≡_, sym, ap, _∙_}
+use Prim.Native.Nat.{ℕ, _+_, _-_, _*_, _^_, _≤_, _<_, min}
+use native.Mathlib.Omega.{arith}
+use mathlib.Core.List.{List, _++_, flatten}
+use lib.ListN.{length, drop}
+use lib.Seq.{take-at, drop-at}
+use borrow.Author.Tests.{lt-leb}
+use Rattle.base.specs.Limits.{maxHashed}
+use Rattle.refusal.specs.declared.Outcome.the-variants.{Done}
+use Rattle.sha256.specs.Digest.{digest}
+use Rattle.sha256.specs.Portions.{digestOutcome, digestAnswer}
+use Rattle.sha256.proofs.Portions.{in-portions}
+use Rattle.tree.specs.Walk.{nodesIn}
+use Rattle.tree.specs.Labels.{inputHead, documentInput}
+use Rattle.tree.proofs.Labelling.{label-labels, labelling-unique}
+use Rattle.label.specs.Rule.{stampRule}
+use Rattle.run.specs.Steps as runs
+use Rattle.run.specs.Steps.{Stamped}
+use Rattle.opening.specs.Rows.{nodesAnew}
+use Rattle.opening.specs.Steps as openings
+use Rattle.proof.specs.Challenge.{challengeInput, challengeLeaf, challenged}
+use Rattle.proof.specs.Layout.{fileSize}
+use Rattle.reached.specs.Calls.{total, afterCalls}
+use Rattle.reached.specs.Runs.{atStart, called, reachedAt}
+use Rattle.reached.specs.Openings.{Openable, newOpen}
+use Rattle.reached.proofs.RunLaws.{run-reached, called-cut, finished-store}
+use Rattle.reached.proofs.OpeningCalls.{started-fits, startedOut-fits}
+use Rattle.reached.proofs.Finished.{finished-length, finished-opening}
+use Rattle.accepted.specs.IsProof.{IsDepth, IsCount}
+use Rattle.accepted.specs.TreeFile.{treeFile, openingOf}
+use Rattle.accepted.proofs.Leaves.{challengeLeaf-small}
+use Rattle.accepted.proofs.RowLaws.{challenge-done, opening-done, done-opening}
+use Rattle.accepted.proofs.TreeFile.{opening-size, opening-right, length-treeFile}
+use Rattle.accepted.proofs.Accepted.{exactly-proofs}
+use Rattle.filed.specs.Filed.{fileFrom}
+use Rattle.filed.proofs.Finished.{run-to-file, run-to-file-accepted}
+use Rattle.demands.specs.Demand1.{InBounds, startedOpening}
+use Rattle.demands.specs.Demand2.{StatementIs, LabelsAre, runFrom, RunLabels, ChallengeIs, openingFrom, OpeningIs, filedFrom, FileIs, Demand2}
+use Rattle.demands.proofs.Carrying.{startable, run-started}
+
+-- ---- statement
+at-once : (m : List ℕ) → length m ≤ maxHashed → (digestOutcome m ≡ Done) × (digestAnswer m ≡ digest m)
+unfolding digestOutcome digestAnswer
+at-once m small =
+    let fits = lt-leb (maxHashed + 1) (0 + length m) (omega arith) in
+    (rw fits, rw fits)
+
+statement-is : (report : List (List ℕ)) → length (flatten report) ≤ 2 ^ 61 - 1 → StatementIs report
+statement-is report small =
+    let p = in-portions report small in
+    record { portions = p .taken; ends = p .done; hash = p .same; atOnce = at-once (flatten report) small }
+
+-- ---- labels
+labels-are : (statement : List ℕ) (n : ℕ) → LabelsAre statement n
+unfolding documentInput inputHead
+labels-are statement n =
+    record {
+      equation = label-labels (stampRule statement) n;
+      only = λ labelOf meets. labelling-unique (stampRule statement) n labelOf meets;
+    }
+
+module _ (statement : List ℕ) (n m : ℕ) (store : List ℕ) (bounds : InBounds n m (length store)) where
+  run-called : (budgets : List ℕ) → runFrom statement n m store budgets ≡ called (atStart statement n m store) budgets
+  run-called budgets = ap (λ (s : Stamped). afterCalls runs.advanced s budgets) (run-started statement n m store bounds)
+
+  run-steps : (budgets : List ℕ) → runFrom statement n m store budgets ≡ runs.steps (min (total budgets) (nodesIn n)) (atStart statement n m store)
+  run-steps budgets = run-called budgets ∙ called-cut statement n m store (startable n m (length store) bounds) budgets
+
+  run-at : (budgets : List ℕ) → runFrom statement n m store budgets ≡ reachedAt statement n m store (min (total budgets) (nodesIn n))
+  run-at budgets = run-steps budgets ∙ run-reached statement n m store (bounds .depth .1) (min (total budgets) (nodesIn n)) (omega arith)
+
+  -- a finished run
+  run-finished : (budgets : List ℕ) → nodesIn n ≤ total budgets → runFrom statement n m store budgets ≡ runs.steps (nodesIn n) (atStart statement n m store)
+  run-finished budgets all =
+      let whole : min (total budgets) (nodesIn n) ≡ nodesIn n = omega arith in
+      run-steps budgets ∙ rw whole
+
+  run-labels : (budgets : List ℕ) → RunLabels statement n m store budgets
+  unfolding nodesIn
+  run-labels budgets =
+      record {
+        run = ap (λ (s : Stamped). s .run) (run-at budgets);
+        stored = ap (λ (s : Stamped). s .store) (run-at budgets);
+        slots =
+            λ all v inTree low.
+            rw (run-finished budgets all) (finished-store statement n m store (startable n m (length store) bounds) v inTree low);
+      }
+
+-- ---- challenges
+challenge-is : (n : ℕ) (statement root : List ℕ) (i : ℕ) → IsDepth n → IsCount i → ChallengeIs n statement root i
+unfolding challenged challengeLeaf challengeInput
+challenge-is n statement root i depth count =
+    let done = challenge-done n i depth count in
+    record { leaf = rw done; inside = rw done (challengeLeaf-small n statement root i (omega (arith, depth .1))) }
+
+-- ---- openings
+opening-started :
+    (statement : List ℕ) (n m leaf : ℕ) (store out : List ℕ) → Openable n m leaf (length store) (length out)
+    → startedOpening statement n m leaf store out ≡ newOpen statement n m leaf store out
+opening-started statement n m leaf store out fits =
+    rw (started-fits statement n m leaf (length store) (length out) fits, startedOut-fits n m leaf store out fits)
+
+module _ (statement : List ℕ) (n leaf : ℕ) (out : List ℕ) (inside : leaf < 2 ^ n) where
+  tree-opening : OpeningIs statement n leaf out (openingOf statement n leaf ++ drop (32 * (n + 1)) out)
+  tree-opening =
+      let bytes : List ℕ = openingOf statement n leaf in
+      let front = take-at bytes (drop (32 * (n + 1)) out) (32 * (n + 1)) (opening-size statement n leaf) in
+      record {
+        labels = front;
+        behind = drop-at bytes (drop (32 * (n + 1)) out) (32 * (n + 1)) (opening-size statement n leaf);
+        right = rw front (opening-right statement n leaf inside);
+      }
+
+  module _ (m : ℕ) (store labelling budgets : List ℕ) (bounds : InBounds n m (length store)) (fits : 32 * (n + 1) ≤ length out) where
+    -- the opening from a finished run's store
+    opening-finished :
+        nodesAnew n m ≤ total budgets
+        → openingFrom (runs.steps (nodesIn n) (atStart statement n m store)) statement n m leaf out budgets
+        ≡ openingOf statement n leaf ++ drop (32 * (n + 1)) out
+    opening-finished enough =
+        let s = startable n m (length store) bounds in
+        let after : List ℕ = runs.steps (nodesIn n) (atStart statement n m store) .store in
+        ap (λ (o : openings.Open). afterCalls (openings.advanced after) o budgets .out)
+        (opening-started statement n m leaf after out
+        (record {
+          depth = bounds .depth;
+          memory = bounds .memory;
+          storeFits = omega (arith, bounds .room, finished-length statement n m store s);
+          position = inside;
+          outFits = fits;
+        }))
+        ∙ finished-opening statement n m store s leaf out inside fits budgets enough
+
+    opening-is :
+        nodesIn n ≤ total labelling → nodesAnew n m ≤ total budgets
+        → OpeningIs statement n leaf out (openingFrom (runFrom statement n m store labelling) statement n m leaf out budgets)
+    opening-is all enough = rw (run-finished statement n m store bounds labelling all, opening-finished enough) tree-opening
+
+-- ---- the file
+module _
+    (statement : List ℕ) (n m t : ℕ) (store file labelling budgets : List ℕ) (size : length statement ≡ 32)
+    (bounds : InBounds n m (length store)) (count : IsCount t) (fits : fileSize n t ≤ length file) (all : nodesIn n ≤ total labelling)
+    (enough : t * nodesAnew n m ≤ total budgets) where
+  filed-called :
+      filedFrom statement n m t store file labelling budgets
+      ≡ fileFrom (called (atStart statement n m store) labelling) statement n m t file budgets
+  filed-called = ap (λ (s : Stamped). fileFrom s statement n m t file budgets) (run-called statement n m store bounds labelling)
+
+  filed-tree : filedFrom statement n m t store file labelling budgets ≡ treeFile statement n t ++ drop (fileSize n t) file
+  filed-tree =
+      filed-called ∙ run-to-file statement n m store (startable n m (length store) bounds) t file size count fits labelling budgets all enough
+
+  file-is : FileIs statement n t file (filedFrom statement n m t store file labelling budgets)
+  unfolding treeFile
+  file-is =
+      let whole : length (treeFile statement n t) ≡ fileSize n t = length-treeFile statement n t size in
+      record {
+        same = rw filed-tree (take-at (treeFile statement n t) (drop (fileSize n t) file) (fileSize n t) whole);
+        behind = rw filed-tree (drop-at (treeFile statement n t) (drop (fileSize n t) file) (fileSize n t) whole);
+        accepted =
+            rw filed-called
+            (run-to-file-accepted statement n m store (startable n m (length store) bounds) t file size count fits labelling budgets all enough);
+      }
+
+pub demand2 : Demand2
+unfolding nodesIn
+demand2 =
+    record {
+      statement = statement-is;
+      labels = labels-are;
+      run = λ statement n m store budgets bounds. run-labels statement n m store bounds budgets;
+      challenges = challenge-is;
+      openings =
+          λ statement n m leaf store out labelling budgets bounds inside fits all enough.
+          opening-is statement n leaf out inside m store labelling budgets bounds fits all enough;
+      verdict = λ statement n leaf root bytes. (done-opening statement n leaf root bytes, opening-done statement n leaf root bytes);
+      file =
+          λ statement n m t store file labelling budgets size bounds count fits all enough.
+          file-is statement n m t store file labelling budgets size bounds count fits all enough;
+      oneFile =
+          λ statement n m m′ t store store′ file labelling labelling′ budgets budgets′ size bounds bounds′ count fits all all′ enough enough′.
+          filed-tree statement n m t store file labelling budgets size bounds count fits all enough
+          ∙ sym (filed-tree statement n m′ t store′ file labelling′ budgets′ size bounds′ count fits all′ enough′);
+      accepted = exactly-proofs;
+    }

@@ -1,0 +1,96 @@
+-- Document 01's row 'Drawing a chain': all file checks; 16, if no pair disagrees.
+use mathlib.Core.Path.{_≡_, refl}
+use mathlib.Core.Logic.{_⊎_, inl, inr, ⊎-elim}
+use Prim.Native.Nat.{ℕ, zero, suc, _+_, _*_, _≤_, _<_}
+use native.Mathlib.Omega.{arith}
+use mathlib.Core.List.{List, [], _∷_, _++_}
+use lib.Dec.{lit≤}
+use lib.ListN.{length, getD}
+use Rattle.refusal.specs.declared.Refusal.{Refusal}
+use Rattle.refusal.specs.declared.Refusal.the-variants.{ShortList}
+use Rattle.refusal.specs.declared.Check.the-variants.{Rejected}
+use Rattle.refusal.specs.Number.{codeOf}
+use Rattle.proof.specs.FileCheck.{fileCheck}
+use Rattle.draw.specs.declared.Drawing.{Drawing}
+use Rattle.draw.specs.declared.Drawing.the-variants.{NotDrawn, Chain, Clash}
+use Rattle.draw.specs.Drawing.{drawingOf}
+use Rattle.drawn.specs.Demand3.{IsAccepted, NoneDisagree, chainLength, ListShort}
+use Rattle.drawn.proofs.Openings.{some-none}
+use Rattle.drawn.proofs.Demand3.{chain-exactly, clash-exactly, refused-exactly, refused-untouched}
+use Rattle.demands.specs.Rows.{Row, IsFirst, behind, foundIn, fileOpenings, aFile, drawingChain}
+use Rattle.demands.specs.Demand1.{drawingNumber, DrawingChain}
+use Rattle.demands.proofs.Decisions.{number-positive}
+use Rattle.demands.proofs.Files.{a-file}
+
+-- ---- a row behind another
+-- no number of a row is 0
+abbrev Positive : Row → Type 0
+Positive [] = Unit
+Positive (check ∷ row) = (1 ≤ check .1) × Positive row
+
+stays-first : (row later : Row) (answer : ℕ) → 1 ≤ answer → IsFirst row answer → IsFirst (row ++ later) answer
+stays-first [] later answer some e = absurd (omega arith)
+stays-first (check ∷ row) later answer some (inl here) = inl here
+stays-first (check ∷ row) later answer some (inr after) = inr (after .0, stays-first row later answer some (after .1))
+
+passes-first : (row later : Row) (answer : ℕ) → Positive row → IsFirst row 0 → IsFirst later answer → IsFirst (row ++ later) answer
+passes-first [] later answer some none first = first
+passes-first (check ∷ row) later answer some (inl here) first = absurd (omega (arith, some .0, here .1))
+passes-first (check ∷ row) later answer some (inr after) first = inr (after .0, passes-first row later answer (some .1) (after .1) first)
+
+-- ---- a file's row
+openings-positive : (bytes : List ℕ) (n at i left : ℕ) → Positive (fileOpenings bytes n at i left)
+unfolding fileOpenings
+openings-positive bytes n at i zero = tt
+openings-positive bytes n at i (suc left) = (omega arith, (omega arith, openings-positive bytes n at (i + 1) left))
+
+file-positive : (bytes statement : List ℕ) (n t : ℕ) → Positive (aFile bytes statement n t)
+unfolding aFile
+file-positive bytes statement n t =
+    let ten : 1 ≤ 256 * 10 = lit≤ tt in
+    let eleven : 1 ≤ 256 * 11 = lit≤ tt in
+    (ten, (eleven, (lit≤ tt, (ten, (eleven, (lit≤ tt, (ten, (eleven, (lit≤ tt, (ten, (lit≤ tt, (lit≤ tt, openings-positive bytes _ _ 1 _))))))))))))
+
+-- ---- the answer
+module _ (bytes statement : List ℕ) (n t : ℕ) (small : (j : ℕ) → getD bytes j 0 < 256) (list : List ℕ) where
+  abbrev Short : Type 0
+  Short = NoneDisagree bytes statement n t × (length list < chainLength bytes statement n t)
+
+  -- a file that is accepted
+  behind-file : IsAccepted bytes statement n t → (answer : ℕ) → IsFirst (foundIn 0 ((Short, 16) ∷ [])) answer → IsFirst (drawingChain bytes statement n t (length list)) answer
+  behind-file accepted answer first =
+      passes-first (aFile bytes statement n t) (foundIn 0 ((Short, 16) ∷ [])) answer (file-positive bytes statement n t)
+      (rw accepted at (a-file bytes statement n t)) first
+
+  refused-by-file :
+      (r : Refusal) (i : ℕ) → fileCheck bytes statement n t ≡ Rejected r i
+      → IsFirst (drawingChain bytes statement n t (length list)) (codeOf (Rejected r i))
+  refused-by-file r i refused =
+      stays-first (aFile bytes statement n t) (foundIn 0 ((Short, 16) ∷ [])) (codeOf (Rejected r i)) (omega (arith, number-positive r))
+      (rw refused at (a-file bytes statement n t))
+
+  short-code : (r : Refusal) (i : ℕ) → r ≡ ShortList → i ≡ 0 → codeOf (Rejected r i) ≡ 256 * 16 + 0
+  short-code r i e f = rw (e, f)
+
+  answer-by :
+      (d : Drawing) → drawingOf bytes statement n t (length list) ≡ d
+      → IsFirst (drawingChain bytes statement n t (length list)) (drawingNumber d)
+  answer-by (NotDrawn r i) e =
+      ⊎-elim
+      (refused-by-file r i)
+      (λ (s : ListShort bytes statement n t (length list) r i).
+      behind-file (s .accepted) (codeOf (Rejected r i)) (inl ((s .agree, s .short), short-code r i (s .refusal) (s .outside))))
+      (refused-exactly bytes statement n t small (length list) r i .0 e)
+  answer-by (Chain count) e =
+      let drawn = chain-exactly bytes statement n t small (length list) .0 (count, e) in
+      behind-file (drawn .0) 0 (inr (λ s. omega (arith, s .1, drawn .2), refl))
+  answer-by (Clash i j l) e =
+      let drawn = clash-exactly bytes statement n t small (length list) .0 (i, j, l, e) in
+      behind-file (drawn .0) 0 (inr (λ s. some-none bytes statement n t (drawn .1) (s .0), refl))
+
+  pub drawing-chain : DrawingChain bytes statement n t list
+  drawing-chain =
+      record {
+        answer = answer-by (drawingOf bytes statement n t (length list)) refl;
+        refused = λ r i e. refused-untouched bytes statement n t list r i e;
+      }

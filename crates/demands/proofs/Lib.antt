@@ -1,0 +1,11 @@
+pub mod Decisions
+pub mod Checks
+pub mod Programs
+pub mod Files
+pub mod Drawings
+pub mod Carrying
+pub mod Openings
+pub mod Writings
+pub mod Demand1
+pub mod Demand2
+pub mod Demand3

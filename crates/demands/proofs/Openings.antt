@@ -1,0 +1,165 @@
+-- An opening is carried to its end whatever the store holds: no step changes its numbers but the count, or the output's length.
+use mathlib.Core.Path.{_≡_, refl, ap, _∙_}
+use Prim.Native.Nat.{ℕ, zero, suc, _+_, _-_, _*_, _/_, _^_, _≤_, _<_}
+use native.Mathlib.Nat.{add-zero, add-suc}
+use native.Mathlib.Numerals.{add-one}
+use native.Mathlib.Omega.{arith}
+use mathlib.Core.Bool.{Bool, true, false}
+use mathlib.Core.List.{List}
+use lib.Dec.{eqb}
+use lib.ListN.{length, drop, length-drop}
+use lib.Seq.{length-take-le}
+use borrow.Author.Tests.{eqb-true}
+use Rattle.base.specs.Choice.{pick}
+use Rattle.base.specs.Bytes.{zeros, written}
+use Rattle.base.proofs.Copying.{length-written}
+use Rattle.refusal.specs.declared.Outcome.the-variants.{Done}
+use Rattle.tree.specs.Nodes.{Node, node, sameNode, InTree}
+use Rattle.tree.specs.Store.{slot, storeSize}
+use Rattle.tree.specs.Walk.{nodesIn}
+use Rattle.tree.specs.Labels.{Label}
+use Rattle.tree.proofs.Slots.{slot-inside}
+use Rattle.label.specs.Step.{nextNode, nextLabel, heldWith}
+use Rattle.label.proofs.RuleLaws.{digest-length}
+use Rattle.label.proofs.OneStep.{next-level}
+use Rattle.run.specs.Steps.{heldSize}
+use Rattle.opening.specs.Rows.{openingSize, nodesAnew, reopenRow}
+use Rattle.opening.specs.Steps.{labelIn, ancestor, beside, placed, copied, copiedAll, Open, front, stepped, steps, labelsIn, advanced}
+use Rattle.opening.specs.Possible.{openingOf, openOf}
+use Rattle.opening.proofs.StepLaws.{anew-few, next-below}
+use Rattle.reached.specs.Openings.{Openable}
+use Rattle.reached.proofs.Anew.{beside-inside}
+use Rattle.reached.proofs.OpeningCalls.{open-fits, reopen-fits, started-fits, startedOut-fits}
+use Rattle.demands.specs.Demand1.{startedOpening, InBounds, OpeningEnds}
+use Rattle.demands.proofs.Carrying.{carried-by}
+
+-- ---- lengths
+-- a label put in its place
+pub length-placed :
+    (n leaf : ℕ) (out : List ℕ) (w : Node) (label : Label) → 1 ≤ w .level → w .level ≤ n → openingSize n ≤ length out → length label ≡ 32
+    → length (placed n leaf out w label) ≡ length out
+unfolding placed
+length-placed n leaf out w label low high fits size =
+    go (sameNode w (node n leaf)) (sameNode w (beside n leaf (w .level)))
+  where
+    go :
+        (s t : Bool) → length (pick s (written out 0 label) (pick t (written out (32 * (n - w .level + 1)) label) out)) ≡ length out
+    go true t = length-written out 0 label (omega arith)
+    go false true = length-written out (32 * (n - w .level + 1)) label (omega arith)
+    go false false = refl
+
+pub next-size : (statement : List ℕ) (h : ℕ) (v : Node) (aboves held : List ℕ) (k : ℕ) → length (nextLabel statement h v aboves held k) ≡ 32
+unfolding nextLabel
+next-size statement h v aboves held k = digest-length _
+
+stored-size : (store : List ℕ) (m : ℕ) (w : Node) → storeSize m ≤ length store → InTree m w → length (labelIn store w) ≡ 32
+stored-size store m w enough inTree = length-take-le 32 (drop (slot w) store) (rw length-drop (omega (arith, slot-inside m w inTree)))
+
+module _
+    (n m leaf : ℕ) (store : List ℕ) (deep : 1 ≤ n) (le : m ≤ n) (inside : leaf < 2 ^ n) (enough : storeSize m ≤ length store) (out : List ℕ)
+    (fits : openingSize n ≤ length out) where
+  length-copied : (l : ℕ) → l ≤ m → length (copied n leaf store out l) ≡ length out
+  unfolding copied
+  length-copied zero small = refl
+  length-copied (suc l) small =
+      let before : length (copied n leaf store out l) ≡ length out = length-copied l (omega arith) in
+      let w : Node = beside n leaf (suc l) in
+      length-placed n leaf (copied n leaf store out l) w (labelIn store w) (omega arith) (omega arith) (omega arith)
+      (stored-size store m w enough (small, beside-inside n leaf l inside (omega arith)))
+      ∙ before
+
+  pub length-copied-all : length (copiedAll n m leaf store out) ≡ length out
+  unfolding copiedAll
+  length-copied-all = go (eqb m n) refl
+    where
+      go :
+          (t : Bool) → eqb m n ≡ t
+          → length (pick t (placed n leaf (copied n leaf store out m) (node n leaf) (labelIn store (node n leaf))) (copied n leaf store out m)) ≡ length out
+      go true e =
+          let before : length (copied n leaf store out m) ≡ length out = length-copied m (omega arith) in
+          let same : m ≡ n = eqb-true m n e in
+          length-placed n leaf (copied n leaf store out m) (node n leaf) (labelIn store (node n leaf)) deep (omega arith) (omega arith)
+          (stored-size store m (node n leaf) enough (omega arith, inside))
+          ∙ before
+      go false e = length-copied m (omega arith)
+
+-- ---- the state after k labels
+pub record OpeningAt (statement : List ℕ) (n m leaf size k : ℕ) (s : Open) : Type 0 where
+  pub held : List ℕ
+  pub out : List ℕ
+  pub is : s ≡ openOf (openingOf statement n m leaf k held) out
+  pub length : length out ≡ size
+
+pub opening-more :
+    (statement : List ℕ) (n m leaf size : ℕ) (store : List ℕ) (k : ℕ) (s : Open) → m ≤ n → openingSize n ≤ size → k < nodesAnew n m
+    → OpeningAt statement n m leaf size k s → OpeningAt statement n m leaf size (suc k) (stepped store s)
+unfolding stepped
+opening-more statement n m leaf size store k s le fits few at =
+    let h : ℕ = n - m in
+    let v : Node = ancestor n leaf m in
+    let w : Node = nextNode h v k in
+    let label : Label = nextLabel statement h v (front n m leaf store) (at .held) k in
+    let small : k + 1 < nodesIn h = anew-few n m k few in
+    let lower : m < w .level = next-below h k v w small refl in
+    let inside : (m ≤ w .level) × (w .level ≤ m + h) = next-level h m (leaf / 2 ^ (n - m)) k (w .level) (w .position) (omega arith) refl in
+    record {
+      held = heldWith h v (at .held) w label;
+      out = placed n leaf (at .out) w label;
+      is = rw (at .is, ← add-one k);
+      length =
+          length-placed n leaf (at .out) w label (omega arith) (omega (arith, inside .1)) (omega (arith, at .length))
+          (next-size statement h v (front n m leaf store) (at .held) k)
+          ∙ at .length;
+    }
+
+steps-add : (store : List ℕ) (j k : ℕ) (s : Open) → steps store j (steps store k s) ≡ steps store (k + j) s
+unfolding steps
+steps-add store zero k s = rw (add-zero k)
+steps-add store (suc j) k s = rw (add-suc k j) (ap (stepped store) (steps-add store j k s))
+
+module _
+    (statement : List ℕ) (n m leaf : ℕ) (store out : List ℕ) (bounds : InBounds n m (length store)) (inside : leaf < 2 ^ n)
+    (fits : 32 * (n + 1) ≤ length out) where
+  openable : Openable n m leaf (length store) (length out)
+  openable = record { depth = bounds .depth; memory = bounds .memory; storeFits = bounds .room; position = inside; outFits = fits }
+
+  abbrev start : Open
+  start = startedOpening statement n m leaf store out
+
+  start-at : OpeningAt statement n m leaf (length out) 0 start
+  start-at =
+      record {
+        held = zeros heldSize;
+        out = copiedAll n m leaf store out;
+        is = rw (started-fits statement n m leaf (length store) (length out) openable, startedOut-fits n m leaf store out openable);
+        length = length-copied-all n m leaf store (bounds .depth .0) (omega (arith, bounds .memory)) inside (bounds .room) out fits;
+      }
+
+  steps-at : (k : ℕ) → k ≤ nodesAnew n m → OpeningAt statement n m leaf (length out) k (steps store k start)
+  unfolding steps
+  steps-at zero small = start-at
+  steps-at (suc k) small =
+      opening-more statement n m leaf (length out) store k (steps store k start) (omega (arith, bounds .memory)) fits small (steps-at k (omega arith))
+
+  goes-on : (k : ℕ) → k ≤ nodesAnew n m → reopenRow (steps store k start .opening) (length store) (length (steps store k start .out)) ≡ Done
+  goes-on k small =
+      let at : OpeningAt statement n m leaf (length out) k (steps store k start) = steps-at k small in
+      rw (at .is, at .length)
+      (reopen-fits (openingOf statement n m leaf k (at .held)) (length store) (length out) openable small)
+
+  left-at :
+      (k : ℕ) → k ≤ nodesAnew n m
+      → nodesAnew (steps store k start .opening .depth) (steps store k start .opening .memory) - steps store k start .opening .made
+      ≡ nodesAnew n m - k
+  left-at k small = rw (steps-at k small .is)
+
+  pub opening-ends : OpeningEnds statement n m leaf store out
+  unfolding labelsIn advanced steps
+  opening-ends =
+      record {
+        starts = open-fits n m leaf (length store) (length out) openable;
+        ends =
+            carried-by (λ s. reopenRow (s .opening) (length store) (length (s .out)))
+            (λ s. nodesAnew (s .opening .depth) (s .opening .memory) - s .opening .made) (steps store) (steps-add store) start (nodesAnew n m)
+            refl goes-on left-at;
+      }

@@ -1,0 +1,244 @@
+-- Demand 1, sentence by sentence. A call is spoken of by the definitions that its contract cites.
+use mathlib.Core.Path.{_≡_}
+use Prim.Native.Nat.{ℕ, _+_, _-_, _*_, _^_, _≤_, _<_, min}
+use mathlib.Core.List.{List, _++_}
+use lib.ListN.{length, getD, drop}
+use Rattle.base.specs.Bytes.{zeros}
+use Rattle.refusal.specs.declared.Refusal.{Refusal}
+use Rattle.refusal.specs.declared.Outcome.{Outcome}
+use Rattle.refusal.specs.declared.Outcome.the-variants.{Done, Refused}
+use Rattle.refusal.specs.declared.Check.the-variants.{Rejected}
+use Rattle.refusal.specs.Number.{numberOf, outcomeNumber, codeOf}
+use Rattle.sha256.specs.declared.Hash.{Hash}
+use Rattle.sha256.specs.Portions.{updateOutcome, updateState, finishOutcome, finishDigest, digestOutcome, digestAnswer}
+use Rattle.groups.specs.Writing.{putAt, outputAfter}
+use Rattle.run.specs.declared.Run.{Run}
+use Rattle.run.specs.Rows.{startRow, continueRow}
+use Rattle.run.specs.Steps as runs
+use Rattle.run.specs.Steps.{Stamped, stamped, noRun}
+use Rattle.opening.specs.declared.Opening.{Opening}
+use Rattle.opening.specs.Rows.{openRow, reopenRow}
+use Rattle.opening.specs.Steps as openings
+use Rattle.opening.specs.Steps.{Open, noOpening}
+use Rattle.opening.specs.Possible.{openOf}
+use Rattle.reached.specs.Calls.{total, afterCalls, labelsOver}
+use Rattle.verify.specs.OpeningCheck.{openingRow}
+use Rattle.proof.specs.declared.HeadNumbers.{HeadNumbers}
+use Rattle.proof.specs.declared.HeadNumbers.the-variants.{Numbers, NotRead}
+use Rattle.proof.specs.Challenge.{challengeRow, challenged}
+use Rattle.proof.specs.Layout.{fileSize, headRow, headWritten}
+use Rattle.proof.specs.Head.{headOf}
+use Rattle.proof.specs.FileCheck.{fileCheck}
+use Rattle.writing.specs.declared.Writing.{Writing}
+use Rattle.writing.specs.Rows.{writeRow, rewriteRow}
+use Rattle.writing.specs.Steps as writings
+use Rattle.writing.specs.Steps.{Written, noWriting}
+use Rattle.chain.specs.PlanRow.{planRow, plannedCount, plannedList}
+use Rattle.ways.specs.Ways.{chain}
+use Rattle.ways.specs.Counts.{leavesOpened}
+use Rattle.planning.specs.Input.{numbers}
+use Rattle.planning.specs.Output.{refusedText, headText, nodesText, printed}
+use Rattle.compare.specs.declared.Pair.the-variants.{Agree}
+use Rattle.compare.specs.Comparison.{compareRow, compared}
+use Rattle.draw.specs.declared.Drawing.{Drawing}
+use Rattle.draw.specs.declared.Drawing.the-variants.{NotDrawn, Chain, Clash}
+use Rattle.draw.specs.Drawing.{drawingOf, drawnList, firstDrawn, secondDrawn}
+use Rattle.demands.specs.Rows.{IsFirst, hashing, startingRun, continuingRun, startingOpening, continuingOpening, aChallenge, writingHead, oneOpening, aHead, aFile, planningChain, drawingChain, planningProgram, comparing, writingNumber, startingFile, continuingFile}
+
+-- ---- 'Labelling, opening and writing can be carried to their end for every depth 1..40, memory level 0..min(depth, 20) ..'
+
+-- Calls with any budgets, one after the other: none is refused, together they make the budgets' sum of labels, up to `all`, and the
+-- next makes the smaller of its budget and what remains.
+pub record CarriedOut {S : Type 0} (row : S → Outcome) (labels : S → ℕ → ℕ) (call : S → ℕ → S) (start : S) (all : ℕ) : Type 0 where
+  pub notRefused : (budgets : List ℕ) → row (afterCalls call start budgets) ≡ Done
+  pub made : (budgets : List ℕ) → labelsOver call labels start budgets ≡ min (total budgets) all
+  pub next : (budgets : List ℕ) (budget : ℕ) → labels (afterCalls call start budgets) budget ≡ min budget (all - min (total budgets) all)
+
+-- a run, an opening and a file as their starts give them, each with the bytes lent to it
+abbrev pub startedRun : List ℕ → ℕ → ℕ → List ℕ → Stamped
+startedRun statement n m store = stamped (runs.started statement n m (length store)) store
+
+abbrev pub startedOpening : List ℕ → ℕ → ℕ → ℕ → List ℕ → List ℕ → Open
+startedOpening statement n m leaf store out =
+    openOf (openings.started statement n m leaf (length store) (length out)) (openings.startedOut n m leaf store out)
+
+abbrev pub startedFile : List ℕ → List ℕ → ℕ → ℕ → ℕ → List ℕ → List ℕ → Written
+startedFile statement root n m t store file = writings.started statement root n m t store file
+
+-- a depth, with a memory level that it allows and a store for it
+pub record InBounds (n m store : ℕ) : Type 0 where
+  pub depth : (1 ≤ n) × (n ≤ 40)
+  pub memory : m ≤ min n 20
+  pub room : 32 * (2 ^ (m + 1) - 1) ≤ store
+
+-- the run labels all 2^(n+1) − 1 nodes
+pub record LabellingEnds (statement : List ℕ) (n m : ℕ) (store : List ℕ) : Type 0 where
+  pub starts : startRow n m (length store) ≡ Done
+  pub ends :
+      CarriedOut (λ s. continueRow (s .run) (length (s .store))) runs.labelsIn runs.advanced (startedRun statement n m store) (2 ^ (n + 1) - 1)
+
+-- the opening labels the 2^(n−m+1) − 2 nodes strictly below the leaf's ancestor on level m, whatever the store holds
+pub record OpeningEnds (statement : List ℕ) (n m leaf : ℕ) (store out : List ℕ) : Type 0 where
+  pub starts : openRow n m leaf (length store) (length out) ≡ Done
+  pub ends :
+      CarriedOut (λ s. reopenRow (s .opening) (length store) (length (s .out))) (openings.labelsIn store) (openings.advanced store)
+      (startedOpening statement n m leaf store out)
+      (2 ^ (n - m + 1) - 2)
+
+-- '.. 1..200 challenges': the file labels these of each of its t openings, whatever the store and the root are
+pub record WritingEnds (statement root : List ℕ) (n m t : ℕ) (store file : List ℕ) : Type 0 where
+  pub starts : writeRow n m t (length store) (length file) ≡ Done
+  pub ends :
+      CarriedOut (λ s. rewriteRow (s .writing) (length store) (length (s .file))) (writings.labelsIn store) (writings.advanced store)
+      (startedFile statement root n m t store file)
+      (t * (2 ^ (n - m + 1) - 2))
+
+-- ---- 'Any call that fails a check of document 01, over all possible bytes and states, gets the number of the first one, and no lent
+-- byte changes.'
+
+-- 'A refused hash state is handed back unchanged.'
+pub record HashingPortion (s : Hash) (part : List ℕ) : Type 0 where
+  pub answer : IsFirst (hashing (s .taken) (length part)) (outcomeNumber (updateOutcome s part))
+  pub refused : (r : Refusal) → updateOutcome s part ≡ Refused r → updateState s part ≡ s
+
+pub record HashingEnd (s : Hash) : Type 0 where
+  pub answer : IsFirst (hashing (s .taken) 0) (outcomeNumber (finishOutcome s))
+  pub refused : (r : Refusal) → finishOutcome s ≡ Refused r → finishDigest s ≡ zeros 32
+
+pub record HashingWhole (message : List ℕ) : Type 0 where
+  pub answer : IsFirst (hashing 0 (length message)) (outcomeNumber (digestOutcome message))
+  pub refused : (r : Refusal) → digestOutcome message ≡ Refused r → digestAnswer message ≡ zeros 32
+
+-- 'a refused start gives the number alone'; starting a run lends nothing to write to
+pub record StartingRun (statement : List ℕ) (n m store : ℕ) : Type 0 where
+  pub answer : IsFirst (startingRun n m store) (outcomeNumber (startRow n m store))
+  pub refused : (r : Refusal) → startRow n m store ≡ Refused r → runs.started statement n m store ≡ noRun
+
+-- 'A refused run is handed back unchanged, with 0 labels'
+pub record ContinuingRun (run : Run) (store : List ℕ) (budget : ℕ) : Type 0 where
+  pub answer : IsFirst (continuingRun run (length store)) (outcomeNumber (continueRow run (length store)))
+  pub refused :
+      (r : Refusal) → continueRow run (length store) ≡ Refused r
+      → (runs.labelsIn (stamped run store) budget ≡ 0) × (runs.advanced (stamped run store) budget ≡ stamped run store)
+
+pub record StartingOpening (statement : List ℕ) (n m leaf : ℕ) (store out : List ℕ) : Type 0 where
+  pub answer :
+      IsFirst (startingOpening n m leaf (length store) (length out)) (outcomeNumber (openRow n m leaf (length store) (length out)))
+  pub refused :
+      (r : Refusal) → openRow n m leaf (length store) (length out) ≡ Refused r
+      → (openings.started statement n m leaf (length store) (length out) ≡ noOpening) × (openings.startedOut n m leaf store out ≡ out)
+
+pub record ContinuingOpening (o : Opening) (store out : List ℕ) (budget : ℕ) : Type 0 where
+  pub answer : IsFirst (continuingOpening o (length store) (length out)) (outcomeNumber (reopenRow o (length store) (length out)))
+  pub refused :
+      (r : Refusal) → reopenRow o (length store) (length out) ≡ Refused r
+      → (openings.labelsIn store (openOf o out) budget ≡ 0) × (openings.advanced store (openOf o out) budget ≡ openOf o out)
+
+pub record AChallenge (n : ℕ) (statement root : List ℕ) (i : ℕ) : Type 0 where
+  pub answer : IsFirst (aChallenge n i) (outcomeNumber (challengeRow n i))
+  pub refused : (r : Refusal) → challengeRow n i ≡ Refused r → challenged n statement root i ≡ 0
+
+pub record WritingHead (statement root : List ℕ) (n t : ℕ) (out : List ℕ) : Type 0 where
+  pub answer : IsFirst (writingHead n t (length out)) (outcomeNumber (headRow n t (length out)))
+  pub refused : (r : Refusal) → headRow n t (length out) ≡ Refused r → headWritten statement root n t out ≡ out
+
+-- checking lends nothing to write to
+abbrev pub OneOpening : List ℕ → ℕ → ℕ → List ℕ → List ℕ → Type 0
+OneOpening statement n leaf root bytes =
+    IsFirst (oneOpening statement n leaf root bytes) (outcomeNumber (openingRow statement n leaf root bytes))
+
+-- a head's refusal, 0 if its numbers are read
+abbrev pub headNumber : HeadNumbers → ℕ
+headNumber (NotRead r) = numberOf r
+headNumber (Numbers n t c) = 0
+
+abbrev pub AHead : List ℕ → Type 0
+AHead bytes = IsFirst (aHead bytes) (headNumber (headOf bytes))
+
+-- 'Where an answer must be one number it is 256 × refusal + opening, and 0 if accepted.'
+abbrev pub AFile : List ℕ → List ℕ → ℕ → ℕ → Type 0
+AFile bytes statement n t = IsFirst (aFile bytes statement n t) (codeOf (fileCheck bytes statement n t))
+
+pub record PlanningChain (n : ℕ) (leaves list : List ℕ) : Type 0 where
+  pub answer : IsFirst (planningChain n leaves (length list)) (outcomeNumber (planRow n leaves (length list)))
+  pub refused :
+      (r : Refusal) → planRow n leaves (length list) ≡ Refused r
+      → (plannedCount n leaves (length list) ≡ 0) × (plannedList n leaves list ≡ list)
+
+-- a drawing's refusal as one number, 0 if it draws
+abbrev pub drawingNumber : Drawing → ℕ
+drawingNumber (NotDrawn r i) = codeOf (Rejected r i)
+drawingNumber (Chain count) = 0
+drawingNumber (Clash i j l) = 0
+
+pub record DrawingChain (bytes statement : List ℕ) (n t : ℕ) (list : List ℕ) : Type 0 where
+  pub answer : IsFirst (drawingChain bytes statement n t (length list)) (drawingNumber (drawingOf bytes statement n t (length list)))
+  pub refused :
+      (r : Refusal) (i : ℕ) → drawingOf bytes statement n t (length list) ≡ NotDrawn r i
+      → (drawnList bytes statement n t list ≡ list)
+      × ((firstDrawn bytes statement n t (length list) ≡ zeros 105) × (secondDrawn bytes statement n t (length list) ≡ zeros 105))
+
+-- 'A refusal prints `refused`, a blank and the number.'
+pub record PlanningProgram (input : List ℕ) : Type 0 where
+  pub number : ℕ
+  pub answer : IsFirst (planningProgram input) number
+  pub refused : 1 ≤ number → printed input ≡ refusedText number
+  pub done :
+      number ≡ 0
+      → printed input
+      ≡ headText (getD (numbers input) 0 0) (leavesOpened (drop 1 (numbers input))) (length (chain (getD (numbers input) 0 0) (drop 1 (numbers input))))
+      ++ nodesText (chain (getD (numbers input) 0 0) (drop 1 (numbers input)))
+
+-- comparing lends nothing to write to
+pub record Comparing (statement : List ℕ) (n : ℕ) (leaves openings : List ℕ) : Type 0 where
+  pub answer : IsFirst (comparing n leaves (length openings)) (outcomeNumber (compareRow n leaves (length openings)))
+  pub refused : (r : Refusal) → compareRow n leaves (length openings) ≡ Refused r → compared statement n leaves openings ≡ Agree
+
+pub record WritingNumber (out : List ℕ) (at x : ℕ) : Type 0 where
+  pub answer : IsFirst (writingNumber out at x) (outcomeNumber (putAt out at x .outcome))
+  pub refused : (r : Refusal) → putAt out at x .outcome ≡ Refused r → (putAt out at x .count ≡ 0) × (outputAfter out at x ≡ out)
+
+pub record StartingFile (statement root : List ℕ) (n m t : ℕ) (store file : List ℕ) : Type 0 where
+  pub answer : IsFirst (startingFile n m t (length store) (length file)) (outcomeNumber (writeRow n m t (length store) (length file)))
+  pub refused :
+      (r : Refusal) → writeRow n m t (length store) (length file) ≡ Refused r
+      → startedFile statement root n m t store file ≡ record { writing = noWriting; file = file }
+
+pub record ContinuingFile (w : Writing) (store file : List ℕ) (budget : ℕ) : Type 0 where
+  pub answer : IsFirst (continuingFile w (length store) (length file)) (outcomeNumber (rewriteRow w (length store) (length file)))
+  pub refused :
+      (r : Refusal) → rewriteRow w (length store) (length file) ≡ Refused r
+      → (writings.labelsIn store (record { writing = w; file = file }) budget ≡ 0)
+      × (writings.advanced store (record { writing = w; file = file }) budget ≡ record { writing = w; file = file })
+
+-- ---- the demand
+pub record Demand1 : Type 0 where
+  pub labellingEnds : (statement : List ℕ) (n m : ℕ) (store : List ℕ) → InBounds n m (length store) → LabellingEnds statement n m store
+  pub openingEnds :
+      (statement : List ℕ) (n m leaf : ℕ) (store out : List ℕ) → InBounds n m (length store) → leaf < 2 ^ n → 32 * (n + 1) ≤ length out
+      → OpeningEnds statement n m leaf store out
+  pub writingEnds :
+      (statement root : List ℕ) (n m t : ℕ) (store file : List ℕ) → length statement ≡ 32 → length root ≡ 32
+      → InBounds n m (length store) → (1 ≤ t) × (t ≤ 200) → fileSize n t ≤ length file
+      → WritingEnds statement root n m t store file
+  pub hashingPortion : (s : Hash) (part : List ℕ) → HashingPortion s part
+  pub hashingEnd : (s : Hash) → HashingEnd s
+  pub hashingWhole : (message : List ℕ) → HashingWhole message
+  pub startingRun : (statement : List ℕ) (n m store : ℕ) → StartingRun statement n m store
+  pub continuingRun : (run : Run) (store : List ℕ) (budget : ℕ) → ContinuingRun run store budget
+  pub startingOpening : (statement : List ℕ) (n m leaf : ℕ) (store out : List ℕ) → StartingOpening statement n m leaf store out
+  pub continuingOpening : (o : Opening) (store out : List ℕ) (budget : ℕ) → ContinuingOpening o store out budget
+  pub challenge : (n : ℕ) (statement root : List ℕ) (i : ℕ) → AChallenge n statement root i
+  pub writingHead : (statement root : List ℕ) (n t : ℕ) (out : List ℕ) → WritingHead statement root n t out
+  pub oneOpening : (statement : List ℕ) (n leaf : ℕ) (root bytes : List ℕ) → OneOpening statement n leaf root bytes
+  pub head : (bytes : List ℕ) → AHead bytes
+  pub file : (bytes statement : List ℕ) (n t : ℕ) → AFile bytes statement n t
+  pub planningChain : (n : ℕ) (leaves list : List ℕ) → PlanningChain n leaves list
+  pub drawingChain :
+      (bytes statement : List ℕ) (n t : ℕ) (list : List ℕ) → ((j : ℕ) → getD bytes j 0 < 256) → DrawingChain bytes statement n t list
+  pub planningProgram : (input : List ℕ) → PlanningProgram input
+  pub comparing : (statement : List ℕ) (n : ℕ) (leaves openings : List ℕ) → Comparing statement n leaves openings
+  pub writingNumber : (out : List ℕ) (at x : ℕ) → WritingNumber out at x
+  pub startingFile :
+      (statement root : List ℕ) (n m t : ℕ) (store file : List ℕ) → StartingFile statement root n m t store file
+  pub continuingFile : (w : Writing) (store file : List ℕ) (budget : ℕ) → ContinuingFile w store file budget

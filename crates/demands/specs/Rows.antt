@@ -1,0 +1,237 @@
+-- Document 01's table 'The checks, by place', row by row: each condition as a fact of numbers and bytes, with its number.
+use mathlib.Core.Path.{_≡_}
+use mathlib.Core.Logic.{_⊎_}
+use Prim.Native.Nat.{ℕ, zero, suc, _+_, _-_, _*_, _%_, _^_, _≤_, _<_, min}
+use mathlib.Core.List.{List, [], _∷_, _++_}
+use lib.Dec.{ltb}
+use lib.ListN.{length, getD, drop}
+use Rattle.base.specs.Choice.{pick}
+use Rattle.tree.specs.Openings.{LeafRight, RootRight}
+use Rattle.label.specs.Rule.{stampRule}
+use Rattle.groups.specs.Groups.{groupsOf}
+use Rattle.run.specs.declared.Run.{Run}
+use Rattle.opening.specs.declared.Opening.{Opening}
+use Rattle.verify.specs.OpeningCheck.{givenBy}
+use Rattle.proof.specs.Challenge.{challengeLeaf}
+use Rattle.proof.specs.Layout.{fileSize}
+use Rattle.proof.specs.Head.{statementAt, rootAt, openingAt}
+use Rattle.ways.specs.Ways.{chain}
+use Rattle.planning.specs.Input.{numbers}
+use Rattle.writing.specs.declared.Writing.{Writing}
+use Rattle.drawn.specs.Demand3.{NoneDisagree, chainLength}
+
+-- a row: its conditions, each with the number answered, in the order listed
+abbrev pub Row : Type 1
+Row = List (Type 0 × ℕ)
+
+-- 'Each is given just when its condition holds and no earlier one did.' Where none holds the answer is 0.
+abbrev pub IsFirst : Row → ℕ → Type 0
+IsFirst [] answer = answer ≡ 0
+IsFirst (check ∷ row) answer = (check .0 × (answer ≡ check .1)) ⊎ ((check .0 → ⊥) × IsFirst row answer)
+
+-- not low..high
+abbrev pub Outside : ℕ → ℕ → ℕ → Type 0
+Outside low high x = (low ≤ x) × (x ≤ high) → ⊥
+
+-- | Hashing, each portion and the end | 5: over 2^61 − 1 bytes in all |
+abbrev pub hashing : ℕ → ℕ → Row
+hashing taken more = (2 ^ 61 - 1 < taken + more, 5) ∷ []
+
+-- | Starting a run | 1: n not 1..40; 2: m over min(n, 20); 3: store short |
+abbrev pub startingRun : ℕ → ℕ → ℕ → Row
+startingRun n m store = (Outside 1 40 n, 1) ∷ (min n 20 < m, 2) ∷ (store < 32 * (2 ^ (m + 1) - 1), 3) ∷ []
+
+-- n not 1..40, m over min(n, 20), or more labels made than there are to make
+abbrev pub Impossible : ℕ → ℕ → ℕ → ℕ → Type 0
+Impossible n m made all = Outside 1 40 n ⊎ ((min n 20 < m) ⊎ (all < made))
+
+-- | Continuing a run | 4: n not 1..40, m over min(n, 20), or more labels made than there are to make; 3 |
+abbrev pub continuingRun : Run → ℕ → Row
+continuingRun run store =
+    (Impossible (run .depth) (run .memory) (run .made) (2 ^ (run .depth + 1) - 1), 4)
+    ∷ (store < 32 * (2 ^ (run .memory + 1) - 1), 3)
+    ∷ []
+
+-- | Starting an opening | 1, 2, 3; 6: position 2^n or more; 7: output short |
+abbrev pub startingOpening : ℕ → ℕ → ℕ → ℕ → ℕ → Row
+startingOpening n m leaf store out =
+    (Outside 1 40 n, 1)
+    ∷ (min n 20 < m, 2)
+    ∷ (store < 32 * (2 ^ (m + 1) - 1), 3)
+    ∷ (2 ^ n ≤ leaf, 6)
+    ∷ (out < 32 * (n + 1), 7)
+    ∷ []
+
+-- | Continuing an opening | 4 (also a leaf of 2^n or more); 3; 7 |
+abbrev pub continuingOpening : Opening → ℕ → ℕ → Row
+continuingOpening o store out =
+    (Impossible (o .depth) (o .memory) (o .made) (2 ^ (o .depth - o .memory + 1) - 2) ⊎ (2 ^ (o .depth) ≤ o .leaf), 4)
+    ∷ (store < 32 * (2 ^ (o .memory + 1) - 1), 3)
+    ∷ (out < 32 * (o .depth + 1), 7)
+    ∷ []
+
+-- | A challenge | 1; 8: i not 1..200 |
+abbrev pub aChallenge : ℕ → ℕ → Row
+aChallenge n i = (Outside 1 40 n, 1) ∷ (Outside 1 200 i, 8) ∷ []
+
+-- | Writing the file's head | 1; 8: t not 1..200; 7: less than the whole file fits |
+abbrev pub writingHead : ℕ → ℕ → ℕ → Row
+writingHead n t out = (Outside 1 40 n, 1) ∷ (Outside 1 200 t, 8) ∷ (out < fileSize n t, 7) ∷ []
+
+-- | One opening checked | 1; 6; 10: bytes too few; 13: too many; 14: leaf label wrong; 15: root wrong |
+abbrev pub oneOpening : List ℕ → ℕ → ℕ → List ℕ → List ℕ → Row
+oneOpening statement n leaf root bytes =
+    (Outside 1 40 n, 1)
+    ∷ (2 ^ n ≤ leaf, 6)
+    ∷ (length bytes < 32 * (n + 1), 10)
+    ∷ (32 * (n + 1) < length bytes, 13)
+    ∷ (LeafRight (stampRule statement) n leaf (givenBy bytes) → ⊥, 14)
+    ∷ (RootRight (stampRule statement) n leaf (givenBy bytes) root → ⊥, 15)
+    ∷ []
+
+-- ---- File
+-- the number at a place, in one byte or in two, and the place behind it
+abbrev pub byteAt : List ℕ → ℕ → ℕ
+byteAt bytes at = getD bytes at 0
+
+unfoldable pub valueAt : List ℕ → ℕ → ℕ
+valueAt bytes at =
+    pick (ltb (byteAt bytes at) 128) (byteAt bytes at) (byteAt bytes at % 128 + 128 * byteAt bytes (at + 1))
+
+unfoldable pub behind : List ℕ → ℕ → ℕ
+behind bytes at = pick (ltb (byteAt bytes at) 128) (at + 1) (at + 2)
+
+-- n follows the edition, t follows n, and then the statement comes
+abbrev pub depthPlace : List ℕ → ℕ
+depthPlace bytes = behind bytes 0
+
+abbrev pub countPlace : List ℕ → ℕ
+countPlace bytes = behind bytes (depthPlace bytes)
+
+abbrev pub numbersEnd : List ℕ → ℕ
+numbersEnd bytes = behind bytes (countPlace bytes)
+
+-- | File, each number in turn | 10: bytes end; 11: last of several bytes 0, or the last allowed byte above 127; .. |
+abbrev pub aNumber : List ℕ → ℕ → Row
+aNumber bytes at =
+    ((length bytes ≤ at) ⊎ ((128 ≤ byteAt bytes at) × (length bytes ≤ at + 1)), 10)
+    ∷ ((128 ≤ byteAt bytes at) × ((byteAt bytes (at + 1) ≡ 0) ⊎ (128 ≤ byteAt bytes (at + 1))), 11)
+    ∷ []
+
+-- .. then 12: edition not 1, or 1, or 8 |
+abbrev pub aHead : List ℕ → Row
+aHead bytes =
+    aNumber bytes 0
+    ++ (valueAt bytes 0 ≡ 1 → ⊥, 12) ∷ aNumber bytes (depthPlace bytes)
+    ++ (Outside 1 40 (valueAt bytes (depthPlace bytes)), 1) ∷ aNumber bytes (countPlace bytes)
+    ++ (Outside 1 200 (valueAt bytes (countPlace bytes)), 8) ∷ []
+
+-- | File, rest | 10; 13; 9: statement, n or t not those wanted; .. |: n′ and t′ were read, and end at a place
+abbrev pub fileRest : List ℕ → List ℕ → ℕ → ℕ → ℕ → ℕ → ℕ → Row
+fileRest bytes statement n t n′ t′ at =
+    (length bytes < at + 64 + t′ * (32 * (n′ + 1)), 10)
+    ∷ (at + 64 + t′ * (32 * (n′ + 1)) < length bytes, 13)
+    ∷ ((statementAt bytes at ≡ statement) × (n′ ≡ n) × (t′ ≡ t) → ⊥, 9)
+    ∷ []
+
+-- .. per opening 14, 15 |
+abbrev pub fileOpening : List ℕ → ℕ → ℕ → ℕ → Row
+fileOpening bytes n at i =
+    let statement : List ℕ = statementAt bytes at in
+    let root : List ℕ = rootAt bytes at in
+    let leaf : ℕ = challengeLeaf n statement root i in
+    (LeafRight (stampRule statement) n leaf (givenBy (openingAt bytes n at i)) → ⊥, 14)
+    ∷ (RootRight (stampRule statement) n leaf (givenBy (openingAt bytes n at i)) root → ⊥, 15)
+    ∷ []
+
+-- 'the refusal number with the opening it was found in, from 1, or 0 outside openings', as one number: 256 × refusal + opening
+abbrev pub foundIn : ℕ → Row → Row
+foundIn i [] = []
+foundIn i (check ∷ row) = (check .0, 256 * check .1 + i) ∷ foundIn i row
+
+-- `left` openings from number i on
+unfoldable pub fileOpenings : List ℕ → ℕ → ℕ → ℕ → ℕ → Row
+fileOpenings bytes n at i zero = []
+fileOpenings bytes n at i (suc left) = foundIn i (fileOpening bytes n at i) ++ fileOpenings bytes n at (i + 1) left
+
+-- both rows
+unfoldable pub aFile : List ℕ → List ℕ → ℕ → ℕ → Row
+aFile bytes statement n t =
+    let n′ : ℕ = valueAt bytes (depthPlace bytes) in
+    let t′ : ℕ = valueAt bytes (countPlace bytes) in
+    foundIn 0 (aHead bytes)
+    ++ foundIn 0 (fileRest bytes statement n t n′ t′ (numbersEnd bytes))
+    ++ fileOpenings bytes n′ (numbersEnd bytes) 1 t′
+
+-- | Planning a chain | 1; 8: not 1..200 leaves; 6; 16: list short |
+abbrev pub planningChain : ℕ → List ℕ → ℕ → Row
+planningChain n leaves list =
+    (Outside 1 40 n, 1)
+    ∷ (Outside 1 200 (length leaves), 8)
+    ∷ ((i : ℕ) × (i < length leaves) × (2 ^ n ≤ getD leaves i 0), 6)
+    ∷ (list < length (chain n leaves), 16)
+    ∷ []
+
+-- | Drawing a chain | all file checks; 16, if no pair disagrees |
+abbrev pub drawingChain : List ℕ → List ℕ → ℕ → ℕ → ℕ → Row
+drawingChain bytes statement n t list =
+    aFile bytes statement n t
+    ++ foundIn 0 ((NoneDisagree bytes statement n t × (list < chainLength bytes statement n t), 16) ∷ [])
+
+-- ---- 'The planning program .. Before all else, 17: over 65,536 bytes, any other byte, no number, or a number over 2^64 − 1.'
+-- other than a digit, a blank and a line feed
+abbrev pub OtherByte : ℕ → Type 0
+OtherByte b = ((48 ≤ b) × (b ≤ 57)) ⊎ ((b ≡ 32) ⊎ (b ≡ 10)) → ⊥
+
+abbrev pub Unreadable : List ℕ → Type 0
+Unreadable bytes =
+    (65536 < length bytes)
+    ⊎ (((i : ℕ) × (i < length bytes) × OtherByte (getD bytes i 0))
+    ⊎ ((length (numbers bytes) ≡ 0) ⊎ ((i : ℕ) × (i < length (numbers bytes)) × (2 ^ 64 ≤ getD (numbers bytes) i 0))))
+
+-- the first number is the depth, the others are the leaves, and the list has 6,855 places
+abbrev pub planningProgram : List ℕ → Row
+planningProgram bytes = (Unreadable bytes, 17) ∷ planningChain (getD (numbers bytes) 0 0) (drop 1 (numbers bytes)) 6855
+
+-- ---- Calls for which document 01 has no row
+-- openings compared, so many bytes of them: 1; 8; 6; 10: bytes too few; 13: too many
+abbrev pub comparing : ℕ → List ℕ → ℕ → Row
+comparing n leaves size =
+    (Outside 1 40 n, 1)
+    ∷ (Outside 1 200 (length leaves), 8)
+    ∷ ((i : ℕ) × (i < length leaves) × (2 ^ n ≤ getD leaves i 0), 6)
+    ∷ (size < length leaves * (32 * (n + 1)), 10)
+    ∷ (length leaves * (32 * (n + 1)) < size, 13)
+    ∷ []
+
+-- a number's groups written from a place on: 7
+abbrev pub writingNumber : List ℕ → ℕ → ℕ → Row
+writingNumber out at x = (length out < at + length (groupsOf x), 7) ∷ []
+
+-- a whole file by budgets, its start: those of a run's start and of the head, 1, 2, 3; 8; 7
+abbrev pub startingFile : ℕ → ℕ → ℕ → ℕ → ℕ → Row
+startingFile n m t store file =
+    (Outside 1 40 n, 1)
+    ∷ (min n 20 < m, 2)
+    ∷ (store < 32 * (2 ^ (m + 1) - 1), 3)
+    ∷ (Outside 1 200 t, 8)
+    ∷ (file < fileSize n t, 7)
+    ∷ []
+
+-- an opening that is done and is not the last, which no start or call leaves
+abbrev pub NotBegun : Writing → Type 0
+NotBegun w = let o : Opening = w .opening in (o .made ≡ 2 ^ (o .depth - o .memory + 1) - 2) × (w .number < w .count)
+
+-- a leaf of 2^n or more, a count not 1..200, an opening's number not 1..t, or the next opening not begun
+abbrev pub ImpossibleFile : Writing → Type 0
+ImpossibleFile w =
+    (2 ^ (w .opening .depth) ≤ w .opening .leaf) ⊎ (Outside 1 200 (w .count) ⊎ (Outside 1 (w .count) (w .number) ⊎ NotBegun w))
+
+-- its continuation: 4; 3; 7
+abbrev pub continuingFile : Writing → ℕ → ℕ → Row
+continuingFile w store file =
+    let o : Opening = w .opening in
+    (Impossible (o .depth) (o .memory) (o .made) (2 ^ (o .depth - o .memory + 1) - 2) ⊎ ImpossibleFile w, 4)
+    ∷ (store < 32 * (2 ^ (o .memory + 1) - 1), 3)
+    ∷ (file < fileSize (o .depth) (w .count), 7)
+    ∷ []
