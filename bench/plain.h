@@ -17,4 +17,13 @@ struct plain_run {
 /* Labels the smaller of the budget and what remains. */
 void plain_advance(struct plain_run *run, uint64_t budget, uint8_t *store);
 
+/* The label of a leaf from an opening's siblings, from level n to level 1; that of an inner node from its children's. */
+void plain_leaf_label(const uint8_t statement[32], unsigned depth, uint64_t leaf, const uint8_t *siblings, uint8_t label[32]);
+void plain_inner_label(const uint8_t statement[32], unsigned level, uint64_t position, const uint8_t left[32],
+                       const uint8_t right[32], uint8_t label[32]);
+
+/* One opening checked: 14, 15, or 0 if it is right. */
+int plain_check_opening(const uint8_t statement[32], const uint8_t root[32], unsigned depth, uint64_t leaf,
+                        const uint8_t *opening);
+
 #endif

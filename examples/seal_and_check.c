@@ -52,46 +52,30 @@ static void label_tree(const uint8_t statement[32], uint8_t *store, size_t store
     memcpy(root, run.held, 32);
 }
 
-/* Opens one leaf into its part of the file. */
-static void open_leaf(const uint8_t statement[32], uint64_t leaf, const uint8_t *store, size_t store_len, uint8_t *out) {
-    size_t out_len = MASTDOCK_OPENING_SIZE(DEPTH);
-    mastdock_opening_started started =
-        mastdock_opening_start(statement, DEPTH, MEMORY, leaf, store, store_len, out, out_len);
-    if (started.refusal)
-        fail("mastdock_opening_start", started.refusal);
-    mastdock_opening opening = started.opening;
-    while (opening.made < MASTDOCK_LABELS_ANEW(DEPTH, MEMORY)) {
-        mastdock_opening_advanced advanced = mastdock_opening_advance(opening, BUDGET, store, store_len, out, out_len);
-        if (advanced.refusal)
-            fail("mastdock_opening_advance", advanced.refusal);
-        opening = advanced.opening;
-    }
-}
-
-/* The head, then the opening of each challenge. */
+/* The head and the openings, some labels a call. */
 static void write_file(const uint8_t statement[32], const uint8_t root[32], const uint8_t *store, size_t store_len,
                        uint8_t *file, size_t file_len) {
-    uint64_t refusal = mastdock_write_head(statement, root, DEPTH, COUNT, file, file_len);
-    if (refusal)
-        fail("mastdock_write_head", refusal);
-    for (uint64_t i = 1; i <= COUNT; i++) {
-        mastdock_challenged challenged = mastdock_challenge(statement, root, DEPTH, i);
-        if (challenged.refusal)
-            fail("mastdock_challenge", challenged.refusal);
-        mastdock_place place = mastdock_opening_place(file, file_len, i);
-        open_leaf(statement, challenged.leaf, store, store_len, file + place.offset);
+    mastdock_writing_started started =
+        mastdock_writing_start(statement, root, DEPTH, MEMORY, COUNT, store, store_len, file, file_len);
+    if (started.refusal)
+        fail("mastdock_writing_start", started.refusal);
+    mastdock_writing writing = started.writing;
+    for (uint64_t labels = 1; labels != 0;) {
+        mastdock_writing_advanced advanced = mastdock_writing_advance(writing, BUDGET, store, store_len, file, file_len);
+        if (advanced.refusal)
+            fail("mastdock_writing_advance", advanced.refusal);
+        writing = advanced.writing;
+        labels = advanced.labels;
     }
 }
 
-/* The chain of the leaves that the file opens, planned from its head alone. */
-static void plan_chain(const uint8_t statement[32], const uint8_t root[32]) {
-    uint64_t leaves[COUNT], list[MASTDOCK_MAX_CHAIN];
-    for (uint64_t i = 1; i <= COUNT; i++)
-        leaves[i - 1] = mastdock_challenge(statement, root, DEPTH, i).leaf;
-    mastdock_planned planned = mastdock_plan(DEPTH, leaves, COUNT, list, MASTDOCK_MAX_CHAIN);
-    if (planned.refusal)
-        fail("mastdock_plan", planned.refusal);
-    printf("chain %llu nodes, last %llu\n", (unsigned long long)planned.count, (unsigned long long)list[planned.count - 1]);
+/* The chain of the nodes that the file opens. */
+static void draw_chain(const uint8_t statement[32], const uint8_t *file, size_t file_len) {
+    uint64_t list[MASTDOCK_MAX_CHAIN];
+    mastdock_drawn drawn = mastdock_draw(file, file_len, statement, DEPTH, COUNT, list, MASTDOCK_MAX_CHAIN);
+    if (drawn.kind != MASTDOCK_CHAIN)
+        fail("mastdock_draw", drawn.code);
+    printf("chain %llu nodes, last %llu\n", (unsigned long long)drawn.count, (unsigned long long)list[drawn.count - 1]);
 }
 
 int main(void) {
@@ -107,7 +91,7 @@ int main(void) {
     write_file(statement, root, store, store_len, file, file_len);
     print_label("file", mastdock_digest(file, file_len).digest);
     printf("check %llu\n", (unsigned long long)mastdock_check_file(file, file_len, statement, DEPTH, COUNT));
-    plan_chain(statement, root);
+    draw_chain(statement, file, file_len);
 
     /* One byte of opening 5 changed, checked in the file and alone. */
     mastdock_place place = mastdock_opening_place(file, file_len, 5);

@@ -1,8 +1,8 @@
 /* Mastdock for C11 and C++17: the calls of libcapi.a, which `rt staticlib capi` writes to target/staticlib.
  *
  * Conventions
- * - Every call is decided for every value of its arguments. A state (hash, run, opening) is plain data: it may be copied, kept in
- *   a file and continued later, and a call that is given one that cannot be continued refuses it.
+ * - Every call is decided for every value of its arguments. A state (hash, run, opening, writing) is plain data: it may be copied,
+ *   kept in a file and continued later, and a call that is given one that cannot be continued refuses it.
  * - A refusal is document 01's number, 0 where there is none; enum mastdock_refusal names them. Each call lists its refusals in
  *   the order in which they are tested. A refused call changes no lent byte, hands a state back as it was and makes 0 labels; a
  *   refused start hands back an all-zero state, and other values beside a refusal are 0.
@@ -56,6 +56,7 @@ enum mastdock_refusal {
 #define MASTDOCK_FILE_SIZE(n, t) (MASTDOCK_HEAD_SIZE(t) + (size_t)(t) * MASTDOCK_OPENING_SIZE(n))
 #define MASTDOCK_LABELS(n) (((uint64_t)2 << (n)) - 1)                    /* labels of a whole run */
 #define MASTDOCK_LABELS_ANEW(n, m) (((uint64_t)2 << ((n) - (m))) - 2)    /* labels that an opening makes anew */
+#define MASTDOCK_INPUT_SIZE 105                                          /* bytes of an inner node's hash input */
 #define MASTDOCK_MAX_CHAIN 6855                                          /* nodes of a chain of 200 leaves, at most */
 
 /* ---- Hashing: SHA-256 in portions ---- */
@@ -191,6 +192,40 @@ uint64_t mastdock_check_opening(const uint8_t statement[32], const uint8_t root[
  * each opening 14, 15. */
 uint64_t mastdock_check_file(const uint8_t *file, size_t file_len, const uint8_t statement[32], uint64_t depth, uint64_t count);
 
+/* ---- The whole file written by budgets ---- */
+
+/* A file under writing: root, count, the number of the opening under way, from 1, and that opening. */
+typedef struct mastdock_writing {
+    uint8_t root[32];
+    uint64_t count;
+    uint64_t number;
+    mastdock_opening opening;
+} mastdock_writing;
+
+typedef struct mastdock_writing_started {
+    uint64_t refusal;
+    mastdock_writing writing;
+} mastdock_writing_started;
+
+typedef struct mastdock_writing_advanced {
+    uint64_t refusal;
+    uint64_t labels;
+    mastdock_writing writing;
+} mastdock_writing_advanced;
+
+/* Begins a file of so many openings: writes its head and what the store holds of the first opening, and of the next ones where
+ * nothing is to be labelled anew. The store is a finished run's of the same statement, depth and memory level, and the root its
+ * root. Refusals: 1, 2, 3, 8, 7 (the whole file must fit). */
+mastdock_writing_started mastdock_writing_start(const uint8_t statement[32], const uint8_t root[32], uint64_t depth,
+                                                uint64_t memory, uint64_t count, const uint8_t *store, size_t store_len,
+                                                uint8_t *file, size_t file_len);
+
+/* Makes anew exactly the smaller of the budget and the labels that remain for all openings, and puts those of the openings in
+ * their places of the file; the next opening is begun when one is done. The file is done when 0 labels remain: a call with a
+ * budget gives 0 labels. Refusals: 4, 3, 7. */
+mastdock_writing_advanced mastdock_writing_advance(mastdock_writing writing, uint64_t budget, const uint8_t *store,
+                                                   size_t store_len, uint8_t *file, size_t file_len);
+
 /* ---- Chains ---- */
 
 typedef struct mastdock_planned {
@@ -201,6 +236,47 @@ typedef struct mastdock_planned {
 /* Writes the nodes on the leaves' ways to the root, in labelling order, each once, as 2^level + position, and gives their count.
  * Leaves may stand in any order and repeat. Refusals: 1, 8, 6, 16. */
 mastdock_planned mastdock_plan(uint64_t depth, const uint64_t *leaves, size_t leaves_len, uint64_t *list, size_t list_len);
+
+/* Where no pair of openings disagrees, all zero; else the first pair i < j, from 1, the smallest level, and both hash inputs. */
+typedef struct mastdock_compared {
+    uint64_t refusal;
+    uint64_t i;
+    uint64_t j;
+    uint64_t level;
+    uint8_t first[MASTDOCK_INPUT_SIZE];
+    uint8_t second[MASTDOCK_INPUT_SIZE];
+} mastdock_compared;
+
+/* Compares openings of leaves, given one after the other in one piece; they need not be right. Two disagree at a shared inner node
+ * if their child labels there, computed or given, differ. Holds a table of 512,000 bytes on the stack: its thread wants 0.6 MB.
+ * Refusals: 1, 8, 6, 10, 13. */
+mastdock_compared mastdock_compare(const uint8_t statement[32], uint64_t depth, const uint64_t *leaves, size_t leaves_len,
+                                   const uint8_t *openings, size_t openings_len);
+
+/* What drawing found. */
+enum mastdock_drawing {
+    MASTDOCK_NOT_DRAWN = 0, /* refused: the code as mastdock_check_file gives it */
+    MASTDOCK_CHAIN = 1,     /* a chain: the count of its nodes */
+    MASTDOCK_CLASH = 2      /* a pair i < j of openings, from 1, that disagrees, the smallest level, and both inputs */
+};
+
+/* The fields of the kind that it is; all others are 0. */
+typedef struct mastdock_drawn {
+    uint64_t kind;
+    uint64_t code;
+    uint64_t count;
+    uint64_t i;
+    uint64_t j;
+    uint64_t level;
+    uint8_t first[MASTDOCK_INPUT_SIZE];
+    uint8_t second[MASTDOCK_INPUT_SIZE];
+} mastdock_drawn;
+
+/* Draws the chain of a file: checks it as mastdock_check_file does; then, if two of its openings disagree, names the first pair and
+ * leaves the list; else writes the chain as mastdock_plan does. Holds a table of 512,000 bytes on the stack: its thread wants
+ * 0.6 MB. Refusals: those of mastdock_check_file; then, if no pair disagrees, 16. */
+mastdock_drawn mastdock_draw(const uint8_t *file, size_t file_len, const uint8_t statement[32], uint64_t depth, uint64_t count,
+                             uint64_t *list, size_t list_len);
 
 #ifdef __cplusplus
 }
@@ -275,9 +351,42 @@ MASTDOCK_ASSERT(sizeof(mastdock_place) == 16);
 MASTDOCK_AT(mastdock_place, offset, 0);
 MASTDOCK_AT(mastdock_place, length, 8);
 
+MASTDOCK_ASSERT(sizeof(mastdock_writing) == 1424);
+MASTDOCK_AT(mastdock_writing, root, 0);
+MASTDOCK_AT(mastdock_writing, count, 32);
+MASTDOCK_AT(mastdock_writing, number, 40);
+MASTDOCK_AT(mastdock_writing, opening, 48);
+
+MASTDOCK_ASSERT(sizeof(mastdock_writing_started) == 1432);
+MASTDOCK_AT(mastdock_writing_started, refusal, 0);
+MASTDOCK_AT(mastdock_writing_started, writing, 8);
+
+MASTDOCK_ASSERT(sizeof(mastdock_writing_advanced) == 1440);
+MASTDOCK_AT(mastdock_writing_advanced, refusal, 0);
+MASTDOCK_AT(mastdock_writing_advanced, labels, 8);
+MASTDOCK_AT(mastdock_writing_advanced, writing, 16);
+
 MASTDOCK_ASSERT(sizeof(mastdock_planned) == 16);
 MASTDOCK_AT(mastdock_planned, refusal, 0);
 MASTDOCK_AT(mastdock_planned, count, 8);
+
+MASTDOCK_ASSERT(sizeof(mastdock_compared) == 248);
+MASTDOCK_AT(mastdock_compared, refusal, 0);
+MASTDOCK_AT(mastdock_compared, i, 8);
+MASTDOCK_AT(mastdock_compared, j, 16);
+MASTDOCK_AT(mastdock_compared, level, 24);
+MASTDOCK_AT(mastdock_compared, first, 32);
+MASTDOCK_AT(mastdock_compared, second, 137);
+
+MASTDOCK_ASSERT(sizeof(mastdock_drawn) == 264);
+MASTDOCK_AT(mastdock_drawn, kind, 0);
+MASTDOCK_AT(mastdock_drawn, code, 8);
+MASTDOCK_AT(mastdock_drawn, count, 16);
+MASTDOCK_AT(mastdock_drawn, i, 24);
+MASTDOCK_AT(mastdock_drawn, j, 32);
+MASTDOCK_AT(mastdock_drawn, level, 40);
+MASTDOCK_AT(mastdock_drawn, first, 48);
+MASTDOCK_AT(mastdock_drawn, second, 153);
 
 /* Document 01's table: T5, T8 and T9. */
 MASTDOCK_ASSERT(MASTDOCK_STORE_SIZE(0) == 32 && MASTDOCK_STORE_SIZE(10) == 65504);

@@ -1,6 +1,6 @@
 //! The calls as the static library exports them: the same as `include/mastdock.h`, which says what pointers owe. Nothing here is
 //! needed where the safe functions serve.
-use crate::{Hash, Opening, Place, Run};
+use crate::{Hash, Opening, Place, Run, Writing};
 
 #[repr(C)]
 #[derive(Clone, Debug, PartialEq, Eq)]
@@ -63,9 +63,48 @@ pub struct Challenged {
 
 #[repr(C)]
 #[derive(Clone, Debug, PartialEq, Eq)]
+pub struct WritingStarted {
+    pub refusal: u64,
+    pub writing: Writing,
+}
+
+#[repr(C)]
+#[derive(Clone, Debug, PartialEq, Eq)]
+pub struct WritingAdvanced {
+    pub refusal: u64,
+    pub labels: u64,
+    pub writing: Writing,
+}
+
+#[repr(C)]
+#[derive(Clone, Debug, PartialEq, Eq)]
 pub struct Planned {
     pub refusal: u64,
     pub count: u64,
+}
+
+#[repr(C)]
+#[derive(Clone, Debug, PartialEq, Eq)]
+pub struct Compared {
+    pub refusal: u64,
+    pub i: u64,
+    pub j: u64,
+    pub level: u64,
+    pub first: [u8; 105],
+    pub second: [u8; 105],
+}
+
+#[repr(C)]
+#[derive(Clone, Debug, PartialEq, Eq)]
+pub struct Drawn {
+    pub kind: u64,
+    pub code: u64,
+    pub count: u64,
+    pub i: u64,
+    pub j: u64,
+    pub level: u64,
+    pub first: [u8; 105],
+    pub second: [u8; 105],
 }
 
 extern "C" {
@@ -124,6 +163,42 @@ extern "C" {
         depth: u64,
         count: u64,
     ) -> u64;
+    pub fn mastdock_writing_start(
+        statement: *const [u8; 32],
+        root: *const [u8; 32],
+        depth: u64,
+        memory: u64,
+        count: u64,
+        store: *const u8,
+        store_len: usize,
+        file: *mut u8,
+        file_len: usize,
+    ) -> WritingStarted;
+    pub fn mastdock_writing_advance(
+        writing: Writing,
+        budget: u64,
+        store: *const u8,
+        store_len: usize,
+        file: *mut u8,
+        file_len: usize,
+    ) -> WritingAdvanced;
     pub fn mastdock_plan(depth: u64, leaves: *const u64, leaves_len: usize, list: *mut u64, list_len: usize)
         -> Planned;
+    pub fn mastdock_compare(
+        statement: *const [u8; 32],
+        depth: u64,
+        leaves: *const u64,
+        leaves_len: usize,
+        openings: *const u8,
+        openings_len: usize,
+    ) -> Compared;
+    pub fn mastdock_draw(
+        file: *const u8,
+        file_len: usize,
+        statement: *const [u8; 32],
+        depth: u64,
+        count: u64,
+        list: *mut u64,
+        list_len: usize,
+    ) -> Drawn;
 }

@@ -1,6 +1,6 @@
 //! The layout that the library was compiled with: the assertions of `include/mastdock.h`.
 use crate::ffi::*;
-use crate::{Hash, Opening, Place, Run};
+use crate::{Hash, Opening, Place, Run, Writing};
 use std::mem::{align_of, offset_of, size_of};
 
 /// Size and alignment of a struct, and the offset of each field.
@@ -27,4 +27,9 @@ layout!(OpeningStarted, 1384, 8, refusal 0, opening 8);
 layout!(OpeningAdvanced, 1392, 8, refusal 0, labels 8, opening 16);
 layout!(Challenged, 16, 8, refusal 0, leaf 8);
 layout!(Place, 16, 8, offset 0, length 8);
+layout!(Writing, 1424, 8, root 0, count 32, number 40, opening 48);
+layout!(WritingStarted, 1432, 8, refusal 0, writing 8);
+layout!(WritingAdvanced, 1440, 8, refusal 0, labels 8, writing 16);
 layout!(Planned, 16, 8, refusal 0, count 8);
+layout!(Compared, 248, 8, refusal 0, i 8, j 16, level 24, first 32, second 137);
+layout!(Drawn, 264, 8, kind 0, code 8, count 16, i 24, j 32, level 40, first 48, second 153);

@@ -5,7 +5,7 @@
 //! A report sealed and checked:
 //!
 //! ```
-//! use mastdock::{challenge, check_file, digest, file_size, head_size, opening_size, store_size, write_head, Opening, Run};
+//! use mastdock::{check_file, digest, draw, file_size, head_size, store_size, Drawing, Run, Writing, MAX_CHAIN};
 //!
 //! # fn main() -> Result<(), Box<dyn std::error::Error>> {
 //! let (depth, memory, count) = (8, 3, 5);
@@ -19,16 +19,16 @@
 //!
 //! // The file: its head, then the opening of each challenge.
 //! let mut file = vec![0; file_size(depth, count).unwrap()];
-//! write_head(&statement, &root, depth, count, &mut file)?;
-//! let openings = &mut file[head_size(count).unwrap()..];
-//! for (i, out) in (1..).zip(openings.chunks_exact_mut(opening_size(depth).unwrap())) {
-//!     let leaf = challenge(&statement, &root, depth, i)?;
-//!     let mut opening = Opening::start(&statement, depth, memory, leaf, &store, out)?;
-//!     while opening.advance(100, &store, out)? != 0 {}
-//! }
+//! let mut writing = Writing::start(&statement, &root, depth, memory, count, &store, &mut file)?;
+//! while writing.advance(100, &store, &mut file)? != 0 {}
 //!
-//! // The check.
+//! // The check, and the chain of the nodes that were opened.
 //! check_file(&file, &statement, depth, count)?;
+//! let mut list = [0; MAX_CHAIN];
+//! let Drawing::Chain(nodes) = draw(&file, &statement, depth, count, &mut list)? else { panic!("a collision") };
+//! assert_eq!(list[nodes - 1], 1);
+//!
+//! // One byte changed.
 //! file[head_size(count).unwrap()] ^= 1;
 //! let rejected = check_file(&file, &statement, depth, count).unwrap_err();
 //! assert_eq!(rejected.to_string(), "opening 1: leaf label wrong (refusal 14)");
@@ -47,8 +47,9 @@ mod opening;
 mod refusal;
 mod run;
 mod sizes;
+mod writing;
 
-pub use chain::plan;
+pub use chain::{compare, draw, plan, Clash, Drawing};
 pub use file::{challenge, check_file, check_opening, opening_part, opening_place, write_head, Place};
 pub use hash::{digest, Hash};
 pub use opening::Opening;
@@ -58,3 +59,4 @@ pub use sizes::{
     file_size, head_size, labels, labels_anew, opening_size, store_size, HELD_SIZE, MAX_CHAIN, MAX_COUNT, MAX_DEPTH,
     MAX_MEMORY,
 };
+pub use writing::Writing;

@@ -5,7 +5,7 @@ use crate::model::file::{groups, inputs};
 use crate::model::run::slot;
 use crate::model::sha256;
 use crate::model::tree::{input, parents, Node};
-use mastdock::{challenge, check_file, file_size, plan, write_head, Opening, Refusal, Rejected, Run};
+use mastdock::{challenge, check_file, file_size, plan, write_head, Opening, Refusal, Rejected, Run, Writing};
 
 pub fn run() {
     labels();
@@ -13,6 +13,7 @@ pub fn run() {
     numbers();
     chains();
     limits();
+    writings();
     clashes();
 }
 
@@ -95,6 +96,24 @@ fn limits() {
     }
 }
 
+/// docs/DECISIONS.md, 'The file': only the last opening may be done; 'with m = n the start alone writes the whole file'.
+fn writings() {
+    let (store, mut file) = ([7; 224], [0; 300]);
+    let anew = Writing::start(&[0; 32], &[0; 32], 2, 0, 2, &store, &mut file).unwrap();
+    assert_eq!((anew.number, anew.opening.made), (1, 0));
+    for (number, answer) in [(1, Err(Refusal::State)), (2, Ok(0))] {
+        let mut done = Writing { number, ..anew.clone() };
+        done.opening.made = 6;
+        let (before, bytes) = (done.clone(), file);
+        assert_eq!((done.advance(1, &store, &mut file), done, file), (answer, before, bytes));
+    }
+    let mut whole = Writing::start(&[0; 32], &[0; 32], 2, 2, 2, &store, &mut file).unwrap();
+    assert_eq!((whole.number, whole.advance(1, &store, &mut file)), (2, Ok(0)));
+    assert_eq!(file[67..259], [7; 192]);
+    whole.number = 1;
+    assert_eq!(whole.advance(0, &store, &mut file), Err(Refusal::State));
+}
+
 /// Openings of leaves 0, 1 and 0 at depth 2 by hand.
 fn clashes() {
     let statement = [9; 32];
@@ -115,4 +134,7 @@ fn clashes() {
     assert_eq!(expected.first[73..], c);
     assert_eq!(expected.first[41..73], sha256::digest(&input(&statement, Node::at(1, 0), &[a, b])));
     assert_eq!(compare(&statement, 2, &[0, 1, 0], &clash), Ok(Some(expected)));
+    assert_eq!(mastdock::compare(&statement, 2, &[0, 1, 0], &none), Ok(None));
+    let found = mastdock::compare(&statement, 2, &[0, 1, 0], &clash).unwrap().unwrap();
+    assert_eq!((found.i, found.j, found.level, &found.first[73..]), (1, 3, 0, &c[..]));
 }

@@ -5,8 +5,7 @@ use crate::model::file::{check, code};
 use crate::model::tree::Labels;
 use crate::model::{run, sha256, writing};
 use mastdock::{
-    challenge, check_file, digest, file_size, head_size, opening_size, store_size, write_head, Opening, Rejected, Run,
-    MAX_CHAIN,
+    check_file, digest, file_size, labels, labels_anew, store_size, Drawing, Rejected, Run, Writing, MAX_CHAIN,
 };
 
 /// The lines of a file of vectors, as words.
@@ -48,11 +47,21 @@ fn digests() -> usize {
     count
 }
 
+/// Calls until no label is left to make, and one more: each answers the smaller of the budget and what remains. It ends whatever is
+/// answered.
+fn by_budgets(mut left: u64, mut call: impl FnMut(u64) -> u64) {
+    while left > 0 {
+        assert_eq!(call(100), left.min(100));
+        left -= left.min(100);
+    }
+    assert_eq!(call(100), 0);
+}
+
 /// A finished run and its store.
 fn stamp(statement: &[u8; 32], n: u64, m: u64) -> (Run, Vec<u8>) {
     let mut store = vec![0; store_size(m).unwrap()];
     let mut run = Run::start(statement, n, m, &store).unwrap();
-    while run.advance(100, &mut store).unwrap() != 0 {}
+    by_budgets(labels(n).unwrap(), |budget| run.advance(budget, &mut store).unwrap());
     (run, store)
 }
 
@@ -79,13 +88,9 @@ fn seal(report: &[u8], n: u64, m: u64, t: u64) -> Vec<u8> {
     let (run, store) = stamp(&statement, n, m);
     let root = run.root().unwrap();
     let mut file = vec![0; file_size(n, t).unwrap()];
-    write_head(&statement, &root, n, t, &mut file).unwrap();
-    let openings = &mut file[head_size(t).unwrap()..];
-    for (i, out) in (1..).zip(openings.chunks_exact_mut(opening_size(n).unwrap())) {
-        let leaf = challenge(&statement, &root, n, i).unwrap();
-        let mut opening = Opening::start(&statement, n, m, leaf, &store, out).unwrap();
-        while opening.advance(100, &store, out).unwrap() != 0 {}
-    }
+    let mut writing = Writing::start(&statement, &root, n, m, t, &store, &mut file).unwrap();
+    let anew = t * labels_anew(n, m).unwrap();
+    by_budgets(anew, |budget| writing.advance(budget, &store, &mut file).unwrap());
     file
 }
 
@@ -141,6 +146,9 @@ fn chains() -> usize {
         let mut drawn = [0; MAX_CHAIN];
         assert_eq!(draw(&file, &digest(&report).unwrap(), n, t, &mut drawn), Drawn::Chain(length as u64));
         assert_eq!(drawn, planned);
+        let mut list = [0; MAX_CHAIN];
+        assert_eq!(mastdock::draw(&file, &digest(&report).unwrap(), n, t, &mut list), Ok(Drawing::Chain(length)));
+        assert_eq!(list, planned);
         count += 1;
     }
     count

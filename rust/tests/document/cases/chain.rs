@@ -1,7 +1,11 @@
-use super::numbered;
+use super::file::{changed, proof_file, Wanted, CHANGES};
+use super::{numbered, see};
 use crate::lent::Lent;
-use crate::model::chain::{chain, plan};
+use crate::model::chain::{chain, compare, draw, leaves_opened, plan, Clash, Drawn};
+use crate::model::opening::opening_size;
+use crate::model::tree::Labels;
 use crate::random::Random;
+use mastdock::{ffi, Drawing, Rejected};
 
 /// Leaves of a depth, some of them equal or beside one another.
 fn leaves(random: &mut Random, n: u64) -> Vec<u64> {
@@ -35,4 +39,96 @@ pub fn plans(random: &mut Random) -> u64 {
     lent_leaves.is_now(&leaves);
     lent_list.is_now(&list);
     1
+}
+
+/// A clash of the library as the model's.
+fn clash(clash: mastdock::Clash) -> Clash {
+    let mastdock::Clash { i, j, level, first, second } = clash;
+    Clash { i, j, level, first: first.to_vec(), second: second.to_vec() }
+}
+
+/// Openings of a tree, or of any bytes, with few leaves so that many ways are shared; some are changed.
+pub fn comparisons(random: &mut Random) -> u64 {
+    let any = random.once_in(4);
+    let depth = random.between(1, if any { 40 } else { 5 });
+    let mut leaves = leaves(random, depth);
+    leaves.truncate(random.pick(&[1, 4, 30, 200, 250]));
+    let mut statement = random.array();
+    let inside: Vec<u64> = leaves.iter().map(|leaf| leaf % (1 << depth)).collect();
+    let mut bytes: Vec<u8> = if any {
+        random.bytes(leaves.len() * opening_size(depth))
+    } else {
+        let labels = Labels::of(statement, depth);
+        inside.iter().flat_map(|leaf| labels.opening(*leaf)).collect()
+    };
+    if random.once_in(2) {
+        random.damage(&mut bytes);
+    }
+    if random.once_in(6) {
+        let len = random.near(bytes.len());
+        bytes.resize(len, 0);
+    }
+    if random.once_in(10) {
+        random.damage(&mut statement);
+    }
+    let n = random.or_edge(depth, 40);
+    let (mut lent_leaves, mut lent_bytes) = (Lent::words(random, &leaves), Lent::bytes(random, &bytes));
+    let answer = mastdock::compare(&statement, n, lent_leaves.get(), lent_bytes.get()).map(|found| found.map(clash));
+    let expected = compare(&statement, n, &leaves, &bytes);
+    if let Ok(found) = &expected {
+        see("compare: clash", found.is_some().into());
+    }
+    assert_eq!(numbered("compare", answer), expected);
+    lent_leaves.is_now(&leaves);
+    lent_bytes.is_now(&bytes);
+    1
+}
+
+/// A drawing of the library as the model's.
+fn drawing(answer: Result<Drawing, Rejected>) -> Drawn {
+    match answer {
+        Err(Rejected { refusal, opening }) => Drawn::Refused(refusal.number(), opening.into()),
+        Ok(Drawing::Chain(count)) => Drawn::Chain(count as u64),
+        Ok(Drawing::Clash(found)) => Drawn::Clash(clash(found)),
+    }
+}
+
+/// All numbers of an answer: those of its kind, and 0 for the others.
+fn all_numbers(drawn: &Drawn) -> ffi::Drawn {
+    let none = ffi::Drawn { kind: 0, code: 0, count: 0, i: 0, j: 0, level: 0, first: [0; 105], second: [0; 105] };
+    match drawn.clone() {
+        Drawn::Refused(refusal, opening) => ffi::Drawn { code: 256 * refusal + opening, ..none },
+        Drawn::Chain(count) => ffi::Drawn { kind: 1, count, ..none },
+        Drawn::Clash(Clash { i, j, level, first, second }) => {
+            let (first, second) = (first.try_into().unwrap(), second.try_into().unwrap());
+            ffi::Drawn { kind: 2, i, j, level, first, second, ..none }
+        }
+    }
+}
+
+pub fn drawings(random: &mut Random) -> u64 {
+    let labels = Labels::of(random.array(), random.between(1, 6));
+    let most = random.pick(&[1, 3, 10, 40, 200]);
+    let t = random.between(1, most);
+    let whole = proof_file(&labels, t);
+    let count = chain(labels.n, &leaves_opened(&whole)).len();
+    for change in 0..CHANGES {
+        let Wanted { bytes, statement, n, t } = changed(random, &labels, &whole, t, change);
+        let len = random.near(count);
+        let mut list = random.words(len);
+        let (mut lent_file, mut lent_list) = (Lent::bytes(random, &bytes), Lent::words(random, &list));
+        let mut again = list.clone();
+        let expected = draw(&bytes, &statement, n, t, &mut list);
+        assert_eq!(drawing(mastdock::draw(lent_file.get(), &statement, n, t, lent_list.get())), expected);
+        lent_file.is_now(&bytes);
+        lent_list.is_now(&list);
+        // SAFETY: pointers and lengths are those of a reference and slices; the list is borrowed alone.
+        let drawn = unsafe {
+            let (file, file_len, list_len) = (bytes.as_ptr(), bytes.len(), again.len());
+            ffi::mastdock_draw(file, file_len, &statement, n, t, again.as_mut_ptr(), list_len)
+        };
+        assert_eq!(drawn, all_numbers(&expected));
+        see("draw", drawn.code / 256);
+    }
+    2 * CHANGES
 }

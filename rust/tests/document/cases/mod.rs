@@ -4,6 +4,7 @@ mod file;
 mod hash;
 mod opening;
 mod run;
+mod writing;
 
 use crate::random::Random;
 pub use file::proof_file;
@@ -34,7 +35,12 @@ pub const PARTS: &[Part] = &[
     Part { name: "where openings lie", cases: 1500, run: file::places },
     Part { name: "one opening checked", cases: 4000, run: file::openings },
     Part { name: "file checked", cases: 4000, run: file::files },
+    Part { name: "writing: start", cases: 2000, run: writing::starts },
+    Part { name: "writing: whole files by budgets", cases: 300, run: writing::whole },
+    Part { name: "writing: any state", cases: 3000, run: writing::any_state },
     Part { name: "plan", cases: 6000, run: chain::plans },
+    Part { name: "openings compared", cases: 3000, run: chain::comparisons },
+    Part { name: "draw", cases: 500, run: chain::drawings },
 ];
 
 /// The numbers of each place of document 01's table, 0 for none. All of them are to be seen; only so many bytes that the digest in
@@ -51,7 +57,12 @@ const ROWS: &[(&str, &[u64])] = &[
     ("write head", &[0, 1, 8, 7]),
     ("check opening", &[0, 1, 6, 10, 13, 14, 15]),
     ("check file", &[0, 10, 11, 12, 1, 8, 13, 9, 14, 15]),
+    ("writing start", &[0, 1, 2, 3, 8, 7]),
+    ("writing advance", &[0, 4, 3, 7]),
     ("plan", &[0, 1, 8, 6, 16]),
+    ("compare", &[0, 1, 8, 6, 10, 13]),
+    ("compare: clash", &[0, 1]),
+    ("draw", &[0, 10, 11, 12, 1, 8, 13, 9, 14, 15, 16]),
 ];
 
 /// How often each place answered each number.

@@ -9,7 +9,7 @@ use crate::random::Random;
 use mastdock::{ffi, Opening};
 
 /// What stands beside a refused start.
-const NO_OPENING: Opening = Opening { statement: [0; 32], depth: 0, memory: 0, leaf: 0, made: 0, held: [0; 1312] };
+pub const NO_OPENING: Opening = Opening { statement: [0; 32], depth: 0, memory: 0, leaf: 0, made: 0, held: [0; 1312] };
 
 /// A leaf of a depth, or one beyond now and then.
 pub fn leaf_of(random: &mut Random, n: u64) -> u64 {

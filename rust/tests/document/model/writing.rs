@@ -4,16 +4,7 @@ use super::file::{file_size, head_size, leaf, write_head};
 use super::opening::{copy_stored, impossible, new, nodes_anew, opening_size, step_anew};
 use super::run::store_size;
 use super::{count_refused, depth_refused, memory_refused, row, Label};
-use mastdock::Opening;
-
-/// A file under writing: root, count, the number of the opening under way, from 1, and that opening.
-#[derive(Clone, Debug, PartialEq, Eq)]
-pub struct Writing {
-    pub root: Label,
-    pub count: u64,
-    pub number: u64,
-    pub opening: Opening,
-}
+use mastdock::Writing;
 
 /// Opening i's part of the file.
 fn part(n: u64, t: u64, i: u64, file: &mut [u8]) -> &mut [u8] {
@@ -29,9 +20,14 @@ fn begin(w: &mut Writing, store: &[u8], file: &mut [u8]) {
     follow(w, store, file);
 }
 
+/// The opening under way is done and is not the last.
+fn done_before_last(w: &Writing) -> bool {
+    w.opening.made == nodes_anew(w.opening.depth, w.opening.memory) && w.number < w.count
+}
+
 /// The next opening, if the one under way is done and is not the last.
 fn follow(w: &mut Writing, store: &[u8], file: &mut [u8]) {
-    if w.opening.made == nodes_anew(w.opening.depth, w.opening.memory) && w.number < w.count {
+    if done_before_last(w) {
         w.number += 1;
         begin(w, store, file);
     }
@@ -59,11 +55,12 @@ pub fn start(
     Ok(writing)
 }
 
-/// 4 'also for a count or an opening's number that cannot be'; then 3 and 7.
+/// 4 'also for a count or an opening's number that cannot be, and for an opening that is done and not the last'; then 3 and 7.
 pub fn advance(w: &mut Writing, budget: u64, store: &[u8], file: &mut [u8]) -> Result<u64, u64> {
     let (n, m) = (w.opening.depth, w.opening.memory);
     row(&[
-        (4, &|| impossible(&w.opening) || count_refused(w.count) || w.number < 1 || w.number > w.count),
+        (4, &|| impossible(&w.opening)),
+        (4, &|| count_refused(w.count) || w.number < 1 || w.number > w.count || done_before_last(w)),
         (3, &|| store.len() < store_size(m)),
         (7, &|| file.len() < file_size(n, w.count)),
     ])?;
@@ -71,7 +68,6 @@ pub fn advance(w: &mut Writing, budget: u64, store: &[u8], file: &mut [u8]) -> R
     let remaining = (w.count - w.number) * anew + (anew - w.opening.made);
     let labels = budget.min(remaining);
     for _ in 0..labels {
-        follow(w, store, file);
         step_anew(&mut w.opening, store, part(n, w.count, w.number, file));
         follow(w, store, file);
     }

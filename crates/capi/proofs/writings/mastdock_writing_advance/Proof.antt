@@ -1,0 +1,23 @@
+use mathlib.Core.Path.{ap, _∙_}
+use Rattle.refusal.specs.Number.{outcomeNumber}
+use borrow.Author.Needs.{needs}
+use Rattle.capi.proofs.writings.mastdock_writing_advance.Statement.{statement}
+use Rattle.capi.proofs.writings.mastdock_writing_advance.Tie as tie
+
+advance-requires : tie.Need-advance-requires
+advance-requires c κs = search needs
+
+outcome-number-requires : tie.Need-outcome-number-requires
+outcome-number-requires c κs = search needs
+
+same-length : tie.Need-same-length
+same-length c = search needs
+
+returns : tie.Need-returns
+returns c =
+    let e = c .before .before .before .before .advance .ensures in
+    (c .outcome-number .ensures ∙ ap outcomeNumber (e .0), e .1)
+
+pub mastdock-writing-advance-spec : {M : Type 1} → statement M
+mastdock-writing-advance-spec =
+    tie.close (tie.spec advance-requires outcome-number-requires same-length returns)
