@@ -1,44 +1,12 @@
 // Every leaf of small trees opened at every memory level and several budgets, and each refusal at its edge. The stored output
 // has the digests of an independent model's openings.
-ghost use mathlib.Core.Path.{_≡_};
-ghost use lib.ListN.{length};
+use carried::finished;
+use carried::hash;
+use carried::open_to_end;
 use opening::Opening;
 use refusal::outcome_number;
-use run::Run;
 use sha256::Hash;
-use sha256::digest;
-
-fn hash(bytes: &[u8]) -> [u8; 32] {
-    let d = digest(bytes);
-    d.digest
-}
-
-// The store of a finished run, of 4,064 bytes.
-fn finished(statement: [u8; 32], depth: u64, memory: u64) -> [u8; 4064] {
-    let mut store = [0u8; 4064];
-    let start = Run::start(statement, depth, memory, &store);
-    let run = start.run;
-    let _end = run.advance(1000, &mut store);
-    store
-}
-
-// Calls with one budget until no label is left; how many labels they report.
-fn carried(opening: Opening, budget: u64, store: &[u8], out: &mut [u8]) -> u64 {
-    let mut state = opening;
-    let mut labels: u64 = 0;
-    let mut turns: u64 = 1000;
-    while 0 < turns {
-        let step = state.advance(budget, store, out);
-        let next = step.opening;
-        state = next;
-        if step.labels == 0 {
-            return labels;
-        }
-        labels = (labels + step.labels % 1000) % 100000;
-        turns -= 1;
-    }
-    labels
-}
+use show::flag;
 
 // The hash state with one more opening, made over output bytes that held something else, with a byte behind it.
 fn one(
@@ -53,7 +21,7 @@ fn one(
     let mut out = [90u8; 1313];
     let start = Opening::start(statement, depth, memory, leaf, store, &mut out);
     let opening = start.opening;
-    let labels = carried(opening, budget, store, &mut out);
+    let labels = open_to_end(opening, budget, store, &mut out);
     let first = state.update(&out);
     let taken = first.hash;
     let count = base::big_endian(labels);
@@ -114,14 +82,6 @@ fn depth(n: u64, leaves: u64) {
             return;
         }
         memory += 1;
-    }
-}
-
-fn flag(same: bool) {
-    if same {
-        show::text(b" same");
-    } else {
-        show::text(b" changed");
     }
 }
 

@@ -1,50 +1,13 @@
-// Runs to their end at several budgets and memory levels, and each refusal at its edge. The stored output has the roots and
-// store digests of an independent model.
-ghost use mathlib.Core.Path.{_≡_};
-ghost use Prim.Native.Nat.{_≤_, min};
-use refusal::outcome_number;
+// Runs to their end at several budgets and memory levels. The stored output has the roots and store digests of the shared
+// vectors, and of an independent model.
+use carried::hash;
+use carried::run_to_end;
 use run::Run;
-use sha256::digest;
+use vectors::wide;
 
 // Room for memory level 14 and a byte more, which no run may touch.
 fn dirty_store() -> [u8; 1048545] {
     [90u8; 1048545]
-}
-
-fn flag(same: bool) {
-    if same {
-        show::text(b" same");
-    } else {
-        show::text(b" changed");
-    }
-}
-
-fn wide(x: u8) -> u64 {
-    x as u64
-}
-
-fn hash(bytes: &[u8]) -> [u8; 32] {
-    let d = digest(bytes);
-    d.digest
-}
-
-// Calls with one budget until all labels are made.
-fn carried(run: Run, all: u64, budget: u64, store: &mut [u8]) -> Run {
-    let mut left = all;
-    let mut state = run;
-    while 0 < left {
-        let step = state.advance(budget, store);
-        let next = step.run;
-        state = next;
-        if step.labels == 0 {
-            return state;
-        }
-        if left < step.labels {
-            return state;
-        }
-        left -= step.labels;
-    }
-    state
 }
 
 // The first bytes of the held labels, and the digest of all places.
@@ -54,10 +17,6 @@ fn first_bytes(held: &[u8], count: usize) {
     }
     show::text(b" held ");
     show::hex(&hash(held));
-}
-
-fn same_places(a: [u8; 1312], b: [u8; 1312]) -> bool {
-    check::same(&a, &b)
 }
 
 // The root, the digest of the held labels, of the store, and the byte behind the store.
@@ -80,7 +39,7 @@ fn to_end(statement: [u8; 32], depth: u64, memory: u64, budget: u64, size: usize
     show::number(budget);
     let start = Run::start(statement, depth, memory, &space[..size]);
     let run = start.run;
-    let end = carried(run, 131071, budget, &mut space);
+    let end = run_to_end(run, 131071, budget, &mut space);
     line(end, &space[..size]);
     show::text(b" behind ");
     show::number(wide(space[size]));
@@ -97,75 +56,6 @@ fn vector(report: &[u8], depth: u64, memory: u64, size: usize) {
     to_end(statement, depth, memory, 1000000, size);
     to_end(statement, depth, memory, 1000, size);
     to_end(statement, depth, memory, 1, size);
-}
-
-// Starting and continuing with these numbers and a store of this length: what is answered, and what is changed.
-fn edge(depth: u64, memory: u64, made: u64, store: &mut [u8]) {
-    show::text(b"n ");
-    show::number(depth);
-    show::text(b" m ");
-    show::number(memory);
-    show::text(b" made ");
-    show::number(made);
-    show::text(b" store ");
-    show::number(store.len() as u64);
-    let start = Run::start([7u8; 32], depth, memory, store);
-    let started = start.outcome;
-    show::text(b": start ");
-    show::number(outcome_number(started));
-    let before = hash(store);
-    let held = [9u8; 1312];
-    let run = Run {
-        statement: [7u8; 32],
-        depth,
-        memory,
-        made,
-        held,
-    };
-    let step = run.advance(1, store);
-    let outcome = step.outcome;
-    show::text(b" continue ");
-    show::number(outcome_number(outcome));
-    show::text(b" labels ");
-    show::number(step.labels);
-    let after = step.run;
-    let kept = after.held;
-    show::text(b" made ");
-    show::number(after.made);
-    flag(same_places(held, kept));
-    flag(check::same(&before, &hash(store)));
-    show::text(b"\n");
-}
-
-// The same with a store of this length.
-fn edge_at(depth: u64, memory: u64, made: u64, len: usize) {
-    if len <= 1048544 {
-        let mut space = dirty_store();
-        edge(depth, memory, made, &mut space[..len]);
-    }
-}
-
-fn edges() {
-    edge_at(0, 0, 0, 32);
-    edge_at(1, 0, 0, 32);
-    edge_at(40, 0, 0, 32);
-    edge_at(41, 0, 0, 32);
-    edge_at(18446744073709551615, 0, 0, 32);
-    edge_at(3, 3, 0, 480);
-    edge_at(3, 4, 0, 992);
-    edge_at(40, 20, 0, 32);
-    edge_at(40, 21, 0, 32);
-    edge_at(14, 14, 0, 1048544);
-    edge_at(14, 14, 0, 1048543);
-    edge_at(3, 1, 0, 96);
-    edge_at(3, 1, 0, 95);
-    edge_at(3, 1, 14, 96);
-    edge_at(3, 1, 15, 96);
-    edge_at(3, 1, 15, 95);
-    edge_at(3, 1, 16, 96);
-    edge_at(3, 1, 16, 95);
-    edge_at(3, 1, 18446744073709551615, 96);
-    edge_at(41, 42, 18446744073709551615, 0);
 }
 
 // The store's size at each memory level that there is room for.
@@ -247,5 +137,4 @@ fn main() {
     part_1();
     part_2();
     part_3();
-    edges();
 }

@@ -21,3 +21,18 @@ pub fn number(x: u64) {
 pub fn text(bytes: &[u8]) {
     io::write_all(STDOUT_FILENO, bytes);
 }
+
+// Writes a number with a blank before it.
+pub fn column(x: u64) {
+    text(b" ");
+    number(x);
+}
+
+// Writes whether two things are the same.
+pub fn flag(same: bool) {
+    if same {
+        text(b" same");
+    } else {
+        text(b" changed");
+    }
+}

@@ -29,11 +29,11 @@ slice-aggregate-start c = sym (length-take-le _ _ (omega arith))
 start-requires : tie.Need-start-requires
 start-requires c κs = search needs
 
-slice-aggregate-carried : tie.Need-slice-aggregate-carried
-slice-aggregate-carried c = search needs
+slice-aggregate-run-to-end : tie.Need-slice-aggregate-run-to-end
+slice-aggregate-run-to-end c = search needs
 
-carried-requires : tie.Need-carried-requires
-carried-requires c κs = search needs
+run-to-end-requires : tie.Need-run-to-end-requires
+run-to-end-requires c κs = search needs
 
 array-share-prefix-space-2 : tie.Need-array-share-prefix-space-2
 array-share-prefix-space-2 c = search needs
@@ -80,8 +80,8 @@ to-end-spec =
     array-share-prefix-space
     slice-aggregate-start
     start-requires
-    slice-aggregate-carried
-    carried-requires
+    slice-aggregate-run-to-end
+    run-to-end-requires
     array-share-prefix-space-2
     slice-aggregate-line
     line-requires

@@ -1,21 +1,27 @@
-use mathlib.Core.Path.{_≡_}
-use Prim.Native.Nat.{_<_}
+use Prim.Native.Nat.{_≤_, _<_, _-_}
 use lib.ListN.{length}
+use mathlib.Core.Path.{_≡_}
 use borrow.Author.Needs.{needs}
-use Rattle.opening_vectors.proofs.carried.Statement.{statement}
-use Rattle.opening_vectors.proofs.carried.Tie as tie
+use Rattle.file_vectors.proofs.write_on.Statement.{statement}
+use Rattle.file_vectors.proofs.write_on.Tie as tie
 
 abbrev Inv-loop : tie.InvT-loop
-Inv-loop budget store out₀ state₀ labels₀ turns₀ out state labels turns = (labels < 100000) × (length out ≡ length out₀)
+Inv-loop budget store file₀ state₀ labels₀ calls₀ file state labels calls = (calls ≤ 1000) × (labels < 1000000000) × (length file ≡ length file₀)
 
 abbrev μ-loop : tie.MeasureT-loop
-μ-loop budget store out₀ state₀ labels₀ turns₀ out state labels turns = turns
+μ-loop budget store file₀ state₀ labels₀ calls₀ file state labels calls = 1000 - calls
 
 loop-holds : tie.Need-loop-holds Inv-loop μ-loop
 loop-holds c = search needs
 
 advance-requires : tie.Need-advance-requires Inv-loop μ-loop
 advance-requires c κs = search needs
+
+column-requires : tie.Need-column-requires Inv-loop μ-loop
+column-requires c κs = search needs
+
+column-requires-2 : tie.Need-column-requires-2 Inv-loop μ-loop
+column-requires-2 c κs = search needs
 
 same-length : tie.Need-same-length Inv-loop μ-loop
 same-length c = search needs
@@ -26,8 +32,8 @@ returns c = search needs
 add-labels : tie.Need-add-labels Inv-loop μ-loop
 add-labels c = search needs
 
-sub-turns : tie.Need-sub-turns Inv-loop μ-loop
-sub-turns c = search needs
+add-calls : tie.Need-add-calls Inv-loop μ-loop
+add-calls c = search needs
 
 loop-less : tie.Need-loop-less Inv-loop μ-loop
 loop-less c = search needs
@@ -41,18 +47,20 @@ same-length-2 c = search needs
 returns-2 : tie.Need-returns-2 Inv-loop μ-loop
 returns-2 c = search needs
 
-pub carried-spec : {M : Type 1} → statement M
-carried-spec =
+pub write-on-spec : {M : Type 1} → statement M
+write-on-spec =
     tie.close
     (tie.spec
     Inv-loop
     μ-loop
     loop-holds
     advance-requires
+    column-requires
+    column-requires-2
     same-length
     returns
     add-labels
-    sub-turns
+    add-calls
     loop-less
     loop-again
     same-length-2

@@ -2,8 +2,8 @@ use mathlib.Core.Path.{sym}
 use native.Mathlib.Omega.{arith}
 use lib.Seq.{length-take-le}
 use borrow.Author.Needs.{needs}
-use Rattle.run_vectors.proofs.edge_at.Statement.{statement}
-use Rattle.run_vectors.proofs.edge_at.Tie as tie
+use Rattle.run_edge_vectors.proofs.edge_at.Statement.{statement}
+use Rattle.run_edge_vectors.proofs.edge_at.Tie as tie
 
 dirty-store-requires : tie.Need-dirty-store-requires
 dirty-store-requires c κs = search needs

@@ -1,8 +1,8 @@
 use mathlib.Core.Path.{_≡_}
 use lib.ListN.{length}
 use borrow.Author.Needs.{needs}
-use Rattle.run_vectors.proofs.carried.Statement.{statement}
-use Rattle.run_vectors.proofs.carried.Tie as tie
+use Rattle.carried.proofs.run_to_end.Statement.{statement}
+use Rattle.carried.proofs.run_to_end.Tie as tie
 
 abbrev Inv-loop : tie.InvT-loop
 Inv-loop all budget store₀ left₀ state₀ store left state = (length store ≡ length store₀)
@@ -40,8 +40,8 @@ same-length-3 c = search needs
 returns-3 : tie.Need-returns-3 Inv-loop μ-loop
 returns-3 c = search needs
 
-pub carried-spec : {M : Type 1} → statement M
-carried-spec =
+pub run-to-end-spec : {M : Type 1} → statement M
+run-to-end-spec =
     tie.close
     (tie.spec
     Inv-loop

@@ -1,0 +1,55 @@
+use Prim.Native.Nat.{_≤_, _-_}
+use lib.ListN.{length}
+use mathlib.Core.Path.{_≡_}
+use borrow.Author.Needs.{needs}
+use Rattle.filled.proofs.challenged.Statement.{statement}
+use Rattle.filled.proofs.challenged.Tie as tie
+
+abbrev Inv-loop : tie.InvT-loop
+Inv-loop depth statement root leaves₀ i₀ leaves i = (i ≤ 200) × (length leaves ≡ 200)
+
+abbrev μ-loop : tie.MeasureT-loop
+μ-loop depth statement root leaves₀ i₀ leaves i = 200 - i
+
+loop-holds : tie.Need-loop-holds Inv-loop μ-loop
+loop-holds c = search needs
+
+add-challenge : tie.Need-add-challenge Inv-loop μ-loop
+add-challenge c = search needs
+
+challenge-requires : tie.Need-challenge-requires Inv-loop μ-loop
+challenge-requires c κs = search needs
+
+mul-leaves : tie.Need-mul-leaves Inv-loop μ-loop
+mul-leaves c = search needs
+
+array-write-leaves : tie.Need-array-write-leaves Inv-loop μ-loop
+array-write-leaves c = search needs
+
+add-i : tie.Need-add-i Inv-loop μ-loop
+add-i c = search needs
+
+loop-less : tie.Need-loop-less Inv-loop μ-loop
+loop-less c = search needs
+
+loop-again : tie.Need-loop-again Inv-loop μ-loop
+loop-again c = search needs
+
+returns : tie.Need-returns Inv-loop μ-loop
+returns c = search needs
+
+pub challenged-spec : {M : Type 1} → statement M
+challenged-spec =
+    tie.close
+    (tie.spec
+    Inv-loop
+    μ-loop
+    loop-holds
+    add-challenge
+    challenge-requires
+    mul-leaves
+    array-write-leaves
+    add-i
+    loop-less
+    loop-again
+    returns)

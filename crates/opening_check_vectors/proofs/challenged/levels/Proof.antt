@@ -1,0 +1,45 @@
+use Prim.Native.Nat.{_≤_, _-_}
+use borrow.Author.Needs.{needs}
+use Rattle.opening_check_vectors.proofs.challenged.levels.Statement.{statement}
+use Rattle.opening_check_vectors.proofs.challenged.levels.Tie as tie
+
+abbrev Inv-loop : tie.InvT-loop
+Inv-loop statement depth count memory₀ memory = memory ≤ depth
+
+abbrev μ-loop : tie.MeasureT-loop
+μ-loop statement depth count memory₀ memory = depth - memory
+
+loop-holds : tie.Need-loop-holds Inv-loop μ-loop
+loop-holds c = search needs
+
+level-requires : tie.Need-level-requires Inv-loop μ-loop
+level-requires c κs = search needs
+
+returns : tie.Need-returns Inv-loop μ-loop
+returns c = search needs
+
+add-memory : tie.Need-add-memory Inv-loop μ-loop
+add-memory c = search needs
+
+loop-less : tie.Need-loop-less Inv-loop μ-loop
+loop-less c = search needs
+
+loop-again : tie.Need-loop-again Inv-loop μ-loop
+loop-again c = search needs
+
+returns-2 : tie.Need-returns-2 Inv-loop μ-loop
+returns-2 c = search needs
+
+pub levels-spec : {M : Type 1} → statement M
+levels-spec =
+    tie.close
+    (tie.spec
+    Inv-loop
+    μ-loop
+    loop-holds
+    level-requires
+    returns
+    add-memory
+    loop-less
+    loop-again
+    returns-2)
