@@ -21,3 +21,10 @@ written-zeros m part k at e h =
     rw e
     (ap (λ (l : List ℕ). l ++ part ++ drop (length m + length part) (m ++ zeros k)) (take-at m (zeros k) (length m) refl)
     ∙ ap (λ (l : List ℕ). m ++ part ++ l) (drop-append-add m (zeros k) (length part) ∙ drop-zeros k (length part) h))
+
+-- a part more behind len bytes, in a buffer of a given width
+pub filled-more : (width : ℕ) (b m part : List ℕ) (len : ℕ) → b ≡ m ++ zeros (width - len) → length m ≡ len → len + length part ≤ width
+    → written b len part ≡ (m ++ part) ++ zeros (width - (len + length part))
+filled-more width b m part len e n fits =
+    let k : width - len - length part ≡ width - (len + length part) = omega arith in
+    rw (e, ← k) (written-zeros m part (width - len) len (sym n) (omega arith))

@@ -1,5 +1,5 @@
 -- Laws of a challenge: its hash input laid out, and the first bits of the hash as a number.
-use mathlib.Core.Path.{_≡_, refl, sym, ap, _∙_}
+use mathlib.Core.Path.{_≡_, refl, ap, _∙_}
 use mathlib.Core.Bool.{true, false}
 use mathlib.Core.List.{List, [], _∷_, _++_, append-assoc, append-nil}
 use Prim.Native.Nat.{ℕ, zero, suc, _+_, _-_, _*_, _/_, _%_, _^_, _≤_, _<_}
@@ -13,7 +13,7 @@ use lib.Seq.{take-at, take-suc}
 use Rattle.base.specs.Limits.{maxHashed}
 use Rattle.base.specs.Bytes.{bigEndian, zeros, written}
 use Rattle.base.proofs.BytesLaws.{length-bigEndian}
-use Rattle.base.proofs.Zeros.{written-zeros}
+use Rattle.base.proofs.Zeros.{filled-more}
 use Rattle.refusal.specs.declared.Refusal.the-variants.{Depth, Count}
 use Rattle.refusal.specs.declared.Outcome.{Outcome}
 use Rattle.refusal.specs.declared.Outcome.the-variants.{Done, Refused}
@@ -24,12 +24,6 @@ use Rattle.sha256.specs.Portions.{newHash, digestAnswer}
 use Rattle.proof.specs.Challenge.{challengeWord, challengeInput, bigEndianValue, challengeLeaf, challengeRow, challenged}
 
 -- ---- the hash
--- a part more, behind len bytes of a buffer of 77
-laid-more : (b m part : List ℕ) (len : ℕ) → b ≡ m ++ zeros (77 - len) → length m ≡ len → len + length part ≤ 77
-    → written b len part ≡ (m ++ part) ++ zeros (77 - (len + length part))
-laid-more b m part len e n fits =
-    let k : 77 - len - length part ≡ 77 - (len + length part) = omega arith in
-    rw (e, ← k) (written-zeros m part (77 - len) len (sym n) (omega arith))
 
 last-four : (i : ℕ) → take 4 (drop 4 (bigEndian 8 i)) ≡ bigEndian 4 i
 unfolding bigEndian
@@ -39,14 +33,14 @@ module _ (statement root : List ℕ) (i : ℕ) (number b1 b2 b3 b4 : List ℕ) (
     (e1 : b1 ≡ written (zeros 77) 0 statement) (e2 : b2 ≡ written b1 32 challengeWord) (e3 : b3 ≡ written b2 41 root)
     (e4 : b4 ≡ written b3 73 (take 4 (drop 4 number))) where
   after-statement : b1 ≡ statement ++ zeros (77 - 32)
-  after-statement = e1 ∙ rw s at (laid-more (zeros 77) [] statement 0 refl refl (omega arith))
+  after-statement = e1 ∙ rw s at (filled-more 77 (zeros 77) [] statement 0 refl refl (omega arith))
 
   after-word : b2 ≡ (statement ++ challengeWord) ++ zeros (77 - 41)
-  after-word = e2 ∙ laid-more b1 statement challengeWord 32 after-statement s (omega arith)
+  after-word = e2 ∙ filled-more 77 b1 statement challengeWord 32 after-statement s (omega arith)
 
   after-root : b3 ≡ (statement ++ challengeWord ++ root) ++ zeros (77 - 73)
   after-root =
-      e3 ∙ rw r at (laid-more b2 (statement ++ challengeWord) root 41 after-word (rw (length-append, s)) (omega arith))
+      e3 ∙ rw r at (filled-more 77 b2 (statement ++ challengeWord) root 41 after-word (rw (length-append, s)) (omega arith))
 
   pub input-laid : b4 ≡ challengeInput statement root i
   unfolding challengeInput
@@ -55,7 +49,7 @@ module _ (statement root : List ℕ) (i : ℕ) (number b1 b2 b3 b4 : List ℕ) (
       let four : take 4 (drop 4 number) ≡ bigEndian 4 i = rw e (last-four i) in
       e4
       ∙ ap (λ (l : List ℕ). written b3 73 l) four
-      ∙ rw (length-bigEndian 4 i) at (laid-more b3 (statement ++ challengeWord ++ root) (bigEndian 4 i) 73 after-root n
+      ∙ rw (length-bigEndian 4 i) at (filled-more 77 b3 (statement ++ challengeWord ++ root) (bigEndian 4 i) 73 after-root n
       (rw (length-bigEndian 4 i) (omega arith)))
       ∙ append-nil (statement ++ challengeWord ++ root ++ bigEndian 4 i)
 
