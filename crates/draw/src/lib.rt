@@ -2,6 +2,8 @@
 mod leaves; // leaves.rt: the leaves opened
 mod whole; // whole.rt: the chain or the clash
 
+pub use leaves::challenge_leaves;
+pub use leaves::numbers_end;
 use refusal::Refusal;
 pub use whole::draw;
 

@@ -19,7 +19,7 @@ ghost use Rattle.planning.specs.Output.{places, maxOutput, answerText, p
 ghost use Rattle.planning.specs.Steps.{Wrote};
 
 // Lays out the head and the nodes of a plan.
-fn put_plan(depth: u64, leaves: &[u64], codes: &[u64], out: &mut [u8]) -> usize
+pub fn put_plan(depth: u64, leaves: &[u64], codes: &[u64], out: &mut [u8]) -> usize
     requires { ⌜ (planRow depth (now leaves) places ≡ Done) × ((now codes ≡ chainCodes depth (now leaves)) × (maxOutput ≤ length (now out))) ⌝ }
     ensures { λ r. ⌜ Wrote (now (out .entry)) 0 (answerText depth (now (leaves .entry)) Done) (now (out .exit)) r ⌝ }
 {

@@ -4,3 +4,9 @@ mod reading;
 mod texts;
 
 pub use answering::answer;
+pub use answering::put_plan;
+pub use reading::Numbers;
+pub use reading::is_readable;
+pub use reading::read_numbers;
+pub use texts::Spelled;
+pub use texts::spell;

@@ -8,9 +8,9 @@ ghost use Rattle.planning.specs.Output.{decimal, field, refusedText, hea
 ghost use Rattle.planning.specs.Steps.{Wrote};
 
 // The digits of a number, from a place on.
-struct Spelled {
-    text: [u8; 20],
-    start: usize,
+pub struct Spelled {
+    pub text: [u8; 20],
+    pub start: usize,
 }
 
 // A node by its level and position.
@@ -19,7 +19,7 @@ pub struct Spot {
     pub position: u64,
 }
 
-fn spell(x: u64) -> Spelled
+pub fn spell(x: u64) -> Spelled
     ensures { λ r. ⌜ (drop (r .start) (r .text) ≡ decimal x) × ((r .start < 20) × (length (r .text) ≡ 20)) ⌝ }
 {
     let mut text = [0u8; 20];

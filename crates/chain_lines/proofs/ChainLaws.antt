@@ -1,0 +1,91 @@
+-- What a drawing that gives a chain says of the file, the leaves and the list.
+use mathlib.Core.Path.{_≡_, refl, _∙_}
+use Prim.Native.Nat.{ℕ, _≤_, _<_}
+use native.Mathlib.Omega.{arith}
+use mathlib.Core.Bool.{Bool, true, false}
+use mathlib.Core.List.{List}
+use lib.Dec.{ltb}
+use lib.ListN.{length, getD, take, length-map}
+use borrow.Author.Tests.{ltb-false}
+use Rattle.base.specs.Choice.{pick}
+use Rattle.base.specs.Bytes.{written}
+use Rattle.base.proofs.WrittenLaws.{written-here}
+use Rattle.refusal.specs.declared.Refusal.{Refusal}
+use Rattle.refusal.specs.declared.Refusal.the-variants.{ShortList}
+use Rattle.refusal.specs.declared.Outcome.the-variants.{Done}
+use Rattle.refusal.specs.declared.Check.{Check}
+use Rattle.refusal.specs.declared.Check.the-variants.{Accepted, Rejected}
+use Rattle.proof.specs.FileCheck.{fileCheck}
+use Rattle.ways.specs.Ways.{chain, chainCodes, code}
+use Rattle.chain.specs.PlanRow.{planRow}
+use Rattle.chain.proofs.Rows.{list-check}
+use Rattle.compare.specs.declared.Pair.{Pair}
+use Rattle.compare.specs.declared.Pair.the-variants.{Agree, Disagree}
+use Rattle.draw.specs.declared.Drawing.{Drawing}
+use Rattle.draw.specs.declared.Drawing.the-variants.{NotDrawn, Chain, Clash}
+use Rattle.draw.specs.Drawing.{drawnIf, drawnFrom, leavesOf, pairOf, drawingOf, drawnList}
+use Rattle.draw.proofs.AcceptedFile.{leaves-done}
+
+not-refused : (r : Refusal) (i c : ℕ) → NotDrawn r i ≡ Chain c → ⊥
+not-refused r i c e = let z : _≡_ {A = ℕ} 0 1 = cc in omega arith
+
+not-clash : (i j l c : ℕ) → Clash i j l ≡ Chain c → ⊥
+not-clash i j l c e = let z : _≡_ {A = ℕ} 0 1 = cc in omega arith
+
+same-count : (c d : ℕ) → Chain c ≡ Chain d → c ≡ d
+same-count c d e = cc
+
+-- all file checks passed
+check-passed : (k : Check) (d : Drawing) (c : ℕ) → drawnIf k d ≡ Chain c → (k ≡ Accepted) × (d ≡ Chain c)
+check-passed Accepted d c e = (refl, e)
+check-passed (Rejected r i) d c e = absurd (not-refused r i c e)
+
+-- no pair disagrees, and the list is long enough
+pair-passed : (p : Pair) (count list c : ℕ) → drawnFrom p count list ≡ Chain c → (ltb list count ≡ false) × (count ≡ c)
+pair-passed (Disagree i j l) count list c e = absurd (not-clash i j l c e)
+pair-passed Agree count list c e = go (ltb list count) e
+  where
+    go : (t : Bool) → pick t (NotDrawn ShortList 0) (Chain count) ≡ Chain c → (t ≡ false) × (count ≡ c)
+    go true e = absurd (not-refused ShortList 0 c e)
+    go false e = (refl, same-count count c e)
+
+module _ (bytes statement : List ℕ) (n t list c : ℕ) (drawn : drawingOf bytes statement n t list ≡ Chain c) where
+  passed : (fileCheck bytes statement n t ≡ Accepted)
+      × (drawnFrom (pairOf bytes statement n t) (length (chain n (leavesOf bytes statement n t))) list ≡ Chain c)
+  unfolding drawingOf
+  passed =
+      check-passed (fileCheck bytes statement n t)
+      (drawnFrom (pairOf bytes statement n t) (length (chain n (leavesOf bytes statement n t))) list) c drawn
+
+  pub file-accepted : fileCheck bytes statement n t ≡ Accepted
+  file-accepted = passed .0
+
+  fitting : (ltb list (length (chain n (leavesOf bytes statement n t))) ≡ false) × (length (chain n (leavesOf bytes statement n t)) ≡ c)
+  fitting = pair-passed (pairOf bytes statement n t) (length (chain n (leavesOf bytes statement n t))) list c (passed .1)
+
+  pub plan-done : ((j : ℕ) → getD bytes j 0 < 256) → (leaves : List ℕ) → leaves ≡ leavesOf bytes statement n t → planRow n leaves list ≡ Done
+  plan-done small leaves e =
+      list-check n leaves (leaves-done bytes statement n t small file-accepted leaves e) list ∙ rw (e, fitting .0)
+
+  codes-length : length (chainCodes n (leavesOf bytes statement n t)) ≡ c
+  unfolding chainCodes
+  codes-length = length-map (chain n (leavesOf bytes statement n t)) code ∙ fitting .1
+
+-- the codes in the list
+module _ (bytes statement : List ℕ) (n t : ℕ) (list after : List ℕ) (c : ℕ)
+    (drawn : drawingOf bytes statement n t (length list) ≡ Chain c) (is : after ≡ drawnList bytes statement n t list) where
+  over : after ≡ written list 0 (chainCodes n (leavesOf bytes statement n t))
+  unfolding drawnList
+  over = is ∙ rw drawn
+
+  size : length (chainCodes n (leavesOf bytes statement n t)) ≡ c
+  size = codes-length bytes statement n t (length list) c drawn
+
+  pub codes-fit : c ≤ length list
+  codes-fit =
+      omega (arith, fitting bytes statement n t (length list) c drawn .1, ltb-false (length list) (length (chain n (leavesOf bytes statement n t))) (fitting bytes statement n t (length list) c drawn .0))
+
+  pub codes-drawn : take c after ≡ chainCodes n (leavesOf bytes statement n t)
+  codes-drawn =
+      rw over
+      (written-here list (chainCodes n (leavesOf bytes statement n t)) 0 (omega (arith, size, codes-fit)) c size)

@@ -1,0 +1,20 @@
+// Lines of text, built in a place of 8,192 bytes and written in one piece.
+mod adding; // adding.rt: a line under way
+mod texts; // texts.rt: the lines that the program prints
+
+pub use adding::add;
+pub use adding::add_hex;
+pub use adding::add_number;
+pub use adding::empty;
+pub use texts::accepted;
+pub use texts::clash;
+pub use texts::fact;
+pub use texts::fact_bytes;
+pub use texts::progress;
+pub use texts::rejected;
+
+// A line under way: the first `length` bytes of its text.
+pub struct Line {
+    pub text: [u8; 8192],
+    pub length: usize,
+}

@@ -1,0 +1,13 @@
+-- How many labels there are at most.
+use mathlib.Core.Path.{_≡_}
+use Prim.Native.Nat.{ℕ, _*_, _^_, _-_, _≤_}
+use native.Mathlib.Nat.{mul-le-mul}
+use native.Mathlib.Omega.{arith}
+use Rattle.run.proofs.StepLaws.{small-nodes}
+use Rattle.opening.specs.Rows.{nodesAnew}
+use Rattle.reached.proofs.Anew.{anew-count}
+
+pub small-anew : (n m t x : ℕ) → n ≤ 40 → t ≤ 200 → x ≡ nodesAnew n m → t * x ≤ 200 * 2 ^ 42
+small-anew n m t x h k e =
+    let few : x ≤ 2 ^ 42 = omega (arith, anew-count n m, small-nodes (n - m) (omega arith)) in
+    mul-le-mul k few

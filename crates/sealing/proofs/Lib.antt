@@ -1,0 +1,4 @@
+pub mod RunLaws
+pub mod FileLaws
+pub mod CountLaws
+pub mod EndLaws

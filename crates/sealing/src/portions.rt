@@ -1,0 +1,24 @@
+// How many labels a proof takes, and how many are made between two lines of progress.
+ghost use mathlib.Core.Path.{_≡_};
+ghost use Prim.Native.Nat.{_+_, _^_, _≤_, _<_};
+ghost use Rattle.tree.specs.Walk.{nodesIn};
+ghost use Rattle.filed.specs.Filed.{labelsAnew};
+
+// The labels of the tree, and those made anew for the openings.
+pub fn all_labels(depth: u64, memory: u64, challenges: u64) -> u64
+    requires { ⌜ (depth ≤ 40) × (memory ≤ depth) × (challenges ≤ 200) ⌝ }
+    ensures { λ r. ⌜ (r ≡ nodesIn depth + labelsAnew depth memory challenges) × (r < 2 ^ 50) ⌝ }
+{
+    run::nodes(depth) + challenges * opening::nodes_anew(depth, memory)
+}
+
+// A hundredth of all, and a quarter of a million at least.
+pub fn portion_of(all: u64) -> u64
+    ensures { λ r. ⌜ 1 ≤ r ⌝ }
+{
+    let hundredth = all / 100 + 1;
+    if hundredth < 262144 {
+        return 262144;
+    }
+    hundredth
+}

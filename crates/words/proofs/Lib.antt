@@ -1,0 +1,3 @@
+pub mod WordLaws
+pub mod ValueLaws
+pub mod OrderLaws

@@ -1,0 +1,28 @@
+-- `words::orders::check_wanted` meets its contract.
+use mathlib.Core.Path.{sym, _∙_}
+use Rattle.words.specs.Orders.{wantedRow}
+use borrow.Author.Needs.{needs}
+use Rattle.words.proofs.orders.check_wanted.Statement.{statement}
+use Rattle.words.proofs.orders.check_wanted.Tie as tie
+
+beyond-requires : tie.Need-beyond-requires
+beyond-requires c κs = search needs
+
+returns : tie.Need-returns
+unfolding wantedRow
+returns c = rw (sym (c .before .beyond .ensures) ∙ c .if1 .taken)
+
+beyond-requires-2 : tie.Need-beyond-requires-2
+beyond-requires-2 c κs = search needs
+
+returns-2 : tie.Need-returns-2
+unfolding wantedRow
+returns-2 c = rw (sym (c .before .before .before .beyond .ensures) ∙ c .before .before .if1 .left, sym (c .before .beyond2 .ensures) ∙ c .if2 .taken)
+
+returns-3 : tie.Need-returns-3
+unfolding wantedRow
+returns-3 c = rw (sym (c .before .before .before .beyond .ensures) ∙ c .before .before .if1 .left, sym (c .before .beyond2 .ensures) ∙ c .if2 .left)
+
+pub check-wanted-spec : {M : Type 1} → statement M
+check-wanted-spec =
+    tie.close (tie.spec beyond-requires returns beyond-requires-2 returns-2 returns-3)

@@ -1,0 +1,3 @@
+pub mod Parting
+pub mod Values
+pub mod Orders
