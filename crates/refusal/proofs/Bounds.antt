@@ -1,4 +1,4 @@
--- No refusal's number is above 17, so a check's answer as one number fits.
+-- Each refusal's number is from 1 to 17: it is not that of a call that was done, and a check's answer as one number fits.
 use Prim.Native.Nat.{_≤_}
 use lib.Dec.{lit≤}
 use Rattle.refusal.specs.Number.{numberOf}
@@ -23,3 +23,22 @@ number-le LeafLabel = lit≤ tt
 number-le Root = lit≤ tt
 number-le ShortList = lit≤ tt
 number-le Input = lit≤ tt
+
+pub number-some : (r : Refusal) → 1 ≤ numberOf r
+number-some Depth = lit≤ tt
+number-some MemoryLevel = lit≤ tt
+number-some ShortStore = lit≤ tt
+number-some State = lit≤ tt
+number-some TooManyBytes = lit≤ tt
+number-some LeafPosition = lit≤ tt
+number-some ShortOutput = lit≤ tt
+number-some Count = lit≤ tt
+number-some NotWanted = lit≤ tt
+number-some BytesEnd = lit≤ tt
+number-some NotShortest = lit≤ tt
+number-some Edition = lit≤ tt
+number-some BytesLeft = lit≤ tt
+number-some LeafLabel = lit≤ tt
+number-some Root = lit≤ tt
+number-some ShortList = lit≤ tt
+number-some Input = lit≤ tt

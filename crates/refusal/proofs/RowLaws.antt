@@ -1,24 +1,49 @@
--- A row that refuses nothing: no condition of it holds.
-use mathlib.Core.Path.{_≡_, refl}
+-- A row's number: 0 just where no condition of it holds, and a refusal's own number otherwise.
+use mathlib.Core.Path.{_≡_, refl, sym, _∙_}
 use mathlib.Core.Bool.{Bool, true, false}
 use mathlib.Core.List.{List, [], _∷_}
-use Rattle.base.specs.Choice.{pick}
+use Prim.Native.Nat.{ℕ, zero, suc, _≤_}
+use native.Mathlib.Omega.{arith}
+use lib.Dec.{leb}
+use borrow.Author.Tests.{leb-true}
+use Rattle.base.specs.Choice.{pick, both}
+use Rattle.base.proofs.ChoiceLaws.{both-first, both-second}
 use Rattle.refusal.specs.declared.Refusal.{Refusal}
 use Rattle.refusal.specs.declared.Outcome.{Outcome}
 use Rattle.refusal.specs.declared.Outcome.the-variants.{Done, Refused}
-use Rattle.refusal.specs.Row.{firstOf}
+use Rattle.refusal.specs.Number.{numberOf, outcomeNumber}
+use Rattle.refusal.specs.Row.{firstOf, isDone}
+use Rattle.refusal.proofs.Bounds.{number-some}
 
 -- no condition of a row holds
-abbrev pub NoneHolds : List (Bool × Refusal) → Type 0
+abbrev pub NoneHolds : List (Bool × ℕ) → Type 0
 NoneHolds [] = Unit
 NoneHolds (check ∷ row) = (check .0 ≡ false) × NoneHolds row
 
-passed : (t : Bool) (r : Refusal) (rest : Outcome) → pick t (Refused r) rest ≡ Done → (t ≡ false) × (rest ≡ Done)
-passed true r rest e = (cc, cc)
-passed false r rest e = (refl, e)
+-- no number of a row is 0, as a test
+abbrev pub numbered : List (Bool × ℕ) → Bool
+numbered [] = true
+numbered (check ∷ row) = both (leb 1 (check .1)) (numbered row)
 
-pub none-holds : (row : List (Bool × Refusal)) → firstOf row ≡ Done → NoneHolds row
-none-holds [] e = tt
-none-holds (check ∷ row) e =
-    let here : (check .0 ≡ false) × (firstOf row ≡ Done) = passed (check .0) (check .1) (firstOf row) e in
-    (here .0, none-holds row (here .1))
+-- a row's first condition does not hold where the answer is 0
+pub passed : (t : Bool) (number rest : ℕ) → 1 ≤ number → pick t number rest ≡ 0 → (t ≡ false) × (rest ≡ 0)
+passed true number rest some e = absurd (omega arith)
+passed false number rest some e = (refl, e)
+
+pub none-holds : (row : List (Bool × ℕ)) → numbered row ≡ true → firstOf row ≡ 0 → NoneHolds row
+none-holds [] n e = tt
+none-holds (check ∷ row) n e =
+    let some : 1 ≤ check .1 = leb-true 1 (check .1) (both-first (leb 1 (check .1)) (numbered row) n) in
+    let here : (check .0 ≡ false) × (firstOf row ≡ 0) = passed (check .0) (check .1) (firstOf row) some e in
+    (here .0, none-holds row (both-second (leb 1 (check .1)) (numbered row) n) (here .1))
+
+-- an outcome is told by its number
+pub is-done : (o : Outcome) (row : ℕ) → outcomeNumber o ≡ row → o ≡ Done → row ≡ 0
+is-done o row e d = rw d at (sym e)
+
+pub not-done : (r : Refusal) (row : ℕ) → numberOf r ≡ row → isDone row ≡ false
+not-done r zero e = absurd (omega (arith, number-some r))
+not-done r (suc row) e = refl
+
+pub is-refused : (o : Outcome) (row : ℕ) (r : Refusal) → outcomeNumber o ≡ row → o ≡ Refused r → isDone row ≡ false
+is-refused o row r e d = not-done r row (rw d at e)
