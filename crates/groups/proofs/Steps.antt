@@ -8,8 +8,10 @@ use native.Mathlib.Nat.{mul-le-mul-right, pow-le-pow-right}
 use native.Mathlib.Numerals.{add-one}
 use native.Mathlib.Omega.{arith}
 use borrow.Author.Tests.{lt-ltb, le-ltb, le-leb, lt-leb, ltb-true, ltb-false, ne-eqb}
-use lib.Dec.{ltb}
+use lib.Dec.{ltb, leb, eqb}
 use lib.ListN.{length, getD}
+use Rattle.base.specs.Choice.{pick, both}
+use Rattle.refusal.specs.Row.{either}
 use Rattle.groups.specs.Groups.{groups}
 use Rattle.groups.specs.Reading.{Answer, value, refused, ended, readFrom, readAt}
 
@@ -108,3 +110,34 @@ lt-or-le x bound = cases (ltb x bound) refl
 -- a group and the number of those after it, at any weight
 pub add-group : (q r weight : ℕ) → r * weight + q * (weight * 128) ≡ (q * 128 + r) * weight
 add-group q r weight = omega arith
+
+-- a number that is refused is refused with 10 or 11
+module _ (r : ℕ) where
+  is-number : (k : ℕ) → 1 ≤ k → refused k ≡ refused r → 1 ≤ r
+  is-number k some e = let same : k ≡ r = cc in omega arith
+
+  ended-number : (byte i x end : ℕ) → ended byte i x end ≡ refused r → 1 ≤ r
+  unfolding ended
+  ended-number byte i x end e = cases (either (both (eqb byte 0) (ltb 0 i)) (leb (2 ^ 64) x)) e
+    where
+      cases : (t : Bool) → pick t (refused 11) (value x end) ≡ refused r → 1 ≤ r
+      cases true f = is-number 11 (omega arith) f
+      cases false f = let no : _≡_ {A = ℕ} 0 1 = cc in absurd (omega arith)
+
+  either-number : (t u : Bool) (last next : Answer) → (last ≡ refused r → 1 ≤ r) → (next ≡ refused r → 1 ≤ r)
+      → pick t (refused 10) (pick u last next) ≡ refused r → 1 ≤ r
+  either-number true u last next a b f = is-number 10 (omega arith) f
+  either-number false true last next a b f = a f
+  either-number false false last next a b f = b f
+
+  from-number : (bytes : List ℕ) (left at i low : ℕ) → readFrom bytes at i low left ≡ refused r → 1 ≤ r
+  unfolding readFrom
+  from-number bytes zero at i low e = is-number 11 (omega arith) e
+  from-number bytes (suc left) at i low e =
+      let x : ℕ = low + getD bytes at 0 % 128 * 128 ^ i in
+      either-number (leb (length bytes) at) (ltb (getD bytes at 0) 128) (ended (getD bytes at 0) i x (at + 1))
+      (readFrom bytes (at + 1) (i + 1) x left) (ended-number (getD bytes at 0) i x (at + 1)) (from-number bytes left (at + 1) (i + 1) x) e
+
+pub read-number : (bytes : List ℕ) (at most r : ℕ) → readAt bytes at most ≡ refused r → 1 ≤ r
+unfolding readAt
+read-number bytes at most r e = from-number r bytes most at 0 0 e
