@@ -8,9 +8,7 @@ use borrow.Author.Tests.{ltb-false, leb-false}
 use lib.Dec.{ltb, leb}
 use lib.ListN.{length}
 use Rattle.base.specs.Limits.{maxDepth}
-use Rattle.refusal.specs.declared.Refusal.{Refusal}
-use Rattle.refusal.specs.declared.Outcome.the-variants.{Done, Refused}
-use Rattle.refusal.specs.Row.{outside, either}
+use Rattle.refusal.specs.Row.{outside, either, isDone}
 use Rattle.tree.specs.Walk.{nodesIn}
 use Rattle.tree.specs.Store.{storeSize}
 use Rattle.run.specs.Rows.{memoryOver, impossible}
@@ -45,26 +43,26 @@ can-be n m made leaf e =
     (possible n m leaf d o l, ltb-false (nodesAnew n m) made k)
 
 module _ (statement : List ℕ) (n m leaf : ℕ) (store out : List ℕ) where
-  pub start-done : openRow n m leaf (length store) (length out) ≡ Done
+  pub start-done : openRow n m leaf (length store) (length out) ≡ 0
       → (newOpening statement n m leaf ≡ started statement n m leaf (length store) (length out))
       × (copiedAll n m leaf store out ≡ startedOut n m leaf store out)
   unfolding started startedOut
   start-done e = (rw e, rw e)
 
-  pub start-refused : (r : Refusal) → openRow n m leaf (length store) (length out) ≡ Refused r
+  pub start-refused : isDone (openRow n m leaf (length store) (length out)) ≡ false
       → (noOpening ≡ started statement n m leaf (length store) (length out)) × (out ≡ startedOut n m leaf store out)
   unfolding started startedOut
-  start-refused r e = (rw e, rw e)
+  start-refused e = (rw e, rw e)
 
 module _ (o : Opening) (store out : List ℕ) (budget : ℕ) where
-  pub labels-done : reopenRow o (length store) (length out) ≡ Done
+  pub labels-done : reopenRow o (length store) (length out) ≡ 0
       → min budget (nodesAnew (o .depth) (o .memory) - o .made) ≡ labelsIn store (openOf o out) budget
   unfolding labelsIn
   labels-done e = rw e
 
-  pub labels-refused : (r : Refusal) → reopenRow o (length store) (length out) ≡ Refused r → 0 ≡ labelsIn store (openOf o out) budget
+  pub labels-refused : isDone (reopenRow o (length store) (length out)) ≡ false → 0 ≡ labelsIn store (openOf o out) budget
   unfolding labelsIn
-  labels-refused r e = rw e
+  labels-refused e = rw e
 
   pub advanced-by : (k : ℕ) (o′ : Opening) (out′ : List ℕ) → k ≡ labelsIn store (openOf o out) budget
       → o′ ≡ steps store k (openOf o out) .opening → out′ ≡ steps store k (openOf o out) .out

@@ -3,8 +3,6 @@ use Prim.Native.Nat.{ℕ, _+_, _-_, _*_, _^_}
 use mathlib.Core.List.{[], _∷_}
 use lib.Dec.{ltb, leb}
 use Rattle.base.specs.Limits.{maxDepth}
-use Rattle.refusal.specs.declared.Refusal.the-variants.{Depth, MemoryLevel, ShortStore, State, LeafPosition, ShortOutput}
-use Rattle.refusal.specs.declared.Outcome.{Outcome}
 use Rattle.refusal.specs.Row.{firstOf, outside, either}
 use Rattle.tree.specs.Store.{storeSize}
 use Rattle.run.specs.Rows.{memoryOver, impossible}
@@ -19,26 +17,26 @@ abbrev pub nodesAnew : ℕ → ℕ → ℕ
 nodesAnew n m = 2 ^ (n - m + 1) - 2
 
 -- 1, 2, 3; 6: position 2^n or more; 7: output short
-unfoldable pub openRow : ℕ → ℕ → ℕ → ℕ → ℕ → Outcome
+unfoldable pub openRow : ℕ → ℕ → ℕ → ℕ → ℕ → ℕ
 openRow n m leaf store out =
     firstOf
-    ((outside 1 maxDepth n, Depth)
-    ∷ (memoryOver n m, MemoryLevel)
-    ∷ (ltb store (storeSize m), ShortStore)
-    ∷ (leb (2 ^ n) leaf, LeafPosition)
-    ∷ (ltb out (openingSize n), ShortOutput)
+    ((outside 1 maxDepth n, 1)
+    ∷ (memoryOver n m, 2)
+    ∷ (ltb store (storeSize m), 3)
+    ∷ (leb (2 ^ n) leaf, 6)
+    ∷ (ltb out (openingSize n), 7)
     ∷ []
     )
 
 -- 4 (also a leaf of 2^n or more); 3; 7
-unfoldable pub reopenRow : Opening → ℕ → ℕ → Outcome
+unfoldable pub reopenRow : Opening → ℕ → ℕ → ℕ
 reopenRow o store out =
     firstOf
     ((
       either (impossible (o .depth) (o .memory) (o .made) (nodesAnew (o .depth) (o .memory))) (leb (2 ^ (o .depth)) (o .leaf)),
-      State,
+      4,
     )
-    ∷ (ltb store (storeSize (o .memory)), ShortStore)
-    ∷ (ltb out (openingSize (o .depth)), ShortOutput)
+    ∷ (ltb store (storeSize (o .memory)), 3)
+    ∷ (ltb out (openingSize (o .depth)), 7)
     ∷ []
     )

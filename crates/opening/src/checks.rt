@@ -3,6 +3,7 @@ ghost use mathlib.Core.Path.{_≡_};
 ghost use Prim.Native.Nat.{_^_, _≤_};
 ghost use lib.Dec.{ltb, leb};
 ghost use Rattle.refusal.specs.Row.{either};
+ghost use Rattle.refusal.specs.Number.{outcomeNumber};
 ghost use Rattle.run.specs.Rows.{impossible};
 ghost use Rattle.opening.specs.Rows.{openingSize, nodesAnew, openRow, reopenRow};
 use crate::Opening;
@@ -52,7 +53,7 @@ pub fn not_possible(depth: u64, memory: u64, made: u64, leaf: u64) -> bool
 }
 
 pub fn may_start(depth: u64, memory: u64, leaf: u64, store: usize, out: usize) -> Outcome
-    ensures { λ r. ⌜ r ≡ openRow depth memory leaf store out ⌝ }
+    ensures { λ r. ⌜ outcomeNumber r ≡ openRow depth memory leaf store out ⌝ }
 {
     if depth_outside(depth) {
         return Outcome::Refused(Refusal::Depth);
@@ -73,7 +74,7 @@ pub fn may_start(depth: u64, memory: u64, leaf: u64, store: usize, out: usize) -
 }
 
 pub fn may_continue(opening: Opening, store: usize, out: usize) -> Outcome
-    ensures { λ r. ⌜ r ≡ reopenRow opening store out ⌝ }
+    ensures { λ r. ⌜ outcomeNumber r ≡ reopenRow opening store out ⌝ }
 {
     if not_possible(opening.depth, opening.memory, opening.made, opening.leaf) {
         return Outcome::Refused(Refusal::State);

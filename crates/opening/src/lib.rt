@@ -6,6 +6,7 @@ mod places; // places.rt: labels put in their places
 
 ghost use mathlib.Core.Path.{_≡_};
 ghost use lib.ListN.{length};
+ghost use Rattle.refusal.specs.Number.{outcomeNumber};
 ghost use Rattle.opening.specs.Rows.{openRow, reopenRow};
 ghost use Rattle.opening.specs.Possible.{openOf};
 ghost use Rattle.opening.specs.Steps.{newOpening, started, startedOut, labelsIn, advanced};
@@ -66,7 +67,7 @@ impl Opening {
         store: &[u8],
         out: &mut [u8],
     ) -> Started
-        ensures { λ r. ⌜ r .outcome ≡ openRow depth memory leaf (length (now (store .entry))) (length (now (out .entry))) ⌝ }
+        ensures { λ r. ⌜ outcomeNumber (r .outcome) ≡ openRow depth memory leaf (length (now (store .entry))) (length (now (out .entry))) ⌝ }
         ensures { λ r. ⌜ r .opening ≡ started statement depth memory leaf (length (now (store .entry))) (length (now (out .entry))) ⌝ }
         ensures { λ r. ⌜ now (out .exit) ≡ startedOut depth memory leaf (now (store .entry)) (now (out .entry)) ⌝ }
     {
@@ -86,7 +87,7 @@ impl Opening {
 
     // Labels exactly the smaller of the budget and what remains, and puts each label of the opening in its place.
     pub fn advance(self, budget: u64, store: &[u8], out: &mut [u8]) -> Advanced
-        ensures { λ r. ⌜ r .outcome ≡ reopenRow self (length (now (store .entry))) (length (now (out .entry))) ⌝ }
+        ensures { λ r. ⌜ outcomeNumber (r .outcome) ≡ reopenRow self (length (now (store .entry))) (length (now (out .entry))) ⌝ }
         ensures { λ r. ⌜ r .labels ≡ labelsIn (now (store .entry)) (openOf self (now (out .entry))) budget ⌝ }
         ensures { λ r. ⌜ r .opening ≡ advanced (now (store .entry)) (openOf self (now (out .entry))) budget .opening ⌝ }
         ensures { λ r. ⌜ now (out .exit) ≡ advanced (now (store .entry)) (openOf self (now (out .entry))) budget .out ⌝ }

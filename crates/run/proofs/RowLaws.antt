@@ -5,16 +5,14 @@ use mathlib.Core.List.{List}
 use Prim.Native.Nat.{ℕ, _-_, _≤_, _<_, min}
 use native.Mathlib.Omega.{arith}
 use borrow.Author.Tests.{ltb-true, ltb-false, leb-true, leb-false, lt-ltb, le-ltb, le-leb, lt-leb, not-false}
-use lib.Dec.{ltb, leb}
+use lib.Dec.{ltb, leb, lit≤}
 use lib.ListN.{length}
-use Rattle.base.specs.Choice.{pick}
 use Rattle.base.specs.Limits.{maxDepth, maxMemory}
 use Rattle.base.proofs.ChoiceLaws.{both-first, both-second}
 use Rattle.refusal.specs.declared.Refusal.{Refusal}
-use Rattle.refusal.specs.declared.Refusal.the-variants.{State, ShortStore}
 use Rattle.refusal.specs.declared.Outcome.{Outcome}
-use Rattle.refusal.specs.declared.Outcome.the-variants.{Done, Refused}
-use Rattle.refusal.specs.Row.{outside, either}
+use Rattle.refusal.specs.Row.{outside, either, isDone}
+use Rattle.refusal.proofs.RowLaws.{passed}
 use Rattle.tree.specs.Walk.{nodesIn}
 use Rattle.tree.specs.Store.{storeSize}
 use Rattle.run.specs.declared.Run.{Run}
@@ -75,40 +73,35 @@ possible n m made e =
     let (o, l) = neither (memoryOver n m) (ltb (nodesIn n) made) f in
     record { depth = depth-inside n d; memory = memory-inside n m o; made-few = ltb-false (nodesIn n) made l }
 
--- a row's first condition does not hold where the answer is Done
-pub passed : (t : Bool) (r : Refusal) (o : Outcome) → pick t (Refused r) o ≡ Done → (t ≡ false) × (o ≡ Done)
-passed true r o e = (cc, cc)
-passed false r o e = (refl, e)
-
 pub record Whole (run : Run) (store : ℕ) : Type 0 where
   pub possible : Possible (run .depth) (run .memory) (run .made)
   pub room : storeSize (run .memory) ≤ store
 
-pub may-go-on : (run : Run) (store : ℕ) → continueRow run store ≡ Done → Whole run store
+pub may-go-on : (run : Run) (store : ℕ) → continueRow run store ≡ 0 → Whole run store
 unfolding continueRow
 may-go-on run store e =
-    let (a, f) = passed (impossible (run .depth) (run .memory) (run .made) (nodesIn (run .depth))) State _ e in
-    let (b, g) = passed (ltb store (storeSize (run .memory))) ShortStore Done f in
+    let (a, f) = passed (impossible (run .depth) (run .memory) (run .made) (nodesIn (run .depth))) 4 _ (lit≤ tt) e in
+    let (b, g) = passed (ltb store (storeSize (run .memory))) 3 0 (lit≤ tt) f in
     record { possible = possible (run .depth) (run .memory) (run .made) a; room = ltb-false store (storeSize (run .memory)) b }
 
 -- what a start and a call give, by their answers
 module _ (statement : List ℕ) (n m store : ℕ) where
-  pub start-done : startRow n m store ≡ Done → newRun statement n m ≡ started statement n m store
+  pub start-done : startRow n m store ≡ 0 → newRun statement n m ≡ started statement n m store
   unfolding started
   start-done e = rw e
 
-  pub start-refused : (r : Refusal) → startRow n m store ≡ Refused r → noRun ≡ started statement n m store
+  pub start-refused : isDone (startRow n m store) ≡ false → noRun ≡ started statement n m store
   unfolding started
-  start-refused r e = rw e
+  start-refused e = rw e
 
 module _ (run : Run) (store : List ℕ) (budget : ℕ) where
-  pub labels-done : continueRow run (length store) ≡ Done → min budget (nodesIn (run .depth) - run .made) ≡ labelsIn (stamped run store) budget
+  pub labels-done : continueRow run (length store) ≡ 0 → min budget (nodesIn (run .depth) - run .made) ≡ labelsIn (stamped run store) budget
   unfolding labelsIn
   labels-done e = rw e
 
-  pub labels-refused : (r : Refusal) → continueRow run (length store) ≡ Refused r → 0 ≡ labelsIn (stamped run store) budget
+  pub labels-refused : isDone (continueRow run (length store)) ≡ false → 0 ≡ labelsIn (stamped run store) budget
   unfolding labelsIn
-  labels-refused r e = rw e
+  labels-refused e = rw e
 
   pub advanced-by : (k : ℕ) (run' : Run) (store' : List ℕ) → k ≡ labelsIn (stamped run store) budget
       → run' ≡ steps k (stamped run store) .run → store' ≡ steps k (stamped run store) .store

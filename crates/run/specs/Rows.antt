@@ -4,8 +4,6 @@ use mathlib.Core.Bool.{Bool}
 use mathlib.Core.List.{[], _∷_}
 use lib.Dec.{ltb}
 use Rattle.base.specs.Limits.{maxDepth, maxMemory}
-use Rattle.refusal.specs.declared.Refusal.the-variants.{Depth, MemoryLevel, ShortStore, State}
-use Rattle.refusal.specs.declared.Outcome.{Outcome}
 use Rattle.refusal.specs.Row.{firstOf, outside, either}
 use Rattle.tree.specs.Walk.{nodesIn}
 use Rattle.tree.specs.Store.{storeSize}
@@ -16,19 +14,19 @@ abbrev pub memoryOver : ℕ → ℕ → Bool
 memoryOver n m = ltb (min n maxMemory) m
 
 -- 1: n not 1..40; 2: m over min(n, 20); 3: store short
-unfoldable pub startRow : ℕ → ℕ → ℕ → Outcome
+unfoldable pub startRow : ℕ → ℕ → ℕ → ℕ
 startRow n m store =
-    firstOf ((outside 1 maxDepth n, Depth) ∷ (memoryOver n m, MemoryLevel) ∷ (ltb store (storeSize m), ShortStore) ∷ [])
+    firstOf ((outside 1 maxDepth n, 1) ∷ (memoryOver n m, 2) ∷ (ltb store (storeSize m), 3) ∷ [])
 
 -- n not 1..40, m over min(n, 20), or more labels made than there are to make
 abbrev pub impossible : ℕ → ℕ → ℕ → ℕ → Bool
 impossible n m made total = either (outside 1 maxDepth n) (either (memoryOver n m) (ltb total made))
 
 -- 4; 3
-unfoldable pub continueRow : Run → ℕ → Outcome
+unfoldable pub continueRow : Run → ℕ → ℕ
 continueRow run store =
     firstOf
-    ((impossible (run .depth) (run .memory) (run .made) (nodesIn (run .depth)), State)
-    ∷ (ltb store (storeSize (run .memory)), ShortStore)
+    ((impossible (run .depth) (run .memory) (run .made) (nodesIn (run .depth)), 4)
+    ∷ (ltb store (storeSize (run .memory)), 3)
     ∷ []
     )

@@ -3,6 +3,7 @@ ghost use mathlib.Core.Path.{_≡_};
 ghost use Prim.Native.Nat.{_≤_};
 ghost use lib.Dec.{ltb};
 ghost use Rattle.base.specs.Limits.{maxDepth};
+ghost use Rattle.refusal.specs.Number.{outcomeNumber};
 ghost use Rattle.refusal.specs.Row.{outside};
 ghost use Rattle.tree.specs.Walk.{nodesIn};
 ghost use Rattle.tree.specs.Store.{storeSize};
@@ -59,7 +60,7 @@ fn not_possible(depth: u64, memory: u64, made: u64) -> bool
 }
 
 pub fn may_start(depth: u64, memory: u64, store: usize) -> Outcome
-    ensures { λ r. ⌜ r ≡ startRow depth memory store ⌝ }
+    ensures { λ r. ⌜ outcomeNumber r ≡ startRow depth memory store ⌝ }
 {
     if depth_outside(depth) {
         return Outcome::Refused(Refusal::Depth);
@@ -74,7 +75,7 @@ pub fn may_start(depth: u64, memory: u64, store: usize) -> Outcome
 }
 
 pub fn may_continue(run: Run, store: usize) -> Outcome
-    ensures { λ r. ⌜ r ≡ continueRow run store ⌝ }
+    ensures { λ r. ⌜ outcomeNumber r ≡ continueRow run store ⌝ }
 {
     if not_possible(run.depth, run.memory, run.made) {
         return Outcome::Refused(Refusal::State);

@@ -4,6 +4,7 @@ mod labels; // labels.rt: one step, and several
 
 ghost use mathlib.Core.Path.{_≡_};
 ghost use lib.ListN.{length};
+ghost use Rattle.refusal.specs.Number.{outcomeNumber};
 ghost use Rattle.run.specs.Rows.{startRow, continueRow};
 ghost use Prim.Native.Nat.{min};
 ghost use Rattle.run.specs.Steps.{newRun, started, stamped, labelsIn, advanced};
@@ -61,7 +62,7 @@ fn new_run(statement: [u8; 32], depth: u64, memory: u64) -> Run
 impl Run {
     // A new run, for a store of this length, which it neither reads nor writes.
     pub fn start(statement: [u8; 32], depth: u64, memory: u64, store: &[u8]) -> Started
-        ensures { λ r. ⌜ r .outcome ≡ startRow depth memory (length (now (store .entry))) ⌝ }
+        ensures { λ r. ⌜ outcomeNumber (r .outcome) ≡ startRow depth memory (length (now (store .entry))) ⌝ }
         ensures { λ r. ⌜ r .run ≡ started statement depth memory (length (now (store .entry))) ⌝ }
     {
         let outcome = may_start(depth, memory, store.len());
@@ -79,7 +80,7 @@ impl Run {
 
     // Labels exactly the smaller of the budget and what remains.
     pub fn advance(self, budget: u64, store: &mut [u8]) -> Advanced
-        ensures { λ r. ⌜ r .outcome ≡ continueRow self (length (now (store .entry))) ⌝ }
+        ensures { λ r. ⌜ outcomeNumber (r .outcome) ≡ continueRow self (length (now (store .entry))) ⌝ }
         ensures { λ r. ⌜ r .labels ≡ labelsIn (stamped self (now (store .entry))) budget ⌝ }
         ensures { λ r. ⌜ r .run ≡ advanced (stamped self (now (store .entry))) budget .run ⌝ }
         ensures { λ r. ⌜ now (store .exit) ≡ advanced (stamped self (now (store .entry))) budget .store ⌝ }
@@ -105,7 +106,7 @@ impl Run {
 
     // One label.
     pub fn step(self, store: &mut [u8]) -> Advanced
-        ensures { λ r. ⌜ r .outcome ≡ continueRow self (length (now (store .entry))) ⌝ }
+        ensures { λ r. ⌜ outcomeNumber (r .outcome) ≡ continueRow self (length (now (store .entry))) ⌝ }
         ensures { λ r. ⌜ r .labels ≡ labelsIn (stamped self (now (store .entry))) 1 ⌝ }
         ensures { λ r. ⌜ r .run ≡ advanced (stamped self (now (store .entry))) 1 .run ⌝ }
         ensures { λ r. ⌜ now (store .exit) ≡ advanced (stamped self (now (store .entry))) 1 .store ⌝ }

@@ -5,18 +5,17 @@ use mathlib.Core.List.{List, [], _∷_, _++_, flatten, append-nil}
 use native.Mathlib.Omega.{arith}
 use borrow.Author.Tests.{lt-leb}
 use lib.ListN.{length, length-append}
-use Rattle.refusal.specs.declared.Outcome.the-variants.{Done}
 use Rattle.sha256.specs.declared.Hash.{Hash}
 use Rattle.sha256.specs.Digest.{digest}
 use Rattle.base.specs.Limits.{maxHashed}
-use Rattle.sha256.specs.Portions.{newHash, pushedAll, updateOutcome, updateState, updatedAll, AllDone, finishOutcome, finishDigest}
+use Rattle.sha256.specs.Portions.{newHash, pushedAll, updateRow, updateState, updatedAll, AllDone, finishRow, finishDigest}
 use Rattle.sha256.proofs.Pushing.{pushedAll-append, pushedAll-taken}
 use Rattle.sha256.proofs.Digests.{digest-pushed}
 
 -- ---- a portion that is not too long
 
-pub outcome-done : (s : Hash) (part : List ℕ) → s .taken + length part ≤ maxHashed → updateOutcome s part ≡ Done
-unfolding updateOutcome
+pub outcome-done : (s : Hash) (part : List ℕ) → s .taken + length part ≤ maxHashed → updateRow s part ≡ 0
+unfolding updateRow
 outcome-done s part h = rw (lt-leb (maxHashed + 1) (s .taken + length part) (omega arith))
 
 pub state-done : (s : Hash) (part : List ℕ) → s .taken + length part ≤ maxHashed → updateState s part ≡ pushedAll s part
@@ -49,8 +48,8 @@ portions-state s (part ∷ parts) h =
 
 -- ---- the end
 
-pub finish-done : (s : Hash) → s .taken ≤ maxHashed → finishOutcome s ≡ Done
-unfolding finishOutcome
+pub finish-done : (s : Hash) → s .taken ≤ maxHashed → finishRow s ≡ 0
+unfolding finishRow
 finish-done s h = rw (lt-leb (maxHashed + 1) (s .taken + 0) (omega arith))
 
 pub finish-digest : (m : List ℕ) → length m ≤ maxHashed → finishDigest (pushedAll newHash m) ≡ digest m
@@ -62,7 +61,7 @@ finish-digest m h =
 
 pub record InPortions (parts : List (List ℕ)) : Type 0 where
   pub taken : AllDone newHash parts
-  pub done : finishOutcome (updatedAll newHash parts) ≡ Done
+  pub done : finishRow (updatedAll newHash parts) ≡ 0
   pub same : finishDigest (updatedAll newHash parts) ≡ digest (flatten parts)
 
 pub in-portions : (parts : List (List ℕ)) → length (flatten parts) ≤ maxHashed → InPortions parts

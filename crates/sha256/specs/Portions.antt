@@ -8,9 +8,7 @@ use lib.Dec.{leb, eqb}
 use Rattle.base.specs.Choice.{pick}
 use Rattle.base.specs.Bytes.{zeros}
 use Rattle.base.specs.Limits.{maxHashed}
-use Rattle.refusal.specs.declared.Refusal.the-variants.{TooManyBytes}
-use Rattle.refusal.specs.declared.Outcome.{Outcome}
-use Rattle.refusal.specs.declared.Outcome.the-variants.{Done, Refused}
+use Rattle.refusal.specs.Row.{firstOf}
 use Rattle.sha256.specs.declared.Words.{Words}
 use Rattle.sha256.specs.declared.Hash.{Hash}
 use Rattle.sha256.specs.Constants.{initial}
@@ -42,9 +40,9 @@ pushedAll s (byte ∷ bytes) = pushedAll (pushed s byte) bytes
 abbrev pub tooMany : Hash → ℕ → Bool
 tooMany s more = leb (maxHashed + 1) (s .taken + more)
 
--- row 'Hashing', a portion: its outcome, and the state afterwards
-unfoldable pub updateOutcome : Hash → List ℕ → Outcome
-updateOutcome s part = pick (tooMany s (length part)) (Refused TooManyBytes) Done
+-- row 'Hashing', a portion: its number, and the state afterwards
+unfoldable pub updateRow : Hash → List ℕ → ℕ
+updateRow s part = firstOf ((tooMany s (length part), 5) ∷ [])
 
 unfoldable pub updateState : Hash → List ℕ → Hash
 updateState s part = pick (tooMany s (length part)) s (pushedAll s part)
@@ -56,18 +54,18 @@ updatedAll s (part ∷ parts) = updatedAll (updateState s part) parts
 
 unfoldable pub AllDone : Hash → List (List ℕ) → Type 0
 AllDone s [] = Unit
-AllDone s (part ∷ parts) = (updateOutcome s part ≡ Done) × AllDone (updateState s part) parts
+AllDone s (part ∷ parts) = (updateRow s part ≡ 0) × AllDone (updateState s part) parts
 
--- row 'Hashing', the end: its outcome, and the digest, 32 zero bytes where it is refused
-unfoldable pub finishOutcome : Hash → Outcome
-finishOutcome s = pick (tooMany s 0) (Refused TooManyBytes) Done
+-- row 'Hashing', the end: its number, and the digest, 32 zero bytes where it is refused
+unfoldable pub finishRow : Hash → ℕ
+finishRow s = firstOf ((tooMany s 0, 5) ∷ [])
 
 unfoldable pub finishDigest : Hash → List ℕ
 finishDigest s = pick (tooMany s 0) (zeros 32) (digestOf (pushedAll s (padding (s .taken)) .words))
 
--- one call for a whole message: its outcome, and the digest, 32 zero bytes where it is refused
-unfoldable pub digestOutcome : List ℕ → Outcome
-digestOutcome message = pick (tooMany newHash (length message)) (Refused TooManyBytes) Done
+-- one call for a whole message: its number, and the digest, 32 zero bytes where it is refused
+unfoldable pub digestRow : List ℕ → ℕ
+digestRow message = firstOf ((tooMany newHash (length message), 5) ∷ [])
 
 unfoldable pub digestAnswer : List ℕ → List ℕ
 digestAnswer message = pick (tooMany newHash (length message)) (zeros 32) (digest message)

@@ -14,7 +14,8 @@ ghost use Rattle.sha256.specs.Constants.{initial};
 ghost use Rattle.sha256.specs.Padding.{blocks};
 ghost use Rattle.sha256.specs.Digest.{hashAfter, digestOf};
 ghost use Rattle.base.specs.Limits.{maxHashed};
-ghost use Rattle.sha256.specs.Portions.{newHash, updateOutcome, updateState, finishOutcome, finishDigest, digestOutcome, digestAnswer};
+ghost use Rattle.refusal.specs.Number.{outcomeNumber};
+ghost use Rattle.sha256.specs.Portions.{newHash, updateRow, updateState, finishRow, finishDigest, digestRow, digestAnswer};
 use absorb::absorb;
 use encode::digest_bytes;
 use push::aligned;
@@ -107,7 +108,7 @@ impl Hash {
 
     // Takes a portion of the message, of any length.
     pub fn update(self, part: &[u8]) -> Updated
-        ensures { λ r. ⌜ (r .outcome ≡ updateOutcome self (now (part .entry))) × (r .hash ≡ updateState self (now (part .entry))) ⌝ }
+        ensures { λ r. ⌜ (outcomeNumber (r .outcome) ≡ updateRow self (now (part .entry))) × (r .hash ≡ updateState self (now (part .entry))) ⌝ }
     {
         if too_many(self.taken, part.len()) {
             return Updated {
@@ -124,7 +125,7 @@ impl Hash {
 
     // The digest of all that was taken.
     pub fn finish(self) -> Finished
-        ensures { λ r. ⌜ (r .outcome ≡ finishOutcome self) × ((r .digest ≡ finishDigest self) × (r .hash ≡ self)) ⌝ }
+        ensures { λ r. ⌜ (outcomeNumber (r .outcome) ≡ finishRow self) × ((r .digest ≡ finishDigest self) × (r .hash ≡ self)) ⌝ }
     {
         if too_many(self.taken, 0) {
             let digest = [0u8; 32];
@@ -145,7 +146,7 @@ impl Hash {
 
 // The digest of a whole message.
 pub fn digest(message: &[u8]) -> Digested
-    ensures { λ r. ⌜ (r .outcome ≡ digestOutcome (now (message .entry))) × (r .digest ≡ digestAnswer (now (message .entry))) ⌝ }
+    ensures { λ r. ⌜ (outcomeNumber (r .outcome) ≡ digestRow (now (message .entry))) × (r .digest ≡ digestAnswer (now (message .entry))) ⌝ }
 {
     if too_many(0, message.len()) {
         let digest = [0u8; 32];

@@ -8,7 +8,7 @@ use Rattle.sha256.specs.declared.Hash.{Hash}
 use Rattle.sha256.specs.Padding.{padding}
 use Rattle.sha256.specs.Digest.{digestOf}
 use Rattle.base.specs.Limits.{maxHashed}
-use Rattle.sha256.specs.Portions.{newHash, pushedAll, digestOutcome, digestAnswer}
+use Rattle.sha256.specs.Portions.{newHash, pushedAll, digestRow, digestAnswer}
 use Rattle.sha256.proofs.Pushing.{pushedAll-taken}
 use Rattle.sha256.proofs.Digests.{digest-pushed}
 use borrow.Author.Needs.{needs}
@@ -19,7 +19,7 @@ too-many-requires : tie.Need-too-many-requires
 too-many-requires c κs = search needs
 
 returns : tie.Need-returns
-unfolding digestOutcome digestAnswer
+unfolding digestRow digestAnswer
 returns c = rw (sym (c .before .too-many .ensures) ∙ c .if1 .taken) (refl, refl)
 
 aligned-requires : tie.Need-aligned-requires
@@ -35,7 +35,7 @@ closed-requires c κs =
     )
 
 returns-2 : tie.Need-returns-2
-unfolding digestOutcome digestAnswer
+unfolding digestRow digestAnswer
 returns-2 c =
     rw (sym (c .before .before .before .too-many .ensures) ∙ c .before .before .if1 .left) (
       refl,

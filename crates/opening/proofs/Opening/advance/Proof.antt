@@ -1,39 +1,36 @@
 -- `opening::Opening::advance` meets its contract, by the answer: an opening that may be continued has room for its labels.
-use mathlib.Core.Path.{_≡_, sym, ap, _∙_}
+use mathlib.Core.Path.{_≡_, ap, _∙_}
 use Prim.Native.Nat.{ℕ, _^_, _-_, _≤_, min}
 use native.Mathlib.Omega.{arith}
 use borrow.Author.Tests.{ltb-false}
 use borrow.Author.Needs.{needs}
-use lib.Dec.{ltb, leb}
+use lib.Dec.{ltb, leb, lit≤}
 use lib.ListN.{length}
-use Rattle.refusal.specs.declared.Refusal.the-variants.{ShortStore, State, ShortOutput}
 use Rattle.refusal.specs.Row.{either}
-use Rattle.refusal.specs.declared.Outcome.{Outcome}
-use Rattle.refusal.specs.declared.Outcome.the-variants.{Done}
 use Rattle.tree.specs.Store.{storeSize}
 use Rattle.run.specs.Rows.{impossible}
-use Rattle.run.proofs.RowLaws.{passed}
+use Rattle.refusal.proofs.RowLaws.{passed, is-done, is-refused}
 use Rattle.opening.specs.Rows.{openingSize, nodesAnew, reopenRow}
 use Rattle.opening.specs.declared.Opening.{Opening}
 use Rattle.opening.proofs.RowLaws.{Ready, can-be, labels-done, labels-refused, advanced-by, unchanged}
 use Rattle.opening.proofs.Opening.advance.Statement.{statement}
 use Rattle.opening.proofs.Opening.advance.Tie as tie
 
--- what a Done row tells
-continue-ready : (o : Opening) (store out : ℕ) → reopenRow o store out ≡ Done
+-- what a row of 0 tells
+continue-ready : (o : Opening) (store out : ℕ) → reopenRow o store out ≡ 0
     → Ready (o .depth) (o .memory) (o .leaf) store out × (o .made ≤ nodesAnew (o .depth) (o .memory))
 unfolding reopenRow
 continue-ready o store out e =
     let n = o .depth in
     let m = o .memory in
-    let (i, e₁) = passed (either (impossible n m (o .made) (nodesAnew n m)) (leb (2 ^ n) (o .leaf))) State _ e in
-    let (s, e₂) = passed (ltb store (storeSize m)) ShortStore _ e₁ in
-    let (p, e₃) = passed (ltb out (openingSize n)) ShortOutput Done e₂ in
+    let (i, e₁) = passed (either (impossible n m (o .made) (nodesAnew n m)) (leb (2 ^ n) (o .leaf))) 4 _ (lit≤ tt) e in
+    let (s, e₂) = passed (ltb store (storeSize m)) 3 _ (lit≤ tt) e₁ in
+    let (p, e₃) = passed (ltb out (openingSize n)) 7 0 (lit≤ tt) e₂ in
     let (q, k) = can-be n m (o .made) (o .leaf) i in
     (record { possible = q; room = ltb-false store (storeSize m) s; outRoom = ltb-false out (openingSize n) p }, k)
 
--- the row's answer, and what is known if it is Done
-abbrev row : tie.Start → Outcome
+-- the row's answer, and what is known if it is 0
+abbrev row : tie.Start → ℕ
 row s = reopenRow (s .args .self) (length (s .args .store .now)) (length (s .args .out .now))
 
 abbrev CanGoOn : tie.Start → Type 0
@@ -48,8 +45,8 @@ enum-told : tie.Need-enum-told
 enum-told c = search needs
 
 -- the opening may be continued
-done : (c : tie.After-enum-told) → row (c .before .before .before .before .before) ≡ Done
-done c = sym (c .before .before .may-continue .ensures) ∙ c .enum-told .given .1
+done : (c : tie.After-enum-told) → row (c .before .before .before .before .before) ≡ 0
+done c = is-done _ _ (c .before .before .may-continue .ensures) (c .enum-told .given .1)
 
 ready : (c : tie.After-enum-told) → CanGoOn (c .before .before .before .before .before)
 ready c = continue-ready _ _ _ (done c)
@@ -88,7 +85,7 @@ returns-2 : tie.Need-returns-2
 returns-2 c =
     let a = c .before .before .before .before .before .args in
     let s = c .before .before .may-continue in
-    let z = labels-refused (a .self) (a .store .now) (a .out .now) (a .budget) _ (sym (s .ensures) ∙ c .enum-told2 .given .1) in
+    let z = labels-refused (a .self) (a .store .now) (a .out .now) (a .budget) (is-refused _ _ _ (s .ensures) (c .enum-told2 .given .1)) in
     (s .ensures, (z, unchanged (a .self) (a .store .now) (a .out .now) (a .budget) z))
 
 pub advance-spec : {M : Type 1} → statement M

@@ -1,32 +1,29 @@
 -- `opening::Opening::start` meets its contract, by the answer.
-use mathlib.Core.Path.{_≡_, sym, _∙_}
+use mathlib.Core.Path.{_≡_, _∙_}
 use Prim.Native.Nat.{ℕ, _^_}
 use borrow.Author.Tests.{ltb-false}
 use borrow.Author.Needs.{needs}
-use lib.Dec.{ltb, leb}
+use lib.Dec.{ltb, leb, lit≤}
 use lib.ListN.{length}
 use Rattle.base.specs.Limits.{maxDepth}
-use Rattle.refusal.specs.declared.Refusal.the-variants.{Depth, MemoryLevel, ShortStore, LeafPosition, ShortOutput}
 use Rattle.refusal.specs.Row.{outside}
-use Rattle.refusal.specs.declared.Outcome.{Outcome}
-use Rattle.refusal.specs.declared.Outcome.the-variants.{Done}
 use Rattle.tree.specs.Store.{storeSize}
 use Rattle.run.specs.Rows.{memoryOver}
-use Rattle.run.proofs.RowLaws.{passed}
+use Rattle.refusal.proofs.RowLaws.{passed, is-done, is-refused}
 use Rattle.opening.specs.Rows.{openingSize, openRow}
 use Rattle.opening.proofs.RowLaws.{Ready, possible, start-done, start-refused}
 use Rattle.opening.proofs.Opening.start.Statement.{statement}
 use Rattle.opening.proofs.Opening.start.Tie as tie
 
--- what a Done row tells
-start-ready : (n m leaf store out : ℕ) → openRow n m leaf store out ≡ Done → Ready n m leaf store out
+-- what a row of 0 tells
+start-ready : (n m leaf store out : ℕ) → openRow n m leaf store out ≡ 0 → Ready n m leaf store out
 unfolding openRow
 start-ready n m leaf store out e =
-    let (d, e₁) = passed (outside 1 maxDepth n) Depth _ e in
-    let (o, e₂) = passed (memoryOver n m) MemoryLevel _ e₁ in
-    let (s, e₃) = passed (ltb store (storeSize m)) ShortStore _ e₂ in
-    let (l, e₄) = passed (leb (2 ^ n) leaf) LeafPosition _ e₃ in
-    let (p, e₅) = passed (ltb out (openingSize n)) ShortOutput Done e₄ in
+    let (d, e₁) = passed (outside 1 maxDepth n) 1 _ (lit≤ tt) e in
+    let (o, e₂) = passed (memoryOver n m) 2 _ (lit≤ tt) e₁ in
+    let (s, e₃) = passed (ltb store (storeSize m)) 3 _ (lit≤ tt) e₂ in
+    let (l, e₄) = passed (leb (2 ^ n) leaf) 6 _ (lit≤ tt) e₃ in
+    let (p, e₅) = passed (ltb out (openingSize n)) 7 0 (lit≤ tt) e₄ in
     record { possible = possible n m leaf d o l; room = ltb-false store (storeSize m) s; outRoom = ltb-false out (openingSize n) p }
 
 may-start-requires : tie.Need-may-start-requires
@@ -36,11 +33,11 @@ enum-told : tie.Need-enum-told
 enum-told c = search needs
 
 -- the row's answer, and that the opening may be started
-abbrev row : tie.Start → Outcome
+abbrev row : tie.Start → ℕ
 row s = openRow (s .args .depth) (s .args .memory) (s .args .leaf) (length (s .args .store .now)) (length (s .args .out .now))
 
-done : (c : tie.After-enum-told) → row (c .before .before .before .before .before) ≡ Done
-done c = sym (c .before .before .may-start .ensures) ∙ c .enum-told .given .1
+done : (c : tie.After-enum-told) → row (c .before .before .before .before .before) ≡ 0
+done c = is-done _ _ (c .before .before .may-start .ensures) (c .enum-told .given .1)
 
 copy-held-requires : tie.Need-copy-held-requires
 copy-held-requires c κs = let r = start-ready _ _ _ _ _ (done (c .before)) in (r .possible, (r .room, r .outRoom))
@@ -67,7 +64,7 @@ returns-2 : tie.Need-returns-2
 returns-2 c =
     let a = c .before .before .before .before .before .before .args in
     let s = c .before .before .before .may-start in
-    let (o, w) = start-refused (a .statement) (a .depth) (a .memory) (a .leaf) (a .store .now) (a .out .now) _ (sym (s .ensures) ∙ c .before .enum-told2 .given .1) in
+    let (o, w) = start-refused (a .statement) (a .depth) (a .memory) (a .leaf) (a .store .now) (a .out .now) (is-refused _ _ _ (s .ensures) (c .before .enum-told2 .given .1)) in
     (s .ensures, (c .new-opening2 .ensures ∙ o, w))
 
 pub start-spec : {M : Type 1} → statement M

@@ -1,9 +1,10 @@
 -- `run::Run::advance` meets its contract, by the answer: a run that may be continued has room for its labels.
-use mathlib.Core.Path.{sym, ap, _∙_}
+use mathlib.Core.Path.{ap, _∙_}
 use Prim.Native.Nat.{ℕ, _-_, min}
 use native.Mathlib.Omega.{arith}
 use borrow.Author.Needs.{needs}
 use lib.ListN.{length}
+use Rattle.refusal.proofs.RowLaws.{is-done, is-refused}
 use Rattle.run.proofs.RowLaws.{Whole, may-go-on, labels-done, labels-refused, advanced-by, unchanged}
 use Rattle.run.proofs.Run.advance.Statement.{statement}
 use Rattle.run.proofs.Run.advance.Tie as tie
@@ -16,7 +17,7 @@ enum-told c = search needs
 
 -- the run may be continued
 whole : (c : tie.After-enum-told) → Whole (c .before .before .before .before .args .self) (length (c .before .before .before .before .args .store .now))
-whole c = may-go-on (c .before .before .before .before .args .self) (length (c .before .before .before .before .args .store .now)) (sym (c .before .before .may-continue .ensures) ∙ c .enum-told .given .1)
+whole c = may-go-on (c .before .before .before .before .args .self) (length (c .before .before .before .before .args .store .now)) (is-done _ _ (c .before .before .may-continue .ensures) (c .enum-told .given .1))
 
 nodes-requires : tie.Need-nodes-requires
 nodes-requires c κs = whole c .possible .depth
@@ -42,14 +43,14 @@ returns : tie.Need-returns
 returns c =
     let a = c .before .before .before .before .before .before .before .before .before .before .before .args in
     let o = c .before .before .before .before .before .before .before .before .before .may-continue in
-    let k = c .before .before .before .before .smaller .ensures ∙ ap (λ (x : ℕ). min (a .budget) (x - a .self .made)) (c .before .before .before .before .before .before .nodes .ensures) ∙ labels-done (a .self) (a .store .now) (a .budget) (sym (o .ensures) ∙ c .before .before .before .before .before .before .before .enum-told .given .1) in
+    let k = c .before .before .before .before .smaller .ensures ∙ ap (λ (x : ℕ). min (a .budget) (x - a .self .made)) (c .before .before .before .before .before .before .nodes .ensures) ∙ labels-done (a .self) (a .store .now) (a .budget) (is-done _ _ (o .ensures) (c .before .before .before .before .before .before .before .enum-told .given .1)) in
     (o .ensures, (k, advanced-by (a .self) (a .store .now) (a .budget) _ _ _ k (c .before .before .label-many .ensures .0) (c .before .before .label-many .ensures .1)))
 
 returns-2 : tie.Need-returns-2
 returns-2 c =
     let a = c .before .before .before .before .args in
     let o = c .before .before .may-continue in
-    let z = labels-refused (a .self) (a .store .now) (a .budget) _ (sym (o .ensures) ∙ c .enum-told2 .given .1) in
+    let z = labels-refused (a .self) (a .store .now) (a .budget) (is-refused _ _ _ (o .ensures) (c .enum-told2 .given .1)) in
     (o .ensures, (z, unchanged (a .self) (a .store .now) (a .budget) z))
 
 pub advance-spec : {M : Type 1} → statement M

@@ -4,7 +4,7 @@ use mathlib.Core.Path.{refl, sym, _∙_}
 use native.Mathlib.Omega.{arith}
 use borrow.Author.Tests.{leb-false}
 use Rattle.base.specs.Limits.{maxHashed}
-use Rattle.sha256.specs.Portions.{finishOutcome, finishDigest}
+use Rattle.sha256.specs.Portions.{finishRow, finishDigest}
 use borrow.Author.Needs.{needs}
 use Rattle.sha256.proofs.Hash.finish.Statement.{statement}
 use Rattle.sha256.proofs.Hash.finish.Tie as tie
@@ -13,14 +13,14 @@ too-many-requires : tie.Need-too-many-requires
 too-many-requires c κs = search needs
 
 returns : tie.Need-returns
-unfolding finishOutcome finishDigest
+unfolding finishRow finishDigest
 returns c = rw (sym (c .before .too-many .ensures) ∙ c .if1 .taken) (refl, (refl, refl))
 
 closed-requires : tie.Need-closed-requires
 closed-requires c κs = omega (arith, leb-false (maxHashed + 1) (c .before .before .args .self .taken + 0) (sym (c .before .too-many .ensures) ∙ c .if1 .left))
 
 returns-2 : tie.Need-returns-2
-unfolding finishOutcome finishDigest
+unfolding finishRow finishDigest
 returns-2 c = rw (sym (c .before .before .too-many .ensures) ∙ c .before .if1 .left) (refl, (c .closed .ensures, refl))
 
 pub finish-spec : {M : Type 1} → statement M

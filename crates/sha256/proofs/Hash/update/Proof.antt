@@ -5,7 +5,7 @@ use mathlib.Core.Path.{refl, sym, _∙_}
 use native.Mathlib.Omega.{arith}
 use borrow.Author.Tests.{leb-false}
 use Rattle.base.specs.Limits.{maxHashed}
-use Rattle.sha256.specs.Portions.{updateOutcome, updateState}
+use Rattle.sha256.specs.Portions.{updateRow, updateState}
 use borrow.Author.Needs.{needs}
 use Rattle.sha256.proofs.Hash.update.Statement.{statement}
 use Rattle.sha256.proofs.Hash.update.Tie as tie
@@ -14,14 +14,14 @@ too-many-requires : tie.Need-too-many-requires
 too-many-requires c κs = search needs
 
 returns : tie.Need-returns
-unfolding updateOutcome updateState
+unfolding updateRow updateState
 returns c = rw (sym (c .before .too-many .ensures) ∙ c .if1 .taken) (refl, refl)
 
 pushed-requires : tie.Need-pushed-requires
 pushed-requires c κs = omega (arith, leb-false (maxHashed + 1) (c .before .before .before .args .self .taken + length (c .before .before .before .args .part .now)) (sym (c .before .too-many .ensures) ∙ c .if1 .left))
 
 returns-2 : tie.Need-returns-2
-unfolding updateOutcome updateState
+unfolding updateRow updateState
 returns-2 c = rw (sym (c .before .before .too-many .ensures) ∙ c .before .if1 .left) (refl, c .pushed .ensures)
 
 pub update-spec : {M : Type 1} → statement M
