@@ -12,8 +12,6 @@ use Rattle.base.specs.Bytes.{joined, written}
 use Rattle.base.specs.Lists.{sameBytes}
 use Rattle.base.proofs.BytesLaws.{joined-append}
 use Rattle.base.proofs.ChoiceLaws.{is-odd, is-even}
-use Rattle.refusal.specs.declared.Refusal.the-variants.{Depth, LeafPosition, BytesEnd, BytesLeft, LeafLabel, Root}
-use Rattle.refusal.specs.declared.Outcome.the-variants.{Done, Refused}
 use Rattle.refusal.specs.Row.{outside}
 use Rattle.sha256.specs.Digest.{digest}
 use Rattle.tree.specs.Nodes.{node}
@@ -91,27 +89,27 @@ climbed statement bytes n leaf height label above e a =
 -- ---- the two refusals
 module _ (statement : List ℕ) (n leaf : ℕ) (root bytes : List ℕ) where
   module _ (hash : Label) (h : hash ≡ stampRule statement .hash (inputAt (stampRule statement) n leaf (givenBy bytes) (node n leaf))) where
-    pub wrong-leaf : sameBytes (take 32 bytes) hash ≡ false → Refused LeafLabel ≡ rightRow statement n leaf root bytes
+    pub wrong-leaf : sameBytes (take 32 bytes) hash ≡ false → 14 ≡ rightRow statement n leaf root bytes
     unfolding rightRow
     wrong-leaf f = rw (← h, f)
 
     module _ (leafRight : sameBytes (take 32 bytes) hash ≡ true) (top : Label) (t : top ≡ computed (stampRule statement) n leaf (givenBy bytes) n) where
-      pub wrong-root : sameBytes top root ≡ false → Refused Root ≡ rightRow statement n leaf root bytes
+      pub wrong-root : sameBytes top root ≡ false → 15 ≡ rightRow statement n leaf root bytes
       unfolding rightRow
       wrong-root f = rw (← h, leafRight, ← t, f)
 
-      pub both-right : sameBytes top root ≡ true → Done ≡ rightRow statement n leaf root bytes
+      pub both-right : sameBytes top root ≡ true → 0 ≡ rightRow statement n leaf root bytes
       unfolding rightRow
       both-right f = rw (← h, leafRight, ← t, f)
 
 -- ---- the row, one law for each return
 module _ (statement : List ℕ) (n leaf : ℕ) (root bytes : List ℕ) where
-  pub depth-refused : outside 1 40 n ≡ true → Refused Depth ≡ openingRow statement n leaf root bytes
+  pub depth-refused : outside 1 40 n ≡ true → 1 ≡ openingRow statement n leaf root bytes
   unfolding openingRow
   depth-refused d = rw d
 
   module _ (d : outside 1 40 n ≡ false) (small : n ≤ 40) where
-    pub leaf-refused : (1 * 2 ^ n) % 2 ^ 64 ≤ leaf → Refused LeafPosition ≡ openingRow statement n leaf root bytes
+    pub leaf-refused : (1 * 2 ^ n) % 2 ^ 64 ≤ leaf → 6 ≡ openingRow statement n leaf root bytes
     unfolding openingRow
     leaf-refused h = let l : 2 ^ n ≤ leaf = rw (full n small) at h in rw (d, le-leb (2 ^ n) leaf l)
 
@@ -119,12 +117,12 @@ module _ (statement : List ℕ) (n leaf : ℕ) (root bytes : List ℕ) where
       inside-leaf : leaf < 2 ^ n
       inside-leaf = rw (full n small) at inside
 
-      pub short-refused : length bytes < openingSize n → Refused BytesEnd ≡ openingRow statement n leaf root bytes
+      pub short-refused : length bytes < openingSize n → 10 ≡ openingRow statement n leaf root bytes
       unfolding openingRow
       short-refused h = rw (d, lt-leb (2 ^ n) leaf inside-leaf, lt-ltb (length bytes) (openingSize n) h)
 
       module _ (enough : openingSize n ≤ length bytes) where
-        pub long-refused : openingSize n < length bytes → Refused BytesLeft ≡ openingRow statement n leaf root bytes
+        pub long-refused : openingSize n < length bytes → 13 ≡ openingRow statement n leaf root bytes
         unfolding openingRow
         long-refused h =
             rw (

@@ -7,8 +7,6 @@ use lib.Dec.{ltb, leb}
 use lib.ListN.{length, take, drop}
 use Rattle.base.specs.Lists.{sameBytes}
 use Rattle.base.specs.Limits.{maxDepth}
-use Rattle.refusal.specs.declared.Refusal.the-variants.{Depth, LeafPosition, BytesEnd, BytesLeft, LeafLabel, Root}
-use Rattle.refusal.specs.declared.Outcome.{Outcome}
 use Rattle.refusal.specs.Row.{firstOf, outside}
 use Rattle.tree.specs.Nodes.{node}
 use Rattle.tree.specs.Labels.{Rule}
@@ -29,23 +27,23 @@ abbrev pub rootWrong : Rule → ℕ → ℕ → List ℕ → List ℕ → Bool
 rootWrong r n leaf bytes root = not (sameBytes (computed r n leaf (givenBy bytes) n) root)
 
 -- 14, 15
-unfoldable pub rightRow : List ℕ → ℕ → ℕ → List ℕ → List ℕ → Outcome
+unfoldable pub rightRow : List ℕ → ℕ → ℕ → List ℕ → List ℕ → ℕ
 rightRow statement n leaf root bytes =
     firstOf
-    ((leafWrong (stampRule statement) n leaf bytes, LeafLabel)
-    ∷ (rootWrong (stampRule statement) n leaf bytes root, Root)
+    ((leafWrong (stampRule statement) n leaf bytes, 14)
+    ∷ (rootWrong (stampRule statement) n leaf bytes root, 15)
     ∷ []
     )
 
 -- 1; 6; 10: bytes too few; 13: too many; 14; 15
-unfoldable pub openingRow : List ℕ → ℕ → ℕ → List ℕ → List ℕ → Outcome
+unfoldable pub openingRow : List ℕ → ℕ → ℕ → List ℕ → List ℕ → ℕ
 openingRow statement n leaf root bytes =
     firstOf
-    ((outside 1 maxDepth n, Depth)
-    ∷ (leb (2 ^ n) leaf, LeafPosition)
-    ∷ (ltb (length bytes) (openingSize n), BytesEnd)
-    ∷ (ltb (openingSize n) (length bytes), BytesLeft)
-    ∷ (leafWrong (stampRule statement) n leaf bytes, LeafLabel)
-    ∷ (rootWrong (stampRule statement) n leaf bytes root, Root)
+    ((outside 1 maxDepth n, 1)
+    ∷ (leb (2 ^ n) leaf, 6)
+    ∷ (ltb (length bytes) (openingSize n), 10)
+    ∷ (ltb (openingSize n) (length bytes), 13)
+    ∷ (leafWrong (stampRule statement) n leaf bytes, 14)
+    ∷ (rootWrong (stampRule statement) n leaf bytes root, 15)
     ∷ []
     )

@@ -4,6 +4,7 @@ ghost use mathlib.Core.List.{[], _++_};
 ghost use Prim.Native.Nat.{_+_, _*_, _/_, _^_, _<_, _≤_};
 ghost use lib.ListN.{length, take};
 ghost use Rattle.base.specs.Choice.{pick, odd};
+ghost use Rattle.refusal.specs.Number.{outcomeNumber};
 ghost use Rattle.tree.specs.Nodes.{node};
 ghost use Rattle.tree.specs.Labels.{labelBy};
 ghost use Rattle.tree.specs.Openings.{childLabels, computed, inputAt};
@@ -91,7 +92,7 @@ fn climb(statement: [u8; 32], n: u64, leaf: u64, bytes: &[u8]) -> [u8; 32]
 // 14, 15. Its callers know the depth, the position and the length.
 pub fn right(statement: [u8; 32], n: u64, leaf: u64, root: [u8; 32], bytes: &[u8]) -> Outcome
     requires { ⌜ (1 ≤ n) × (n ≤ 40) × (length (now bytes) ≡ openingSize n) ⌝ }
-    ensures { λ r. ⌜ r ≡ rightRow statement n leaf root (now (bytes .entry)) ⌝ }
+    ensures { λ r. ⌜ outcomeNumber r ≡ rightRow statement n leaf root (now (bytes .entry)) ⌝ }
 {
     let leaf_hash = leaf_label(statement, n, leaf, bytes);
     if !same(&bytes[..32], &leaf_hash) {
@@ -112,7 +113,7 @@ pub fn check_opening(
     root: [u8; 32],
     bytes: &[u8],
 ) -> Outcome
-    ensures { λ r. ⌜ r ≡ openingRow statement depth leaf root (now (bytes .entry)) ⌝ }
+    ensures { λ r. ⌜ outcomeNumber r ≡ openingRow statement depth leaf root (now (bytes .entry)) ⌝ }
 {
     if beyond(40, depth) {
         return Outcome::Refused(Refusal::Depth);
