@@ -5,16 +5,13 @@ use mathlib.Core.List.{List, _++_, append-assoc}
 use Prim.Native.Nat.{ℕ, suc, _+_, _-_, _/_, _%_, _≤_, _<_}
 use native.Mathlib.Numerals.{add-one}
 use native.Mathlib.Omega.{arith}
-use borrow.Author.Tests.{le-leb, lt-leb, leb-true, leb-false}
-use lib.Dec.{leb}
+use borrow.Author.Tests.{le-leb, lt-leb, leb-true, leb-false, lt-ltb, le-ltb}
+use lib.Dec.{leb, ltb}
 use lib.ListN.{length, take, set}
 use lib.Seq.{take-suc-set, length-take-le}
 use Rattle.base.specs.Bytes.{written}
-use Rattle.refusal.specs.declared.Refusal.the-variants.{ShortOutput}
-use Rattle.refusal.specs.declared.Outcome.the-variants.{Done, Refused}
-use Rattle.groups.specs.declared.Put.{Put}
 use Rattle.groups.specs.Groups.{groups, groupsOf}
-use Rattle.groups.specs.Writing.{fits, putAt, outputAfter}
+use Rattle.groups.specs.Writing.{putRow, putCount, outputAfter}
 use Rattle.groups.proofs.Steps.{groups-last, groups-more}
 
 -- laying a number's groups: one more, and the last
@@ -37,15 +34,28 @@ same-test len at count h = cases (leb (at + count) len) refl
     cases true e = le-leb at (len - count) (omega (arith, leb-true (at + count) len e))
     cases false e = lt-leb at (len - count) (omega (arith, leb-false (at + count) len e))
 
+-- what is answered and left in the output: of a number that takes `count` bytes
+pub record Answered (out : List ℕ) (at x number count : ℕ) (after : List ℕ) : Type 0 where
+  pub row : number ≡ putRow out at x
+  pub bytes : count ≡ putCount out at x
+  pub output : after ≡ outputAfter out at x
+
 -- the groups do not fit, and they do
 module _ (out : List ℕ) (at x count : ℕ) (counted : count ≡ length (groupsOf x)) where
-  pub short-output : leb (at + count) (length out) ≡ false → (_≡_ {A = Put} (record { outcome = Refused ShortOutput; count = 0 }) (putAt out at x)) × (out ≡ outputAfter out at x)
-  unfolding fits putAt outputAfter
-  short-output f = let short : leb (at + length (groupsOf x)) (length out) ≡ false = rw counted at f in (rw short, rw short)
+  pub short-output : leb (at + count) (length out) ≡ false → Answered out at x 7 0 out
+  unfolding putRow putCount outputAfter
+  short-output f =
+      let short : ltb (length out) (at + length (groupsOf x)) ≡ true =
+      lt-ltb (length out) (at + length (groupsOf x)) (omega (arith, leb-false (at + count) (length out) f)) in
+      record { row = rw short; bytes = rw short; output = rw short }
 
   pub room-for : (part : List ℕ) → part ≡ groupsOf x → leb (at + count) (length out) ≡ true → at + length part ≤ length out
   room-for part p f = omega (arith, leb-true (at + count) (length out) f, ap length p)
 
-  pub groups-written : (part : List ℕ) → part ≡ groupsOf x → leb (at + count) (length out) ≡ true → (_≡_ {A = Put} (record { outcome = Done; count = count }) (putAt out at x)) × (written out at part ≡ outputAfter out at x)
-  unfolding fits putAt outputAfter
-  groups-written part p f = let enough : leb (at + length (groupsOf x)) (length out) ≡ true = rw counted at f in (rw (enough, counted), rw (enough, p))
+  pub groups-written : (part : List ℕ) → part ≡ groupsOf x → leb (at + count) (length out) ≡ true
+      → Answered out at x 0 count (written out at part)
+  unfolding putRow putCount outputAfter
+  groups-written part p f =
+      let enough : ltb (length out) (at + length (groupsOf x)) ≡ false =
+      le-ltb (length out) (at + length (groupsOf x)) (omega (arith, leb-true (at + count) (length out) f)) in
+      record { row = rw enough; bytes = rw (enough, counted); output = rw (enough, p) }

@@ -7,22 +7,19 @@ use Prim.Native.Nat.{ℕ, zero, suc, _+_, _-_, _*_, _/_, _%_, _^_, _≤_, _<_}
 use native.Mathlib.Nat.{pow-le-pow-right}
 use native.Mathlib.Numerals.{add-one}
 use native.Mathlib.Omega.{arith}
-use borrow.Author.Tests.{ne-eqb, lt-ltb}
-use lib.Dec.{eqb, ltb}
+use borrow.Author.Tests.{ne-eqb, lt-ltb, leb-false}
+use lib.Dec.{eqb, ltb, leb}
 use lib.ListN.{length, take, drop, getD}
 use lib.Seq.{take-at, drop-cons}
 use Rattle.base.specs.Choice.{both}
-use Rattle.refusal.specs.declared.Refusal.{Refusal}
-use Rattle.groups.specs.declared.Cursor.{Cursor}
-use Rattle.groups.specs.declared.Number.the-variants.{Value, Refused}
 use Rattle.groups.specs.Groups.{groups}
-use Rattle.groups.specs.Reading.{ended, readFrom, readAt}
+use Rattle.groups.specs.Reading.{value, refused, ended, readFrom, readAt}
 use Rattle.groups.proofs.Steps.{groups-last, groups-more, lt-or-le, read-none, read-end, read-last, read-more, next-weight, add-group, small}
 use Rattle.groups.proofs.Sizes.{groups-same}
 
 -- a refusal is no number
-refused : {A : Type 0} {r : Refusal} {x : ℕ} {c : Cursor} → Refused r ≡ Value x c → A
-refused e = let no : _≡_ {A = ℕ} 0 1 = cc in absurd (omega arith)
+no-number : {A : Type 0} {r x end : ℕ} → refused r ≡ value x end → A
+no-number e = let no : _≡_ {A = ℕ} 0 1 = cc in absurd (omega arith)
 
 -- the bytes from a place to an end are the groups of x, in the shortest form, of at most `most` groups
 pub record Shortest (bytes : List ℕ) (at most x end : ℕ) : Type 0 where
@@ -32,14 +29,14 @@ pub record Shortest (bytes : List ℕ) (at most x end : ℕ) : Type 0 where
   pub ends : end ≡ at + length (groups most x)
 
 -- what is read from group i on is worth x at the weight of that group, and of several groups the last is not 0
-record Rest (bytes : List ℕ) (at i low weight left value end : ℕ) : Type 0 where
+record Rest (bytes : List ℕ) (at i low weight left sum end : ℕ) : Type 0 where
   pub x : ℕ
-  pub total : value ≡ low + x * weight
+  pub total : sum ≡ low + x * weight
   pub several : both (eqb x 0) (ltb 0 i) ≡ false
   pub shortest : Shortest bytes at left x end
 
-rest-last : (bytes : List ℕ) (at i low weight left value end : ℕ) → at < length bytes → getD bytes at 0 < 128 → both (eqb (getD bytes at 0) 0) (ltb 0 i) ≡ false → value ≡ low + getD bytes at 0 % 128 * weight → end ≡ at + 1 → Rest bytes at i low weight (suc left) value end
-rest-last bytes at i low weight left value end here h s v e = record {
+rest-last : (bytes : List ℕ) (at i low weight left total end : ℕ) → at < length bytes → getD bytes at 0 < 128 → both (eqb (getD bytes at 0) 0) (ltb 0 i) ≡ false → total ≡ low + getD bytes at 0 % 128 * weight → end ≡ at + 1 → Rest bytes at i low weight (suc left) total end
+rest-last bytes at i low weight left total end here h s v e = record {
   x = getD bytes at 0;
   total = v ∙ rw (small (getD bytes at 0) h);
   several = s;
@@ -62,8 +59,8 @@ not-zero : (x i : ℕ) → both (eqb x 0) (ltb 0 (i + 1)) ≡ false → 0 < x
 not-zero zero i s = let impossible : true ≡ false = sym (lt-ltb 0 (i + 1) (omega arith)) ∙ s in let no : _≡_ {A = ℕ} 0 1 = cc in absurd (omega arith)
 not-zero (suc x) i s = omega arith
 
-rest-more : (bytes : List ℕ) (at i low weight left value end : ℕ) → at < length bytes → 128 ≤ getD bytes at 0 → getD bytes at 0 < 256 → Rest bytes (at + 1) (i + 1) (low + getD bytes at 0 % 128 * weight) (weight * 128) left value end → Rest bytes at i low weight (suc left) value end
-rest-more bytes at i low weight left value end here h b r =
+rest-more : (bytes : List ℕ) (at i low weight left total end : ℕ) → at < length bytes → 128 ≤ getD bytes at 0 → getD bytes at 0 < 256 → Rest bytes (at + 1) (i + 1) (low + getD bytes at 0 % 128 * weight) (weight * 128) left total end → Rest bytes at i low weight (suc left) total end
+rest-more bytes at i low weight left total end here h b r =
     let byte = getD bytes at 0 in
     let pos = not-zero (r .x) i (r .several) in
     let all = before-groups left (r .x) byte pos h b in record {
@@ -79,53 +76,69 @@ rest-more bytes at i low weight left value end here h b r =
     }
 
 -- what `ended` says where it gives a number
-record Ended (byte i value end x : ℕ) (c : Cursor) : Type 0 where
+record Ended (byte i total end x end′ : ℕ) : Type 0 where
   pub several : both (eqb byte 0) (ltb 0 i) ≡ false
-  pub value-is : x ≡ value
-  pub end-is : c .at ≡ end
+  pub fits : total < 2 ^ 64
+  pub value-is : x ≡ total
+  pub end-is : end′ ≡ end
 
-ended-value : (byte i value end x : ℕ) (c : Cursor) → ended byte i value end ≡ Value x c → Ended byte i value end x c
+ended-value : (byte i total end x end′ : ℕ) → ended byte i total end ≡ value x end′ → Ended byte i total end x end′
 unfolding ended
-ended-value byte i value end x c e = cases (both (eqb byte 0) (ltb 0 i)) refl
+ended-value byte i total end x end′ e = cases (both (eqb byte 0) (ltb 0 i)) (leb (2 ^ 64) total) refl refl
   where
-    cases : (t : Bool) → both (eqb byte 0) (ltb 0 i) ≡ t → Ended byte i value end x c
-    cases true s = refused (rw s at e)
-    cases false s = let same = rw s at e in record { several = s; value-is = cc; end-is = cc }
+    cases : (t u : Bool) → both (eqb byte 0) (ltb 0 i) ≡ t → leb (2 ^ 64) total ≡ u → Ended byte i total end x end′
+    cases true u s f = no-number (rw s at e)
+    cases false true s f = no-number (rw (s, f) at e)
+    cases false false s f =
+        let same = rw (s, f) at e in
+        record { several = s; fits = leb-false (2 ^ 64) total f; value-is = cc; end-is = cc }
 
-last-of : (left i low weight at value : ℕ) (bytes : List ℕ) (c : Cursor) → at < length bytes → getD bytes at 0 < 128 → ended (getD bytes at 0) i (low + getD bytes at 0 % 128 * weight) (at + 1) ≡ Value value c → Rest bytes at i low weight (suc left) value (c .at)
-last-of left i low weight at value bytes c here h e =
-    let l = ended-value (getD bytes at 0) i (low + getD bytes at 0 % 128 * weight) (at + 1) value c e in
-    rest-last bytes at i low weight left value (c .at) here h (l .several) (l .value-is) (l .end-is)
+last-of : (left i low weight at total end : ℕ) (bytes : List ℕ) → at < length bytes → getD bytes at 0 < 128
+    → ended (getD bytes at 0) i (low + getD bytes at 0 % 128 * weight) (at + 1) ≡ value total end
+    → Rest bytes at i low weight (suc left) total end
+last-of left i low weight at total end bytes here h e =
+    let l = ended-value (getD bytes at 0) i (low + getD bytes at 0 % 128 * weight) (at + 1) total end e in
+    rest-last bytes at i low weight left total end here h (l .several) (l .value-is) (l .end-is)
 
-rest-of : (left i low weight at value : ℕ) (bytes : List ℕ) (c : Cursor) → ((j : ℕ) → getD bytes j 0 < 256) → weight ≡ 128 ^ i → readFrom bytes at i low left ≡ Value value c → Rest bytes at i low weight left value (c .at)
-rest-of zero i low weight at value bytes c b w e = refused (sym (read-none bytes at i low 0 refl) ∙ e)
-rest-of (suc left) i low weight at value bytes c b w e =
-    ⊎-elim (λ here.
-    ⊎-elim (λ h. last-of left i low weight at value bytes c here h (sym (read-last bytes at i low (suc left) left (getD bytes at 0) weight refl here refl w h) ∙ e))
-    (λ h. rest-more bytes at i low weight left value (c .at) here h (b at)
-    (rest-of left (i + 1) (low + getD bytes at 0 % 128 * weight) (weight * 128) (at + 1) value bytes c b (next-weight weight i w)
+rest-of : (left i low weight at total end : ℕ) (bytes : List ℕ) → ((j : ℕ) → getD bytes j 0 < 256) → weight ≡ 128 ^ i
+    → readFrom bytes at i low left ≡ value total end → Rest bytes at i low weight left total end
+rest-of zero i low weight at total end bytes b w e = no-number (sym (read-none bytes at i low 0 refl) ∙ e)
+rest-of (suc left) i low weight at total end bytes b w e =
+    ⊎-elim
+    (λ here.
+    ⊎-elim
+    (λ h. last-of left i low weight at total end bytes here h
+    (sym (read-last bytes at i low (suc left) left (getD bytes at 0) weight refl here refl w h) ∙ e))
+    (λ h. rest-more bytes at i low weight left total end here h (b at)
+    (rest-of left (i + 1) (low + getD bytes at 0 % 128 * weight) (weight * 128) (at + 1) total end bytes b (next-weight weight i w)
     (sym (read-more bytes at i low (suc left) left (getD bytes at 0) weight refl here refl w h) ∙ e)))
     (lt-or-le (getD bytes at 0) 128))
-    (λ past. refused (sym (read-end bytes at i low (suc left) left refl past) ∙ e))
+    (λ past. no-number (sym (read-end bytes at i low (suc left) left refl past) ∙ e))
     (lt-or-le at (length bytes))
 
 -- only the shortest form is read
-pub only-shortest : (bytes : List ℕ) (at most x : ℕ) (c : Cursor) → ((j : ℕ) → getD bytes j 0 < 256) → readAt bytes at most ≡ Value x c → Shortest bytes at most x (c .at)
+pub only-shortest : (bytes : List ℕ) (at most x end : ℕ) → ((j : ℕ) → getD bytes j 0 < 256) → readAt bytes at most ≡ value x end
+    → Shortest bytes at most x end
 unfolding readAt
-only-shortest bytes at most x c b e =
-    let r = rest-of most 0 0 1 at x bytes c b refl e in
+only-shortest bytes at most x end b e =
+    let r = rest-of most 0 0 1 at x end bytes b refl e in
     let same : x ≡ r .x = omega (arith, r .total) in
     rw same (r .shortest)
 
 -- the bytes that were read are the number's groups
-pub read-groups : (bytes : List ℕ) (at most x : ℕ) (c : Cursor) → ((j : ℕ) → getD bytes j 0 < 256) → readAt bytes at most ≡ Value x c → take (c .at - at) (drop at bytes) ≡ groups most x
-read-groups bytes at most x c b e =
-    let s = only-shortest bytes at most x c b e in
-    rw (s .form) (take-at (groups most x) (drop (c .at) bytes) (c .at - at) (omega (arith, s .ends)))
+pub read-groups : (bytes : List ℕ) (at most x end : ℕ) → ((j : ℕ) → getD bytes j 0 < 256) → readAt bytes at most ≡ value x end
+    → take (end - at) (drop at bytes) ≡ groups most x
+read-groups bytes at most x end b e =
+    let s = only-shortest bytes at most x end b e in
+    rw (s .form) (take-at (groups most x) (drop end bytes) (end - at) (omega (arith, s .ends)))
 
 -- no two byte strings give the same number, whatever number of groups is allowed
-pub one-form : (bytes bytes′ : List ℕ) (at at′ most most′ x : ℕ) (c c′ : Cursor) → ((j : ℕ) → getD bytes j 0 < 256) → ((j : ℕ) → getD bytes′ j 0 < 256) → readAt bytes at most ≡ Value x c → readAt bytes′ at′ most′ ≡ Value x c′ → take (c .at - at) (drop at bytes) ≡ take (c′ .at - at′) (drop at′ bytes′)
-one-form bytes bytes′ at at′ most most′ x c c′ b b′ e e′ =
-    let s = only-shortest bytes at most x c b e in
-    let s′ = only-shortest bytes′ at′ most′ x c′ b′ e′ in
-    read-groups bytes at most x c b e ∙ groups-same most most′ x (s .some) (s′ .some) (s .below) (s′ .below) ∙ sym (read-groups bytes′ at′ most′ x c′ b′ e′)
+pub one-form : (bytes bytes′ : List ℕ) (at at′ most most′ x end end′ : ℕ) → ((j : ℕ) → getD bytes j 0 < 256)
+    → ((j : ℕ) → getD bytes′ j 0 < 256) → readAt bytes at most ≡ value x end → readAt bytes′ at′ most′ ≡ value x end′
+    → take (end - at) (drop at bytes) ≡ take (end′ - at′) (drop at′ bytes′)
+one-form bytes bytes′ at at′ most most′ x end end′ b b′ e e′ =
+    let s = only-shortest bytes at most x end b e in
+    let s′ = only-shortest bytes′ at′ most′ x end′ b′ e′ in
+    read-groups bytes at most x end b e
+    ∙ groups-same most most′ x (s .some) (s′ .some) (s .below) (s′ .below)
+    ∙ sym (read-groups bytes′ at′ most′ x end′ b′ e′)

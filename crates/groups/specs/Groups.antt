@@ -9,6 +9,9 @@ unfoldable pub groups : ℕ → ℕ → List ℕ
 groups zero x = []
 groups (suc k) x = pick (ltb x 128) (x ∷ []) ((128 + x % 128) ∷ groups k (x / 128))
 
--- ten groups hold every number of 64 bits
+-- the most groups of a number, read or written: ten hold every number of 64 bits
+abbrev pub maxGroups : ℕ
+maxGroups = 10
+
 abbrev pub groupsOf : ℕ → List ℕ
-groupsOf x = groups 10 x
+groupsOf x = groups maxGroups x

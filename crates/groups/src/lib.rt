@@ -2,12 +2,13 @@
 use refusal::Outcome;
 use refusal::Refusal;
 ghost use mathlib.Core.Path.{_≡_};
-ghost use Prim.Native.Nat.{_+_, _<_, min};
+ghost use Prim.Native.Nat.{_+_, _*_, _^_, _<_, min};
 ghost use lib.Dec.{leb};
 ghost use lib.ListN.{length, take};
-ghost use Rattle.groups.specs.Groups.{groupsOf};
-ghost use Rattle.groups.specs.Reading.{maxGroups, ended, readAt};
-ghost use Rattle.groups.specs.Writing.{putAt, outputAfter};
+ghost use Rattle.refusal.specs.Number.{outcomeNumber};
+ghost use Rattle.groups.specs.Groups.{groupsOf, maxGroups};
+ghost use Rattle.groups.specs.Reading.{answerOf, ended, readAt};
+ghost use Rattle.groups.specs.Writing.{putRow, putCount, outputAfter};
 
 // A place in the caller's bytes.
 pub struct Cursor {
@@ -39,16 +40,16 @@ fn wide(byte: u8) -> u64
     byte as u64
 }
 
-// How many groups may be read: at most nine, so that the number fits 64 bits.
+// How many groups may be read.
 fn allowed(most: usize) -> usize
     ensures { λ r. ⌜ r ≡ min most maxGroups ⌝ }
 {
-    if most < 9 { most } else { 9 }
+    if most < 10 { most } else { 10 }
 }
 
 // The number that ends with this byte, after i others. The last of several is not 0.
 fn last(byte: u64, i: usize, value: u64, end: usize) -> Number
-    ensures { λ r. ⌜ r ≡ ended byte i value end ⌝ }
+    ensures { λ r. ⌜ answerOf r ≡ ended byte i value end ⌝ }
 {
     if byte == 0 {
         if 0 < i {
@@ -58,10 +59,21 @@ fn last(byte: u64, i: usize, value: u64, end: usize) -> Number
     Number::Value(value, Cursor { at: end })
 }
 
-// Reads the number at a place, of at most `most` groups, and of no more than nine, whose value fits 64 bits.
+// The number that ends with a tenth byte. It is 1, since the last of several is not 0 and more would not fit 64 bits.
+fn tenth(byte: u64, low: u64, end: usize) -> Number
+    requires { ⌜ low < 2 ^ 63 ⌝ }
+    ensures { λ r. ⌜ answerOf r ≡ ended byte 9 (low + byte * 2 ^ 63) end ⌝ }
+{
+    if byte == 1 {
+        return Number::Value(low + 9223372036854775808, Cursor { at: end });
+    }
+    Number::Refused(Refusal::NotShortest)
+}
+
+// Reads the number at a place, of at most `most` groups, and of no more than ten, which hold every number of 64 bits.
 // A place past the end is refused as bytes that end are.
 pub fn read(bytes: &[u8], from: Cursor, most: usize) -> Number
-    ensures { λ r. ⌜ r ≡ readAt (now (bytes .entry)) (from .at) (min most maxGroups) ⌝ }
+    ensures { λ r. ⌜ answerOf r ≡ readAt (now (bytes .entry)) (from .at) (min most maxGroups) ⌝ }
 {
     let limit = allowed(most);
     let mut at = from.at;
@@ -73,6 +85,9 @@ pub fn read(bytes: &[u8], from: Cursor, most: usize) -> Number
             return Number::Refused(Refusal::BytesEnd);
         }
         let byte = wide(bytes[at]);
+        if 9 <= i {
+            return tenth(byte, low, at + 1);
+        }
         low += byte % 128 * weight;
         at += 1;
         if byte < 128 {
@@ -115,7 +130,9 @@ fn has_room(len: usize, at: usize, count: usize) -> bool
 
 // Writes a number's groups over `out` from a place on, or nothing where they do not fit.
 pub fn write(value: u64, out: &mut [u8], at: usize) -> Put
-    ensures { λ r. ⌜ (r ≡ putAt (now (out .entry)) at value) × (now (out .exit) ≡ outputAfter (now (out .entry)) at value) ⌝ }
+    ensures { λ r. ⌜ outcomeNumber (r .outcome) ≡ putRow (now (out .entry)) at value ⌝ }
+    ensures { λ r. ⌜ r .count ≡ putCount (now (out .entry)) at value ⌝ }
+    ensures { λ _. ⌜ now (out .exit) ≡ outputAfter (now (out .entry)) at value ⌝ }
 {
     let groups = lay(value);
     let bytes = groups.bytes;

@@ -15,7 +15,10 @@ has-room-requires : tie.Need-has-room-requires
 has-room-requires c κs = search needs
 
 returns : tie.Need-returns
-returns c = short-output _ _ _ _ (c .before .before .before .lay .ensures .1) (sym (c .before .has-room .ensures) ∙ not-true _ (c .if1 .taken))
+returns c =
+    let a =
+    short-output _ _ _ _ (c .before .before .before .lay .ensures .1) (sym (c .before .has-room .ensures) ∙ not-true _ (c .if1 .taken)) in
+    (a .row, (a .bytes, a .output))
 
 array-share-prefix-bytes : tie.Need-array-share-prefix-bytes
 array-share-prefix-bytes c =
@@ -38,7 +41,7 @@ returns-2 c =
     let laid = c .before .before .before .before .before .before .before .before .lay in
     let put = c .before .before .put in
     let done = groups-written _ _ _ _ (laid .ensures .1) _ (laid .ensures .0) (sym (c .before .before .before .before .before .before .has-room .ensures) ∙ not-false _ (c .before .before .before .before .before .if1 .left)) in
-    (done .0, put .ensures ∙ done .1)
+    (done .row, (done .bytes, put .ensures ∙ done .output))
 
 pub write-spec : {M : Type 1} → statement M
 write-spec =
