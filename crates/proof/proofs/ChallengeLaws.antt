@@ -14,9 +14,6 @@ use Rattle.base.specs.Limits.{maxHashed}
 use Rattle.base.specs.Bytes.{bigEndian, zeros, written}
 use Rattle.base.proofs.BytesLaws.{length-bigEndian}
 use Rattle.base.proofs.Zeros.{filled-more}
-use Rattle.refusal.specs.declared.Refusal.the-variants.{Depth, Count}
-use Rattle.refusal.specs.declared.Outcome.{Outcome}
-use Rattle.refusal.specs.declared.Outcome.the-variants.{Done, Refused}
 use Rattle.refusal.specs.Row.{outside}
 use Rattle.sha256.specs.declared.Words.{Words}
 use Rattle.sha256.specs.Digest.{digestOf, digest}
@@ -148,20 +145,20 @@ pub value-below : (value byte i : ℕ) → value < 256 ^ i → byte < 256 → 25
 value-below value byte i v b = rw (add-one i) (omega arith)
 
 -- ---- the row, one law for each return
-abbrev Answers : ℕ → List ℕ → List ℕ → ℕ → Outcome → ℕ → Type 0
-Answers n statement root i outcome leaf = (outcome ≡ challengeRow n i) × (leaf ≡ challenged n statement root i)
+abbrev Answers : ℕ → List ℕ → List ℕ → ℕ → ℕ → ℕ → Type 0
+Answers n statement root i number leaf = (number ≡ challengeRow n i) × (leaf ≡ challenged n statement root i)
 
 module _ (n : ℕ) (statement root : List ℕ) (i : ℕ) where
-  pub depth-refused : outside 1 40 n ≡ true → Answers n statement root i (Refused Depth) 0
+  pub depth-refused : outside 1 40 n ≡ true → Answers n statement root i 1 0
   unfolding challengeRow challenged
   depth-refused d = (rw d, rw d)
 
   module _ (d : outside 1 40 n ≡ false) where
-    pub number-refused : outside 1 200 i ≡ true → Answers n statement root i (Refused Count) 0
+    pub number-refused : outside 1 200 i ≡ true → Answers n statement root i 8 0
     unfolding challengeRow challenged
     number-refused t = (rw (d, t), rw (d, t))
 
     pub leaf-answered : (leaf : ℕ) → outside 1 200 i ≡ false → leaf ≡ challengeLeaf n statement root i
-        → Answers n statement root i Done leaf
+        → Answers n statement root i 0 leaf
     unfolding challengeRow challenged
     leaf-answered leaf t e = (rw (d, t), rw (d, t) e)

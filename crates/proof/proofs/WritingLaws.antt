@@ -5,16 +5,13 @@ use mathlib.Core.List.{List, _++_}
 use Prim.Native.Nat.{ℕ, _+_, _/_, _≤_, _<_}
 use native.Mathlib.Nat.{zero-add}
 use native.Mathlib.Omega.{arith}
-use borrow.Author.Tests.{lt-ltb, le-ltb, le-leb}
+use borrow.Author.Tests.{lt-ltb, le-ltb}
 use lib.ListN.{length, drop, length-append}
 use lib.Seq.{take-append-seam, drop-append-add, drop-drop}
 use Rattle.base.specs.Bytes.{written}
-use Rattle.refusal.specs.declared.Refusal.the-variants.{Depth, Count, ShortOutput}
-use Rattle.refusal.specs.declared.Outcome.{Outcome}
-use Rattle.refusal.specs.declared.Outcome.the-variants.{Done, Refused}
 use Rattle.refusal.specs.Row.{outside}
 use Rattle.groups.specs.Groups.{groups}
-use Rattle.groups.specs.Writing.{fits, putAt, outputAfter}
+use Rattle.groups.specs.Writing.{putRow, putCount, outputAfter}
 use Rattle.groups.proofs.Steps.{groups-last, groups-more}
 use Rattle.groups.proofs.Sizes.{groups-same}
 use Rattle.proof.specs.Layout.{headNumbers, head, headSize, fileSize, headRow, headWritten}
@@ -22,11 +19,11 @@ use Rattle.proof.specs.Head.{lengthFrom}
 
 -- ---- a number in at most two groups
 pub number-put : (out : List ℕ) (at x : ℕ) → x < 16384 → at + length (groups 2 x) ≤ length out
-    → (putAt out at x .count ≡ length (groups 2 x)) × (outputAfter out at x ≡ written out at (groups 2 x))
-unfolding fits putAt outputAfter
+    → (putCount out at x ≡ length (groups 2 x)) × (outputAfter out at x ≡ written out at (groups 2 x))
+unfolding putRow putCount outputAfter
 number-put out at x small room =
     let same : groups 10 x ≡ groups 2 x = groups-same 10 2 x (omega arith) (omega arith) (omega arith) (omega arith) in
-    let enough = le-leb (at + length (groups 2 x)) (length out) room in
+    let enough = le-ltb (length out) (at + length (groups 2 x)) room in
     (rw (same, enough), rw (same, enough))
 
 one-group : (x : ℕ) → x < 128 → length (groups 2 x) ≡ 1
@@ -91,28 +88,28 @@ head-put statement root n t out o1 o2 o3 at s a e1 e2 e3 =
     (rw (length-append, s, a))
 
 -- ---- the row, one law for each return
-abbrev Answers : List ℕ → List ℕ → ℕ → ℕ → List ℕ → Outcome → List ℕ → Type 0
-Answers statement root n t out outcome after = (outcome ≡ headRow n t (length out)) × (after ≡ headWritten statement root n t out)
+abbrev Answers : List ℕ → List ℕ → ℕ → ℕ → List ℕ → ℕ → List ℕ → Type 0
+Answers statement root n t out number after = (number ≡ headRow n t (length out)) × (after ≡ headWritten statement root n t out)
 
 module _ (statement root : List ℕ) (n t : ℕ) (out : List ℕ) where
-  pub depth-refused : outside 1 40 n ≡ true → Answers statement root n t out (Refused Depth) out
+  pub depth-refused : outside 1 40 n ≡ true → Answers statement root n t out 1 out
   unfolding headRow headWritten
   depth-refused d = (rw d, rw d)
 
   module _ (d : outside 1 40 n ≡ false) where
-    pub count-refused : outside 1 200 t ≡ true → Answers statement root n t out (Refused Count) out
+    pub count-refused : outside 1 200 t ≡ true → Answers statement root n t out 8 out
     unfolding headRow headWritten
     count-refused c = (rw (d, c), rw (d, c))
 
     module _ (c : outside 1 200 t ≡ false) (size : ℕ) (is : size ≡ fileSize n t) where
-      pub short-refused : length out < size → Answers statement root n t out (Refused ShortOutput) out
+      pub short-refused : length out < size → Answers statement root n t out 7 out
       unfolding headRow headWritten
       short-refused h =
           let short = lt-ltb (length out) (fileSize n t) (rw is at h) in
           (rw (d, c, short), rw (d, c, short))
 
       pub head-written : (after : List ℕ) → size ≤ length out → after ≡ written out 0 (head statement root n t)
-          → Answers statement root n t out Done after
+          → Answers statement root n t out 0 after
       unfolding headRow headWritten
       head-written after h e =
           let enough = le-ltb (length out) (fileSize n t) (rw is at h) in

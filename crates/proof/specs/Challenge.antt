@@ -5,8 +5,6 @@ use lib.ListN.{length}
 use Rattle.base.specs.Choice.{pick}
 use Rattle.base.specs.Bytes.{bigEndian}
 use Rattle.base.specs.Limits.{maxDepth, maxChallenges}
-use Rattle.refusal.specs.declared.Refusal.the-variants.{Depth, Count}
-use Rattle.refusal.specs.declared.Outcome.{Outcome}
 use Rattle.refusal.specs.Row.{firstOf, outside, isDone}
 use Rattle.sha256.specs.Digest.{digest}
 
@@ -28,8 +26,8 @@ unfoldable pub challengeLeaf : ℕ → List ℕ → List ℕ → ℕ → ℕ
 challengeLeaf n statement root i = bigEndianValue (digest (challengeInput statement root i)) / 2 ^ (256 - n)
 
 -- row 'A challenge': 1; 8: i not 1..200
-unfoldable pub challengeRow : ℕ → ℕ → Outcome
-challengeRow n i = firstOf ((outside 1 maxDepth n, Depth) ∷ (outside 1 maxChallenges i, Count) ∷ [])
+unfoldable pub challengeRow : ℕ → ℕ → ℕ
+challengeRow n i = firstOf ((outside 1 maxDepth n, 1) ∷ (outside 1 maxChallenges i, 8) ∷ [])
 
 -- the leaf answered: 0 where it is refused
 unfoldable pub challenged : ℕ → List ℕ → List ℕ → ℕ → ℕ

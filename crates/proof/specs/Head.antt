@@ -6,29 +6,34 @@ use lib.Dec.{eqb}
 use lib.ListN.{length, take, drop}
 use Rattle.base.specs.Choice.{pick, both}
 use Rattle.base.specs.Limits.{maxDepth, maxChallenges}
-use Rattle.refusal.specs.declared.Refusal.{Refusal}
-use Rattle.refusal.specs.declared.Refusal.the-variants.{Edition, Depth, Count}
+use Rattle.refusal.specs.Number.{numberOf}
 use Rattle.refusal.specs.Row.{outside}
-use Rattle.groups.specs.declared.Number.{Number}
-use Rattle.groups.specs.declared.Number.the-variants.{Value, Refused}
-use Rattle.groups.specs.Reading.{readAt}
+use Rattle.groups.specs.Reading.{Answer, value, refused, readAt}
 use Rattle.opening.specs.Rows.{openingSize}
 use Rattle.proof.specs.declared.HeadNumbers.{HeadNumbers}
 use Rattle.proof.specs.declared.HeadNumbers.the-variants.{Numbers, NotRead}
 use Rattle.proof.specs.Layout.{edition, numberGroups, openingFrom}
 
+-- what reading a head answers: depth, count and the place after its numbers, or document 01's number of the refusal
+pub data HeadAnswer : Type 0 where
+  numbers : ℕ → ℕ → ℕ → HeadAnswer
+  notRead : ℕ → HeadAnswer
+
+abbrev pub headAnswer : HeadNumbers → HeadAnswer
+headAnswer (Numbers n t c) = numbers n t (c .at)
+headAnswer (NotRead r) = notRead (numberOf r)
+
 -- a number that was read, tested; then what follows it
-abbrev pub checked : Number → (ℕ → Bool) → Refusal → (ℕ → ℕ → HeadNumbers) → HeadNumbers
-checked (Value x c) bad refusal next = pick (bad x) (NotRead refusal) (next x (c .at))
-checked (Refused r) bad refusal next = NotRead r
+abbrev pub checked : Answer → (ℕ → Bool) → ℕ → (ℕ → ℕ → HeadAnswer) → HeadAnswer
+checked (value x at) bad number next = pick (bad x) (notRead number) (next x at)
+checked (refused r) bad number next = notRead r
 
 -- Row 'File, each number in turn': 10 and 11 by the groups; then 12: edition not 1, or 1, or 8.
-unfoldable pub headOf : List ℕ → HeadNumbers
+unfoldable pub headOf : List ℕ → HeadAnswer
 headOf bytes =
-    checked (readAt bytes 0 numberGroups) (λ e. not (eqb e edition)) Edition
-    (λ e at. checked (readAt bytes at numberGroups) (outside 1 maxDepth) Depth
-    (λ n at. checked (readAt bytes at numberGroups) (outside 1 maxChallenges) Count
-    (λ t at. Numbers n t (record { at = at }))))
+    checked (readAt bytes 0 numberGroups) (λ e. not (eqb e edition)) 12
+    (λ e at. checked (readAt bytes at numberGroups) (outside 1 maxDepth) 1
+    (λ n at. checked (readAt bytes at numberGroups) (outside 1 maxChallenges) 8 (λ t at. numbers n t at)))
 
 -- the length of a file whose numbers end at a place
 abbrev pub lengthFrom : ℕ → ℕ → ℕ → ℕ
@@ -51,13 +56,13 @@ hasOpening bytes n t at i = both (eqb (length bytes) (lengthFrom n t at)) (not (
 
 -- 'an opening is given back as that part of the caller's bytes': where it begins and how long it is. 'The part is empty if a
 -- head number is refused, the length is not the layout's, or there is no opening of that number.'
-abbrev pub partStart : List ℕ → ℕ → HeadNumbers → ℕ
-partStart bytes i (Numbers n t c) = pick (hasOpening bytes n t (c .at) i) (openingFrom n (c .at + 64) i) 0
-partStart bytes i (NotRead r) = 0
+abbrev pub partStart : List ℕ → ℕ → HeadAnswer → ℕ
+partStart bytes i (numbers n t at) = pick (hasOpening bytes n t at i) (openingFrom n (at + 64) i) 0
+partStart bytes i (notRead r) = 0
 
-abbrev pub partLength : List ℕ → ℕ → HeadNumbers → ℕ
-partLength bytes i (Numbers n t c) = pick (hasOpening bytes n t (c .at) i) (openingSize n) 0
-partLength bytes i (NotRead r) = 0
+abbrev pub partLength : List ℕ → ℕ → HeadAnswer → ℕ
+partLength bytes i (numbers n t at) = pick (hasOpening bytes n t at i) (openingSize n) 0
+partLength bytes i (notRead r) = 0
 
 unfoldable pub openingPart : List ℕ → ℕ → List ℕ
 openingPart bytes i = take (partLength bytes i (headOf bytes)) (drop (partStart bytes i (headOf bytes)) bytes)

@@ -2,19 +2,16 @@
 use Prim.Native.Nat.{ℕ}
 use mathlib.Core.List.{List}
 use Rattle.base.specs.Limits.{maxDepth, maxChallenges}
-use Rattle.refusal.specs.declared.Refusal.the-variants.{Depth, Count}
 use Rattle.refusal.specs.Row.{outside}
 use Rattle.groups.specs.Reading.{readAt}
-use Rattle.proof.specs.declared.HeadNumbers.{HeadNumbers}
-use Rattle.proof.specs.declared.HeadNumbers.the-variants.{Numbers}
 use Rattle.proof.specs.Layout.{numberGroups}
-use Rattle.proof.specs.Head.{checked}
+use Rattle.proof.specs.Head.{HeadAnswer, numbers, checked}
 
 -- the count at a place, after the depth
-unfoldable pub countFrom : List ℕ → ℕ → ℕ → HeadNumbers
+unfoldable pub countFrom : List ℕ → ℕ → ℕ → HeadAnswer
 countFrom bytes n at =
-    checked (readAt bytes at numberGroups) (outside 1 maxChallenges) Count (λ t at. Numbers n t (record { at = at }))
+    checked (readAt bytes at numberGroups) (outside 1 maxChallenges) 8 (λ t at. numbers n t at)
 
 -- the depth at a place, after the edition
-unfoldable pub depthFrom : List ℕ → ℕ → HeadNumbers
-depthFrom bytes at = checked (readAt bytes at numberGroups) (outside 1 maxDepth) Depth (λ n at. countFrom bytes n at)
+unfoldable pub depthFrom : List ℕ → ℕ → HeadAnswer
+depthFrom bytes at = checked (readAt bytes at numberGroups) (outside 1 maxDepth) 1 (λ n at. countFrom bytes n at)

@@ -6,8 +6,6 @@ use lib.ListN.{length}
 use Rattle.base.specs.Choice.{pick}
 use Rattle.base.specs.Bytes.{joined, written}
 use Rattle.base.specs.Limits.{maxDepth, maxChallenges}
-use Rattle.refusal.specs.declared.Refusal.the-variants.{Depth, Count, ShortOutput}
-use Rattle.refusal.specs.declared.Outcome.{Outcome}
 use Rattle.refusal.specs.Row.{firstOf, outside, isDone}
 use Rattle.groups.specs.Groups.{groups}
 use Rattle.opening.specs.Rows.{openingSize}
@@ -42,9 +40,9 @@ unfoldable pub file : List ℕ → List ℕ → ℕ → ℕ → List (List ℕ) 
 file statement root n t openings = head statement root n t ++ joined openings
 
 -- row 'Writing the file's head': 1; 8: t not 1..200; 7: less than the whole file fits
-unfoldable pub headRow : ℕ → ℕ → ℕ → Outcome
+unfoldable pub headRow : ℕ → ℕ → ℕ → ℕ
 headRow n t out =
-    firstOf ((outside 1 maxDepth n, Depth) ∷ (outside 1 maxChallenges t, Count) ∷ (ltb out (fileSize n t), ShortOutput) ∷ [])
+    firstOf ((outside 1 maxDepth n, 1) ∷ (outside 1 maxChallenges t, 8) ∷ (ltb out (fileSize n t), 7) ∷ [])
 
 -- the bytes after the head is written; as they were where it is refused
 unfoldable pub headWritten : List ℕ → List ℕ → ℕ → ℕ → List ℕ → List ℕ

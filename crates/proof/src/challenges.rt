@@ -2,6 +2,7 @@
 ghost use mathlib.Core.Path.{_≡_};
 ghost use Prim.Native.Nat.{_<_, _≤_};
 ghost use lib.ListN.{take};
+ghost use Rattle.refusal.specs.Number.{outcomeNumber};
 ghost use Rattle.sha256.specs.Digest.{digest};
 ghost use Rattle.proof.specs.Challenge.{challengeInput, bigEndianValue, challengeLeaf, challengeRow, challenged};
 use base::big_endian;
@@ -61,7 +62,7 @@ pub fn challenge_leaf(depth: u64, statement: [u8; 32], root: [u8; 32], i: u64) -
 
 // Challenge i, from 1.
 pub fn challenge(depth: u64, statement: [u8; 32], root: [u8; 32], i: u64) -> Challenged
-    ensures { λ r. ⌜ r .outcome ≡ challengeRow depth i ⌝ }
+    ensures { λ r. ⌜ outcomeNumber (r .outcome) ≡ challengeRow depth i ⌝ }
     ensures { λ r. ⌜ r .leaf ≡ challenged depth statement root i ⌝ }
 {
     if beyond(40, depth) {

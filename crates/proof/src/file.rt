@@ -3,7 +3,7 @@ ghost use mathlib.Core.Path.{_≡_};
 ghost use Prim.Native.Nat.{_+_, _≤_};
 ghost use lib.ListN.{length};
 ghost use Rattle.refusal.specs.Number.{codeOf};
-ghost use Rattle.proof.specs.Head.{lengthFrom, statementAt};
+ghost use Rattle.proof.specs.Head.{numbers, lengthFrom, statementAt};
 ghost use Rattle.proof.specs.FileCheck.{openingsFrom, wanted, fileRest, fileCheck};
 use crate::HeadNumbers;
 use crate::challenges::challenge_leaf;
@@ -21,7 +21,7 @@ use verify::same;
 fn check_openings(bytes: &[u8], statement: [u8; 32], n: u64, t: u64, at: usize) -> Check
     requires { ⌜ (1 ≤ n) × (n ≤ 40) × (t ≤ 200) × (at ≤ 6) ⌝ }
     requires { ⌜ (length (now bytes) ≡ lengthFrom n t at) × (statement ≡ statementAt (now bytes) at) ⌝ }
-    ensures { λ r. ⌜ r ≡ openingsFrom (now (bytes .entry)) n at 1 t ⌝ }
+    ensures { λ r. ⌜ codeOf r ≡ openingsFrom (now (bytes .entry)) n at 1 t ⌝ }
 {
     let root = label_at(bytes, at + 32);
     let mut i: u64 = 1;
@@ -73,7 +73,7 @@ fn check_rest(
     at: usize,
 ) -> Check
     requires { ⌜ (1 ≤ n) × (n ≤ 40) × (t ≤ 200) × (at ≤ 6) ⌝ }
-    ensures { λ r. ⌜ r ≡ fileRest (now (bytes .entry)) statement depth count (HeadNumbers.Numbers n t (record { at = at })) ⌝ }
+    ensures { λ r. ⌜ codeOf r ≡ fileRest (now (bytes .entry)) statement depth count (numbers n t at) ⌝ }
 {
     let size = file_length(n, t, at);
     if bytes.len() < size {
@@ -90,7 +90,7 @@ fn check_rest(
 
 // The check of a file.
 pub fn check_file(bytes: &[u8], statement: [u8; 32], depth: u64, count: u64) -> Check
-    ensures { λ r. ⌜ r ≡ fileCheck (now (bytes .entry)) statement depth count ⌝ }
+    ensures { λ r. ⌜ codeOf r ≡ fileCheck (now (bytes .entry)) statement depth count ⌝ }
 {
     let head = read_head(bytes);
     match head {
@@ -104,7 +104,7 @@ pub fn check_file(bytes: &[u8], statement: [u8; 32], depth: u64, count: u64) -> 
 
 // Its answer as one number.
 pub fn check_file_code(bytes: &[u8], statement: [u8; 32], depth: u64, count: u64) -> u64
-    ensures { λ r. ⌜ r ≡ codeOf (fileCheck (now (bytes .entry)) statement depth count) ⌝ }
+    ensures { λ r. ⌜ r ≡ fileCheck (now (bytes .entry)) statement depth count ⌝ }
 {
     refusal::code(check_file(bytes, statement, depth, count))
 }

@@ -1,6 +1,6 @@
 // Document 01, 'Challenges and the file': the file's numbers read.
 ghost use mathlib.Core.Path.{_≡_};
-ghost use Rattle.proof.specs.Head.{headOf};
+ghost use Rattle.proof.specs.Head.{headAnswer, headOf};
 ghost use Rattle.proof.specs.HeadSteps.{countFrom, depthFrom};
 use crate::HeadNumbers;
 use groups::Cursor;
@@ -10,7 +10,7 @@ use verify::beyond;
 
 // The count, after the depth.
 fn read_count(bytes: &[u8], n: u64, from: Cursor) -> HeadNumbers
-    ensures { λ r. ⌜ r ≡ countFrom (now (bytes .entry)) n (from .at) ⌝ }
+    ensures { λ r. ⌜ headAnswer r ≡ countFrom (now (bytes .entry)) n (from .at) ⌝ }
 {
     let number = groups::read(bytes, from, 2);
     match number {
@@ -26,7 +26,7 @@ fn read_count(bytes: &[u8], n: u64, from: Cursor) -> HeadNumbers
 
 // The depth and the count, after the edition.
 fn read_depth(bytes: &[u8], from: Cursor) -> HeadNumbers
-    ensures { λ r. ⌜ r ≡ depthFrom (now (bytes .entry)) (from .at) ⌝ }
+    ensures { λ r. ⌜ headAnswer r ≡ depthFrom (now (bytes .entry)) (from .at) ⌝ }
 {
     let number = groups::read(bytes, from, 2);
     match number {
@@ -42,7 +42,7 @@ fn read_depth(bytes: &[u8], from: Cursor) -> HeadNumbers
 
 // The head's numbers, or the first refusal.
 pub fn read_head(bytes: &[u8]) -> HeadNumbers
-    ensures { λ r. ⌜ r ≡ headOf (now (bytes .entry)) ⌝ }
+    ensures { λ r. ⌜ headAnswer r ≡ headOf (now (bytes .entry)) ⌝ }
 {
     let number = groups::read(bytes, Cursor { at: 0 }, 2);
     match number {

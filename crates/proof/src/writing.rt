@@ -3,6 +3,7 @@ ghost use mathlib.Core.Path.{_≡_};
 ghost use Prim.Native.Nat.{_+_, _<_, _≤_};
 ghost use lib.ListN.{length};
 ghost use Rattle.base.specs.Bytes.{written};
+ghost use Rattle.refusal.specs.Number.{outcomeNumber};
 ghost use Rattle.groups.specs.Groups.{groups};
 ghost use Rattle.proof.specs.Layout.{headNumbers, head, headSize, fileSize, headRow, headWritten};
 use crate::sizes::file_length;
@@ -61,7 +62,7 @@ pub fn write_head(
     count: u64,
     out: &mut [u8],
 ) -> Outcome
-    ensures { λ r. ⌜ r ≡ headRow depth count (length (now (out .entry))) ⌝ }
+    ensures { λ r. ⌜ outcomeNumber r ≡ headRow depth count (length (now (out .entry))) ⌝ }
     ensures { λ _. ⌜ now (out .exit) ≡ headWritten statement root depth count (now (out .entry)) ⌝ }
 {
     if beyond(40, depth) {

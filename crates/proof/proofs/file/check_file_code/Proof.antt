@@ -1,7 +1,6 @@
 -- `proof::check_file_code` meets its contract: the answer as one number.
-use mathlib.Core.Path.{ap, _∙_}
+use mathlib.Core.Path.{_∙_}
 use borrow.Author.Needs.{needs}
-use Rattle.refusal.specs.Number.{codeOf}
 use Rattle.proof.proofs.file.check_file_code.Statement.{statement}
 use Rattle.proof.proofs.file.check_file_code.Tie as tie
 
@@ -12,7 +11,7 @@ code-requires : tie.Need-code-requires
 code-requires c κs = search needs
 
 returns : tie.Need-returns
-returns c = c .code .ensures ∙ ap codeOf (c .before .check-file .ensures)
+returns c = c .code .ensures ∙ c .before .check-file .ensures
 
 pub check-file-code-spec : {M : Type 1} → statement M
 check-file-code-spec = tie.close (tie.spec check-file-requires code-requires returns)

@@ -5,7 +5,6 @@ use native.Mathlib.Omega.{arith}
 use borrow.Author.Needs.{needs}
 use lib.ListN.{length}
 use Rattle.groups.specs.Groups.{groups}
-use Rattle.groups.specs.declared.Put.{Put}
 use Rattle.proof.proofs.WritingLaws.{number-put}
 use Rattle.proof.proofs.writing.put_number.Statement.{statement}
 use Rattle.proof.proofs.writing.put_number.Tie as tie
@@ -17,7 +16,7 @@ count-is : (c : tie.After-struct-known)
     → c .before .before .before .write .result .count ≡ length (groups 2 (c .before .before .before .before .before .before .args .x))
 count-is c =
     let a = c .before .before .before .before .before .before .args in
-    ap (λ (p : Put). p .count) (c .before .before .before .write .ensures .0)
+    c .before .before .before .write .ensures .1 .0
     ∙ number-put (a .out .now) (a .at) (a .x) (c .before .before .before .before .before .before .pre .0)
     (c .before .before .before .before .before .before .pre .1) .0
 
@@ -31,7 +30,7 @@ returns : tie.Need-returns
 returns c =
     let a = c .before .before .before .before .before .before .args in (
       ap (λ (k : ℕ). a .at + k) (count-is c),
-      c .before .before .before .write .ensures .1 ∙ number-put (a .out .now) (a .at)
+      c .before .before .before .write .ensures .1 .1 ∙ number-put (a .out .now) (a .at)
           (a .x) (c .before .before .before .before .before .before .pre .0) (c .before .before .before .before .before .before .pre .1)
           .1,
     )
