@@ -35,7 +35,6 @@ table =
       t7First = refl;
       t7Second = refl;
       t7Refused = refl;
-      t7Number = refl;
       t8 = refl;
       t9 = refl;
       t10 = refl;

@@ -3,14 +3,11 @@ use mathlib.Core.Path.{_≡_}
 use Prim.Native.Nat.{ℕ, _-_, _*_, _^_}
 use mathlib.Core.List.{List, [], _∷_}
 use lib.ListN.{length}
-use Rattle.refusal.specs.Number.{numberOf}
-use Rattle.refusal.specs.declared.Refusal.the-variants.{NotShortest}
 use Rattle.tree.specs.Nodes.{Node, node, parents}
 use Rattle.tree.specs.Labels.{inputSize}
 use Rattle.tree.specs.Store.{slot, storeSize}
-use Rattle.groups.specs.declared.Number.the-variants.{Refused}
 use Rattle.groups.specs.Groups.{groups}
-use Rattle.groups.specs.Reading.{readAt}
+use Rattle.groups.specs.Reading.{refused, readAt}
 use Rattle.proof.specs.Layout.{fileSize}
 use Rattle.ways.specs.Ways.{chain}
 use Rattle.ways.specs.Counts.{leavesOpened, largestEmpty}
@@ -46,8 +43,7 @@ pub record Table : Type 0 where
   -- T7 128 is 80 01 (hex), 200 is C8 01; C8 00 is refused with 11
   pub t7First : groups 2 128 ≡ 0x80 ∷ 0x01 ∷ []
   pub t7Second : groups 2 200 ≡ 0xC8 ∷ 0x01 ∷ []
-  pub t7Refused : readAt (0xC8 ∷ 0x00 ∷ []) 0 2 ≡ Refused NotShortest
-  pub t7Number : numberOf NotShortest ≡ 11
+  pub t7Refused : readAt (0xC8 ∷ 0x00 ∷ []) 0 2 ≡ refused 11
   -- T8 n = 1, t = 1: 131 bytes of file. T9 n = 40, t = 200: 262,468
   pub t8 : fileSize 1 1 ≡ 131
   pub t9 : fileSize 40 200 ≡ 262468
