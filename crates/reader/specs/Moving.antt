@@ -1,8 +1,7 @@
 -- Where a reader stands after a number: behind it, or where it stood if the number is refused.
 use Prim.Native.Nat.{ℕ}
-use Rattle.groups.specs.declared.Number.{Number}
-use Rattle.groups.specs.declared.Number.the-variants.{Value, Refused}
+use Rattle.groups.specs.Reading.{Answer, value, refused}
 
-abbrev pub placeAfter : ℕ → Number → ℕ
-placeAfter at (Value x next) = next .at
-placeAfter at (Refused r) = at
+abbrev pub placeAfter : ℕ → Answer → ℕ
+placeAfter at (value x end) = end
+placeAfter at (refused r) = at

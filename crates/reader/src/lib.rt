@@ -6,8 +6,9 @@ use proof::HeadNumbers;
 ghost use mathlib.Core.Path.{_≡_};
 ghost use Prim.Native.Nat.{_+_, min};
 ghost use lib.ListN.{length};
-ghost use Rattle.groups.specs.Reading.{maxGroups, readAt};
-ghost use Rattle.proof.specs.Head.{headOf, partStart, openingPart};
+ghost use Rattle.groups.specs.Groups.{maxGroups};
+ghost use Rattle.groups.specs.Reading.{answerOf, readAt};
+ghost use Rattle.proof.specs.Head.{headAnswer, headOf, partStart, openingPart};
 ghost use Rattle.reader.specs.Moving.{placeAfter};
 
 // The caller's bytes and a place in them.
@@ -18,7 +19,7 @@ pub struct Reader<'a> {
 
 // The number at a place.
 fn number_at(bytes: &[u8], at: usize, most: usize) -> Number
-    ensures { λ r. ⌜ r ≡ readAt (now (bytes .entry)) at (min most maxGroups) ⌝ }
+    ensures { λ r. ⌜ answerOf r ≡ readAt (now (bytes .entry)) at (min most maxGroups) ⌝ }
 {
     groups::read(bytes, Cursor { at }, most)
 }
@@ -49,7 +50,7 @@ pub fn moved<'a>(r: Reader<'a>, to: usize) -> Reader<'a>
 
 // The number at the place, of at most `most` groups and of no more than nine.
 pub fn number<'a>(r: Reader<'a>, most: usize) -> Number
-    ensures { λ n. ⌜ n ≡ readAt (now (r .entry .src)) (r .entry .at) (min most maxGroups) ⌝ }
+    ensures { λ n. ⌜ answerOf n ≡ readAt (now (r .entry .src)) (r .entry .at) (min most maxGroups) ⌝ }
 {
     number_at(r.src, r.at, most)
 }
@@ -64,7 +65,7 @@ pub fn after_number<'a>(r: Reader<'a>, most: usize) -> Reader<'a>
 
 // The numbers of the head that the bytes begin with, or the first refusal.
 pub fn head<'a>(r: Reader<'a>) -> HeadNumbers
-    ensures { λ h. ⌜ h ≡ headOf (now (r .entry .src)) ⌝ }
+    ensures { λ h. ⌜ headAnswer h ≡ headOf (now (r .entry .src)) ⌝ }
 {
     proof::read_head(r.src)
 }
@@ -78,7 +79,7 @@ pub fn opening<'a>(r: Reader<'a>, i: u64) -> &'a [u8]
 
 // The number that the bytes begin with.
 pub fn first_number(bytes: &[u8], most: usize) -> Number
-    ensures { λ r. ⌜ r ≡ readAt (now (bytes .entry)) 0 (min most maxGroups) ⌝ }
+    ensures { λ r. ⌜ answerOf r ≡ readAt (now (bytes .entry)) 0 (min most maxGroups) ⌝ }
 {
     number(begin(bytes), most)
 }

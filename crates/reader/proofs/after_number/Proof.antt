@@ -35,7 +35,8 @@ use denote.Triple.Table.{entered, cited}
 use denote.Triple.Walked.{says, Stays, stay-none, walkOf, goes-none, Walks, ends-at, walked, walk-meets}
 use denote.Exit.{yes}
 use denote.Triple.Clauses.{ensured, lasts}
-use Rattle.groups.specs.Reading.{maxGroups, readAt}
+use Rattle.groups.specs.Groups.{maxGroups}
+use Rattle.groups.specs.Reading.{readAt}
 use Rattle.reader.specs.Moving.{placeAfter}
 use Rattle.reader.specs.declared.Reader.{Reader}
 use Rattle.reader.proofs.Reader.Laws as T′
