@@ -12,10 +12,10 @@ use Rattle.base.specs.Bytes.{written}
 use Rattle.base.specs.Limits.{maxDepth, maxChallenges}
 use Rattle.base.proofs.ChoiceLaws.{both-second, both-false}
 use Rattle.refusal.specs.declared.Refusal.{Refusal}
-use Rattle.refusal.specs.declared.Refusal.the-variants.{Depth, Count, LeafPosition, ShortList}
-use Rattle.refusal.specs.declared.Outcome.{Outcome}
-use Rattle.refusal.specs.declared.Outcome.the-variants.{Done, Refused}
-use Rattle.refusal.specs.Row.{firstOf, outside}
+use Rattle.refusal.specs.declared.Refusal.the-variants.{ShortList}
+use Rattle.refusal.specs.Number.{numberOf}
+use Rattle.refusal.specs.Row.{outside}
+use Rattle.refusal.proofs.RowLaws.{NoneHolds, none-holds, row-refused, row-passed, not-done}
 use Rattle.ways.specs.Ways.{chain}
 use Rattle.ways.specs.Planning.{every, isLeaf, sorted, planFrom, plan}
 use Rattle.ways.proofs.Sorting.{every-sorted, length-sorted}
@@ -38,58 +38,42 @@ below low high x e = leb-true x high (both-second (leb low x) (leb x high) (not-
 
 -- each exit of the first three checks
 module _ (n : ℕ) (leaves : List ℕ) where
-  pub row-depth : outside 1 maxDepth n ≡ true → Refused Depth ≡ leavesRow n leaves
+  pub row-depth : outside 1 maxDepth n ≡ true → 1 ≡ leavesRow n leaves
   unfolding leavesRow
   row-depth a = rw a
 
-  pub row-count : outside 1 maxDepth n ≡ false → outside 1 maxChallenges (length leaves) ≡ true → Refused Count ≡ leavesRow n leaves
+  pub row-count : outside 1 maxDepth n ≡ false → outside 1 maxChallenges (length leaves) ≡ true → 8 ≡ leavesRow n leaves
   unfolding leavesRow
   row-count a b = rw (a, b)
 
   pub row-leaf : outside 1 maxDepth n ≡ false → outside 1 maxChallenges (length leaves) ≡ false → every (isLeaf n) leaves ≡ false
-      → Refused LeafPosition ≡ leavesRow n leaves
+      → 6 ≡ leavesRow n leaves
   unfolding leavesRow
   row-leaf a b d = rw (a, b, d)
 
   pub row-done : outside 1 maxDepth n ≡ false → outside 1 maxChallenges (length leaves) ≡ false → every (isLeaf n) leaves ≡ true
-      → Done ≡ leavesRow n leaves
+      → 0 ≡ leavesRow n leaves
   unfolding leavesRow
   row-done a b d = rw (a, b, d)
 
-not-both : (r : Refusal) → Refused r ≡ Done → ⊥
-not-both r e = let z : _≡_ {A = ℕ} 0 1 = cc in omega arith
+-- the first three checks
+abbrev pub leavesChecks : ℕ → List ℕ → List (Bool × ℕ)
+leavesChecks n leaves =
+    (outside 1 maxDepth n, 1) ∷ (outside 1 maxChallenges (length leaves), 8) ∷ (not (every (isLeaf n) leaves), 6) ∷ []
 
-abbrev three : Bool → Bool → Bool → Outcome
-three a b d = firstOf ((a, Depth) ∷ (b, Count) ∷ (d, LeafPosition) ∷ [])
-
-abbrev four : Bool → Bool → Bool → Bool → Outcome
-four a b d s = firstOf ((a, Depth) ∷ (b, Count) ∷ (d, LeafPosition) ∷ (s, ShortList) ∷ [])
-
-three-done : (a b d : Bool) → three a b d ≡ Done → (a ≡ false) × (b ≡ false) × (d ≡ false)
-three-done true b d e = absurd (not-both Depth e)
-three-done false true d e = absurd (not-both Count e)
-three-done false false true e = absurd (not-both LeafPosition e)
-three-done false false false e = (refl, refl, refl)
-
-three-refused : (a b d s : Bool) (r : Refusal) → three a b d ≡ Refused r → four a b d s ≡ Refused r
-three-refused true b d s r e = e
-three-refused false true d s r e = e
-three-refused false false true s r e = e
-three-refused false false false s r e = absurd (not-both r (sym e))
-
-module _ (n : ℕ) (leaves : List ℕ) (done : leavesRow n leaves ≡ Done) where
-  pub passed : (outside 1 maxDepth n ≡ false) × (outside 1 maxChallenges (length leaves) ≡ false) × (not (every (isLeaf n) leaves) ≡ false)
+module _ (n : ℕ) (leaves : List ℕ) (done : leavesRow n leaves ≡ 0) where
+  pub passed : NoneHolds (leavesChecks n leaves)
   unfolding leavesRow
-  passed = three-done (outside 1 maxDepth n) (outside 1 maxChallenges (length leaves)) (not (every (isLeaf n) leaves)) done
+  passed = none-holds (leavesChecks n leaves) refl done
 
   pub leaves-known : Leaves n leaves
   leaves-known =
-      record { depth = below 1 maxDepth n (passed .0); few = below 1 maxChallenges (length leaves) (passed .1); inside = not-false _ (passed .2) }
+      record { depth = below 1 maxDepth n (passed .0); few = below 1 maxChallenges (length leaves) (passed .1 .0); inside = not-false _ (passed .1 .1 .0) }
 
   -- the list is the last check
-  pub list-check : (list : ℕ) → planRow n leaves list ≡ pick (ltb list (length (chain n leaves))) (Refused ShortList) Done
+  pub list-check : (list : ℕ) → planRow n leaves list ≡ pick (ltb list (length (chain n leaves))) 16 0
   unfolding planRow
-  list-check list = simp (passed .0, passed .1, passed .2)
+  list-check list = row-passed (leavesChecks n leaves) ((ltb list (length (chain n leaves)), 16) ∷ []) passed
 
   pub sorted-known : (xs : List ℕ) → xs ≡ sorted leaves → Leaves n xs
   sorted-known xs e =
@@ -101,39 +85,33 @@ module _ (n : ℕ) (leaves : List ℕ) (done : leavesRow n leaves ≡ Done) wher
       })
 
 -- what planning answers, and the list afterwards
-abbrev pub Answers : ℕ → List ℕ → List ℕ → Outcome → ℕ → List ℕ → Type 0
-Answers n leaves list o count after =
-    (o ≡ planRow n leaves (length list)) × ((count ≡ plannedCount n leaves (length list)) × (after ≡ plannedList n leaves list))
+abbrev pub Answers : ℕ → List ℕ → List ℕ → ℕ → ℕ → List ℕ → Type 0
+Answers n leaves list number count after =
+    (number ≡ planRow n leaves (length list)) × ((count ≡ plannedCount n leaves (length list)) × (after ≡ plannedList n leaves list))
 
-refused : (n : ℕ) (leaves list : List ℕ) (r : Refusal) → planRow n leaves (length list) ≡ Refused r → Answers n leaves list (Refused r) 0 list
+refused : (n : ℕ) (leaves list : List ℕ) (r : Refusal) → numberOf r ≡ planRow n leaves (length list) → Answers n leaves list (numberOf r) 0 list
 unfolding plannedCount plannedList
-refused n leaves list r e = (sym e, (rw e, rw e))
+refused n leaves list r e = let no = not-done r (planRow n leaves (length list)) e in (e, (rw no, rw no))
 
-pub leaves-refused : (n : ℕ) (leaves list : List ℕ) (r : Refusal) → Refused r ≡ leavesRow n leaves → Answers n leaves list (Refused r) 0 list
+pub leaves-refused : (n : ℕ) (leaves list : List ℕ) (r : Refusal) → numberOf r ≡ leavesRow n leaves → Answers n leaves list (numberOf r) 0 list
 unfolding planRow leavesRow
 leaves-refused n leaves list r e =
     refused n leaves list r
-    (three-refused
-    (outside 1 maxDepth n)
-    (outside 1 maxChallenges (length leaves))
-    (not (every (isLeaf n) leaves))
-    (ltb (length list) (length (chain n leaves)))
-    r
-    (sym e))
+    (e ∙ sym (row-refused (leavesChecks n leaves) ((ltb (length list) (length (chain n leaves)), 16) ∷ []) (not-done r (leavesRow n leaves) e)))
 
-module _ (n : ℕ) (leaves xs list : List ℕ) (count : ℕ) (done : leavesRow n leaves ≡ Done) (e : xs ≡ sorted leaves) (k : count ≡ length (planFrom n xs)) where
+module _ (n : ℕ) (leaves xs list : List ℕ) (count : ℕ) (done : leavesRow n leaves ≡ 0) (e : xs ≡ sorted leaves) (k : count ≡ length (planFrom n xs)) where
   chain-count : count ≡ length (chain n leaves)
   unfolding plan
   chain-count = k ∙ rw e (plan-length n leaves (leaves-known n leaves done .inside))
 
-  pub list-refused : length list < count → Answers n leaves list (Refused ShortList) 0 list
+  pub list-refused : length list < count → Answers n leaves list 16 0 list
   list-refused h =
       refused n leaves list ShortList
-      (list-check n leaves done (length list) ∙ rw (lt-ltb (length list) (length (chain n leaves)) (omega (arith, chain-count))))
+      (sym (list-check n leaves done (length list) ∙ rw (lt-ltb (length list) (length (chain n leaves)) (omega (arith, chain-count)))))
 
-  pub list-done : (after : List ℕ) → count ≤ length list → after ≡ written list 0 (planFrom n xs) → Answers n leaves list Done count after
+  pub list-done : (after : List ℕ) → count ≤ length list → after ≡ written list 0 (planFrom n xs) → Answers n leaves list 0 count after
   unfolding plannedCount plannedList plan
   list-done after h f =
-      let r : planRow n leaves (length list) ≡ Done =
+      let r : planRow n leaves (length list) ≡ 0 =
       list-check n leaves done (length list) ∙ rw (le-ltb (length list) (length (chain n leaves)) (omega (arith, chain-count))) in
       (sym r, (rw r chain-count, rw r (f ∙ rw (e, plan-chain n leaves (leaves-known n leaves done .inside)))))

@@ -7,20 +7,18 @@ use lib.ListN.{length}
 use Rattle.base.specs.Choice.{pick}
 use Rattle.base.specs.Bytes.{written}
 use Rattle.base.specs.Limits.{maxDepth, maxChallenges}
-use Rattle.refusal.specs.declared.Refusal.the-variants.{Depth, Count, LeafPosition, ShortList}
-use Rattle.refusal.specs.declared.Outcome.{Outcome}
 use Rattle.refusal.specs.Row.{firstOf, outside, isDone}
 use Rattle.ways.specs.Planning.{every, isLeaf}
 use Rattle.ways.specs.Ways.{chain, chainCodes}
 
 -- 1; 8: not 1..200 leaves; 6; 16: list short
-unfoldable pub planRow : ℕ → List ℕ → ℕ → Outcome
+unfoldable pub planRow : ℕ → List ℕ → ℕ → ℕ
 planRow n leaves list =
     firstOf
-    ((outside 1 maxDepth n, Depth)
-    ∷ (outside 1 maxChallenges (length leaves), Count)
-    ∷ (not (every (isLeaf n) leaves), LeafPosition)
-    ∷ (ltb list (length (chain n leaves)), ShortList)
+    ((outside 1 maxDepth n, 1)
+    ∷ (outside 1 maxChallenges (length leaves), 8)
+    ∷ (not (every (isLeaf n) leaves), 6)
+    ∷ (ltb list (length (chain n leaves)), 16)
     ∷ []
     )
 

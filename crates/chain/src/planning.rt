@@ -13,7 +13,7 @@ ghost use lib.Dec.{leb};
 ghost use Rattle.base.specs.Choice.{pick};
 ghost use Rattle.base.specs.Limits.{maxDepth, maxChallenges};
 ghost use Rattle.ways.specs.Counts.{leavesOpened};
-ghost use Rattle.refusal.specs.declared.Outcome.the-variants.{Done};
+ghost use Rattle.refusal.specs.Number.{outcomeNumber};
 ghost use Rattle.ways.specs.Planning.{every, isLeaf};
 ghost use Rattle.chain.specs.PlanRow.{planRow, plannedCount, plannedList};
 ghost use Rattle.chain.specs.Place.{leavesRow};
@@ -42,7 +42,7 @@ fn are_leaves(depth: u64, leaves: &[u64]) -> bool
 
 // The checks of depth and leaves.
 pub fn check_leaves(depth: u64, leaves: &[u64]) -> Outcome
-    ensures { λ r. ⌜ r ≡ leavesRow depth (now (leaves .entry)) ⌝ }
+    ensures { λ r. ⌜ outcomeNumber r ≡ leavesRow depth (now (leaves .entry)) ⌝ }
 {
     if depth < 1 {
         return Outcome::Refused(Refusal::Depth);
@@ -64,8 +64,8 @@ pub fn check_leaves(depth: u64, leaves: &[u64]) -> Outcome
 
 // The plan of leaves that passed the checks: counted before anything is written.
 fn plan_leaves(depth: u64, leaves: &[u64], list: &mut [u64]) -> Planned
-    requires { ⌜ leavesRow depth (now leaves) ≡ Done ⌝ }
-    ensures { λ r. ⌜ r .outcome ≡ planRow depth (now (leaves .entry)) (length (now (list .entry))) ⌝ }
+    requires { ⌜ leavesRow depth (now leaves) ≡ 0 ⌝ }
+    ensures { λ r. ⌜ outcomeNumber (r .outcome) ≡ planRow depth (now (leaves .entry)) (length (now (list .entry))) ⌝ }
     ensures { λ r. ⌜ r .count ≡ plannedCount depth (now (leaves .entry)) (length (now (list .entry))) ⌝ }
     ensures { λ _. ⌜ now (list .exit) ≡ plannedList depth (now (leaves .entry)) (now (list .entry)) ⌝ }
 {
@@ -88,7 +88,7 @@ fn plan_leaves(depth: u64, leaves: &[u64], list: &mut [u64]) -> Planned
 
 // Plans the chain of leaves in any order, with repeats: its codes from the list's first place on, and their count.
 pub fn plan(depth: u64, leaves: &[u64], list: &mut [u64]) -> Planned
-    ensures { λ r. ⌜ r .outcome ≡ planRow depth (now (leaves .entry)) (length (now (list .entry))) ⌝ }
+    ensures { λ r. ⌜ outcomeNumber (r .outcome) ≡ planRow depth (now (leaves .entry)) (length (now (list .entry))) ⌝ }
     ensures { λ r. ⌜ r .count ≡ plannedCount depth (now (leaves .entry)) (length (now (list .entry))) ⌝ }
     ensures { λ _. ⌜ now (list .exit) ≡ plannedList depth (now (leaves .entry)) (now (list .entry)) ⌝ }
 {

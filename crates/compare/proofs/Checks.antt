@@ -1,102 +1,65 @@
 -- The comparison's checks: one law for each return, and what they leave.
-use mathlib.Core.Path.{_≡_, sym}
+use mathlib.Core.Path.{_≡_, refl, sym, _∙_}
 use Prim.Native.Nat.{ℕ, _*_, _≤_, _<_}
 use native.Mathlib.Nat.{mul-le-mul-right}
 use native.Mathlib.Omega.{arith}
-use mathlib.Core.Bool.{Bool, true, false, not}
-use mathlib.Core.List.{List, [], _∷_}
+use mathlib.Core.Bool.{Bool, false}
+use mathlib.Core.List.{List, [], _∷_, _++_}
 use lib.Dec.{ltb}
 use lib.ListN.{length}
 use borrow.Author.Tests.{lt-ltb, le-ltb, ltb-false}
 use Rattle.base.specs.Limits.{maxDepth, maxChallenges}
 use Rattle.refusal.specs.declared.Refusal.{Refusal}
-use Rattle.refusal.specs.declared.Refusal.the-variants.{Depth, Count, LeafPosition, BytesEnd, BytesLeft}
-use Rattle.refusal.specs.declared.Outcome.the-variants.{Done, Refused}
-use Rattle.refusal.specs.Row.{firstOf, outside}
-use Rattle.refusal.proofs.RowLaws.{NoneHolds, none-holds}
-use Rattle.ways.specs.Planning.{every, isLeaf}
+use Rattle.refusal.specs.Number.{numberOf}
+use Rattle.refusal.specs.Row.{firstOf, isDone}
+use Rattle.refusal.proofs.RowLaws.{NoneHolds, none-holds, row-refused, row-passed, not-done}
 use Rattle.opening.specs.Rows.{openingSize}
 use Rattle.verify.proofs.Ranges.{range-of}
 use Rattle.chain.specs.Place.{leavesRow}
-use Rattle.chain.proofs.Rows.{passed}
+use Rattle.chain.proofs.Rows.{leavesChecks, passed}
 use Rattle.compare.specs.Comparison.{compareRow, compared, firstDisagreement}
 use Rattle.compare.specs.declared.Pair.the-variants.{Agree}
 use Rattle.compare.specs.Table.{Sized}
 
--- a row refused by its first checks
-row-refused : (a b d s u : Bool) (r : Refusal) → firstOf ((a, Depth) ∷ (b, Count) ∷ (d, LeafPosition) ∷ []) ≡ Refused r
-    → firstOf ((a, Depth) ∷ (b, Count) ∷ (d, LeafPosition) ∷ (s, BytesEnd) ∷ (u, BytesLeft) ∷ []) ≡ Refused r
-row-refused true b d s u r e = e
-row-refused false true d s u r e = e
-row-refused false false true s u r e = e
-row-refused false false false s u r e = cc
+-- the checks that follow those of planning
+abbrev sizeChecks : ℕ → List ℕ → ℕ → List (Bool × ℕ)
+sizeChecks n leaves size = (ltb size (length leaves * openingSize n), 10) ∷ (ltb (length leaves * openingSize n) size, 13) ∷ []
 
 module _ (n : ℕ) (leaves : List ℕ) (size : ℕ) where
-  pub leaves-refused : (r : Refusal) → Refused r ≡ leavesRow n leaves → Refused r ≡ compareRow n leaves size
+  pub leaves-refused : (r : Refusal) → numberOf r ≡ leavesRow n leaves → numberOf r ≡ compareRow n leaves size
   unfolding leavesRow compareRow
-  leaves-refused r e =
-      sym
-      (row-refused
-      (outside 1 maxDepth n)
-      (outside 1 maxChallenges (length leaves))
-      (not (every (isLeaf n) leaves))
-      (ltb size (length leaves * openingSize n))
-      (ltb (length leaves * openingSize n) size)
-      r
-      (sym e))
+  leaves-refused r e = e ∙ sym (row-refused (leavesChecks n leaves) (sizeChecks n leaves size) (not-done r (leavesRow n leaves) e))
 
-  module _ (done : leavesRow n leaves ≡ Done) where
+  module _ (done : leavesRow n leaves ≡ 0) where
     pub depth-known : (1 ≤ n) × (n ≤ maxDepth)
     depth-known = range-of 1 maxDepth n (passed n leaves done .0)
 
     pub count-known : (1 ≤ length leaves) × (length leaves ≤ maxChallenges)
-    count-known = range-of 1 maxChallenges (length leaves) (passed n leaves done .1)
+    count-known = range-of 1 maxChallenges (length leaves) (passed n leaves done .1 .0)
 
     -- the size of all openings
     pub all-fit : length leaves * openingSize n ≤ 262400
     all-fit = omega (arith, depth-known, mul-le-mul-right {m = length leaves} {n = 200} (openingSize n) (count-known .1))
 
-    pub size-short : size < length leaves * openingSize n → Refused BytesEnd ≡ compareRow n leaves size
+    size-check : compareRow n leaves size ≡ firstOf (sizeChecks n leaves size)
     unfolding compareRow
-    size-short h = simp (passed n leaves done .0, passed n leaves done .1, passed n leaves done .2, lt-ltb size (length leaves * openingSize n) h)
+    size-check = row-passed (leavesChecks n leaves) (sizeChecks n leaves size) (passed n leaves done)
+
+    pub size-short : size < length leaves * openingSize n → 10 ≡ compareRow n leaves size
+    size-short h = sym (size-check ∙ rw (lt-ltb size (length leaves * openingSize n) h))
 
     module _ (enough : length leaves * openingSize n ≤ size) where
-      pub size-long : length leaves * openingSize n < size → Refused BytesLeft ≡ compareRow n leaves size
-      unfolding compareRow
-      size-long h =
-          simp (
-            passed n leaves done .0,
-            passed n leaves done .1,
-            passed n leaves done .2,
-            le-ltb size (length leaves * openingSize n) enough,
-            lt-ltb (length leaves * openingSize n) size h,
-          )
+      pub size-long : length leaves * openingSize n < size → 13 ≡ compareRow n leaves size
+      size-long h = sym (size-check ∙ rw (le-ltb size (length leaves * openingSize n) enough, lt-ltb (length leaves * openingSize n) size h))
 
-      pub size-right : size ≤ length leaves * openingSize n → Done ≡ compareRow n leaves size
-      unfolding compareRow
-      size-right h =
-          simp (
-            passed n leaves done .0,
-            passed n leaves done .1,
-            passed n leaves done .2,
-            le-ltb size (length leaves * openingSize n) enough,
-            le-ltb (length leaves * openingSize n) size h,
-          )
+      pub size-right : size ≤ length leaves * openingSize n → 0 ≡ compareRow n leaves size
+      size-right h = sym (size-check ∙ rw (le-ltb size (length leaves * openingSize n) enough, le-ltb (length leaves * openingSize n) size h))
 
 -- what is left when none refuses
-module _ (n : ℕ) (leaves openings : List ℕ) (done : compareRow n leaves (length openings) ≡ Done) where
-  abbrev allChecks : List (Bool × Refusal)
-  allChecks =
-      (outside 1 maxDepth n, Depth)
-      ∷ (outside 1 maxChallenges (length leaves), Count)
-      ∷ (not (every (isLeaf n) leaves), LeafPosition)
-      ∷ (ltb (length openings) (length leaves * openingSize n), BytesEnd)
-      ∷ (ltb (length leaves * openingSize n) (length openings), BytesLeft)
-      ∷ []
-
-  all-passed : NoneHolds allChecks
+module _ (n : ℕ) (leaves openings : List ℕ) (done : compareRow n leaves (length openings) ≡ 0) where
+  all-passed : NoneHolds (leavesChecks n leaves ++ sizeChecks n leaves (length openings))
   unfolding compareRow
-  all-passed = none-holds allChecks done
+  all-passed = none-holds (leavesChecks n leaves ++ sizeChecks n leaves (length openings)) refl done
 
   pub sized : Sized n leaves openings
   sized =
@@ -112,12 +75,12 @@ module _ (n : ℕ) (leaves openings : List ℕ) (done : compareRow n leaves (len
       }
 
 -- what is compared
-pub compared-done : (statement : List ℕ) (n : ℕ) (leaves openings : List ℕ) → compareRow n leaves (length openings) ≡ Done
+pub compared-done : (statement : List ℕ) (n : ℕ) (leaves openings : List ℕ) → compareRow n leaves (length openings) ≡ 0
     → compared statement n leaves openings ≡ firstDisagreement statement n leaves openings
 unfolding compared
 compared-done statement n leaves openings e = rw e
 
-pub compared-refused : (statement : List ℕ) (n : ℕ) (leaves openings : List ℕ) (r : Refusal) → compareRow n leaves (length openings) ≡ Refused r
+pub compared-refused : (statement : List ℕ) (n : ℕ) (leaves openings : List ℕ) → isDone (compareRow n leaves (length openings)) ≡ false
     → compared statement n leaves openings ≡ Agree
 unfolding compared
-compared-refused statement n leaves openings r e = rw e
+compared-refused statement n leaves openings e = rw e

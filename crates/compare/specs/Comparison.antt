@@ -7,8 +7,6 @@ use lib.ListN.{length, getD, take, drop}
 use Rattle.base.specs.Choice.{pick}
 use Rattle.base.specs.Bytes.{zeros}
 use Rattle.base.specs.Limits.{maxDepth, maxChallenges}
-use Rattle.refusal.specs.declared.Refusal.the-variants.{Depth, Count, LeafPosition, BytesEnd, BytesLeft}
-use Rattle.refusal.specs.declared.Outcome.{Outcome}
 use Rattle.refusal.specs.Row.{firstOf, outside, isDone}
 use Rattle.tree.specs.Labels.{Rule}
 use Rattle.tree.specs.Openings.{Given, inputAt}
@@ -52,14 +50,14 @@ secondInput statement n leaves openings Agree = zeros 105
 secondInput statement n leaves openings (Disagree i j l) = inputOf statement n leaves openings j l
 
 -- The comparison's checks, of which document 01 has no row: those of planning (1, 8, 6), then 10: bytes too few; 13: too many.
-unfoldable pub compareRow : ℕ → List ℕ → ℕ → Outcome
+unfoldable pub compareRow : ℕ → List ℕ → ℕ → ℕ
 compareRow n leaves size =
     firstOf
-    ((outside 1 maxDepth n, Depth)
-    ∷ (outside 1 maxChallenges (length leaves), Count)
-    ∷ (not (every (isLeaf n) leaves), LeafPosition)
-    ∷ (ltb size (length leaves * openingSize n), BytesEnd)
-    ∷ (ltb (length leaves * openingSize n) size, BytesLeft)
+    ((outside 1 maxDepth n, 1)
+    ∷ (outside 1 maxChallenges (length leaves), 8)
+    ∷ (not (every (isLeaf n) leaves), 6)
+    ∷ (ltb size (length leaves * openingSize n), 10)
+    ∷ (ltb (length leaves * openingSize n) size, 13)
     ∷ []
     )
 

@@ -1,7 +1,7 @@
 // The comparison: the checks, then the table, then the first pair.
 ghost use mathlib.Core.Path.{_≡_};
 ghost use lib.ListN.{length};
-ghost use Rattle.refusal.specs.declared.Outcome.the-variants.{Done};
+ghost use Rattle.refusal.specs.Number.{outcomeNumber};
 ghost use Rattle.compare.specs.Comparison.{compareRow, compared, firstDisagreement, firstInput, secondInput};
 use crate::Compared;
 use crate::Pair;
@@ -15,7 +15,7 @@ use refusal::Refusal;
 
 // The checks: those of planning, then the size.
 fn check(depth: u64, leaves: &[u64], size: usize) -> Outcome
-    ensures { λ r. ⌜ r ≡ compareRow depth (now (leaves .entry)) size ⌝ }
+    ensures { λ r. ⌜ outcomeNumber r ≡ compareRow depth (now (leaves .entry)) size ⌝ }
 {
     let checked = check_leaves(depth, leaves);
     match checked {
@@ -34,8 +34,8 @@ fn check(depth: u64, leaves: &[u64], size: usize) -> Outcome
 
 // The comparison of openings that passed the checks.
 fn compare_all(statement: [u8; 32], depth: u64, leaves: &[u64], openings: &[u8]) -> Compared
-    requires { ⌜ compareRow depth (now leaves) (length (now openings)) ≡ Done ⌝ }
-    ensures { λ r. ⌜ r .outcome ≡ Done ⌝ }
+    requires { ⌜ compareRow depth (now leaves) (length (now openings)) ≡ 0 ⌝ }
+    ensures { λ r. ⌜ outcomeNumber (r .outcome) ≡ 0 ⌝ }
     ensures { λ r. ⌜ r .pair ≡ firstDisagreement statement depth (now (leaves .entry)) (now (openings .entry)) ⌝ }
     ensures { λ r. ⌜ r .first ≡ firstInput statement depth (now (leaves .entry)) (now (openings .entry)) (firstDisagreement statement depth (now (leaves .entry)) (now (openings .entry))) ⌝ }
     ensures { λ r. ⌜ r .second ≡ secondInput statement depth (now (leaves .entry)) (now (openings .entry)) (firstDisagreement statement depth (now (leaves .entry)) (now (openings .entry))) ⌝ }
@@ -69,7 +69,7 @@ fn compare_all(statement: [u8; 32], depth: u64, leaves: &[u64], openings: &[u8])
 
 // Compares openings, given one after the other, with their leaves. They need not be right.
 pub fn compare(statement: [u8; 32], depth: u64, leaves: &[u64], openings: &[u8]) -> Compared
-    ensures { λ r. ⌜ r .outcome ≡ compareRow depth (now (leaves .entry)) (length (now (openings .entry))) ⌝ }
+    ensures { λ r. ⌜ outcomeNumber (r .outcome) ≡ compareRow depth (now (leaves .entry)) (length (now (openings .entry))) ⌝ }
     ensures { λ r. ⌜ r .pair ≡ compared statement depth (now (leaves .entry)) (now (openings .entry)) ⌝ }
     ensures { λ r. ⌜ r .first ≡ firstInput statement depth (now (leaves .entry)) (now (openings .entry)) (compared statement depth (now (leaves .entry)) (now (openings .entry))) ⌝ }
     ensures { λ r. ⌜ r .second ≡ secondInput statement depth (now (leaves .entry)) (now (openings .entry)) (compared statement depth (now (leaves .entry)) (now (openings .entry))) ⌝ }

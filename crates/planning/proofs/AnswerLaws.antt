@@ -2,7 +2,7 @@
 use mathlib.Core.Path.{_≡_, refl, sym, ap, _∙_}
 use Prim.Native.Nat.{ℕ, zero, suc, _+_, _*_, _^_, _≤_, _<_}
 use native.Mathlib.Omega.{arith}
-use mathlib.Core.Bool.{Bool, true, false, not}
+use mathlib.Core.Bool.{Bool}
 use mathlib.Core.List.{List, [], _∷_, _++_, append-assoc, map}
 use lib.Dec.{ltb, leb}
 use lib.Pow.{pow-pos}
@@ -11,50 +11,41 @@ use lib.Seq.{take-at}
 use borrow.Author.Tests.{ltb-false, leb-true, le-leb, not-false}
 use Rattle.base.specs.Choice.{pick}
 use Rattle.base.specs.Bytes.{written}
-use Rattle.base.specs.Limits.{maxDepth, maxChallenges}
+use Rattle.base.specs.Limits.{maxChallenges}
 use Rattle.base.proofs.ChoiceLaws.{both-second}
 use Rattle.refusal.specs.declared.Refusal.{Refusal}
-use Rattle.refusal.specs.declared.Refusal.the-variants.{Depth, Count, LeafPosition, ShortList}
 use Rattle.refusal.specs.declared.Outcome.{Outcome}
 use Rattle.refusal.specs.declared.Outcome.the-variants.{Done, Refused}
-use Rattle.refusal.specs.Row.{firstOf, outside}
+use Rattle.refusal.specs.Number.{numberOf, outcomeNumber}
+use Rattle.refusal.proofs.RowLaws.{NoneHolds, none-holds, is-done, refused-number, not-done}
 use Rattle.tree.specs.Nodes.{Node, node, root}
 use Rattle.ways.specs.Ways.{chain, code, chainCodes}
 use Rattle.ways.specs.Counts.{leavesOpened}
-use Rattle.ways.specs.Planning.{every, isLeaf}
 use Rattle.ways.proofs.Once.{chain-at, same-code}
-use Rattle.refusal.specs.Number.{numberOf}
 use Rattle.chain.specs.PlanRow.{planRow, plannedCount, plannedList}
+use Rattle.chain.proofs.Rows.{leavesChecks}
 use Rattle.chain.proofs.Writing.{written-none, written-append}
 use Rattle.planning.specs.Output.{places, refusedText, headText, nodeText, nodesText, answerText, planText}
 use Rattle.planning.specs.Steps.{Wrote}
 use Rattle.planning.proofs.Laying.{then, nodes-turn, nodes-end, nodes-short, head-short}
 
-refused-done : (r : Refusal) → Refused r ≡ Done → ⊥
-refused-done r e = let z : _≡_ {A = ℕ} 0 1 = cc in omega arith
+module _ (n : ℕ) (leaves codes : List ℕ) (done : planRow n leaves places ≡ 0) (are : codes ≡ chainCodes n leaves) where
+  abbrev checks : List (Bool × ℕ)
+  checks = leavesChecks n leaves ++ (ltb places (length (chain n leaves)), 16) ∷ []
 
-four-done : (a b d s : Bool) → firstOf ((a, Depth) ∷ (b, Count) ∷ (d, LeafPosition) ∷ (s, ShortList) ∷ []) ≡ Done → (b ≡ false) × (s ≡ false)
-four-done true b d s e = absurd (refused-done Depth e)
-four-done false true d s e = absurd (refused-done Count e)
-four-done false false true s e = absurd (refused-done LeafPosition e)
-four-done false false false true e = absurd (refused-done ShortList e)
-four-done false false false false e = (refl, refl)
-
-module _ (n : ℕ) (leaves codes : List ℕ) (done : planRow n leaves places ≡ Done) (are : codes ≡ chainCodes n leaves) where
-  both-passed : (outside 1 maxChallenges (length leaves) ≡ false) × (ltb places (length (chain n leaves)) ≡ false)
+  all-passed : NoneHolds checks
   unfolding planRow
-  both-passed =
-      four-done (outside 1 maxDepth n) (outside 1 maxChallenges (length leaves)) (not (every (isLeaf n) leaves)) (ltb places (length (chain n leaves))) done
+  all-passed = none-holds checks refl done
 
   pub few-leaves : length leaves ≤ 200
-  few-leaves = leb-true (length leaves) 200 (both-second (leb 1 (length leaves)) (leb (length leaves) 200) (not-false _ (both-passed .0)))
+  few-leaves = leb-true (length leaves) 200 (both-second (leb 1 (length leaves)) (leb (length leaves) 200) (not-false _ (all-passed .1 .0)))
 
   pub codes-count : length codes ≡ length (chain n leaves)
   unfolding chainCodes
   codes-count = rw are (length-map (chain n leaves) code)
 
   pub few-codes : length codes ≤ 6855
-  few-codes = omega (arith, codes-count, ltb-false places (length (chain n leaves)) (both-passed .1))
+  few-codes = omega (arith, codes-count, ltb-false places (length (chain n leaves)) (all-passed .1 .1 .1 .0))
 
   pub different-count : (k : ℕ) → k ≡ pick (leb (length leaves) maxChallenges) (leavesOpened leaves) 0 → k ≡ leavesOpened leaves
   different-count k e = e ∙ rw (le-leb (length leaves) maxChallenges few-leaves)
@@ -92,11 +83,11 @@ unfolding headText
 head-room n k c = head-short n k c
 
 -- the head and all nodes
-pub plan-wrote : (n : ℕ) (leaves codes : List ℕ) → planRow n leaves places ≡ Done → codes ≡ chainCodes n leaves → (d e f : List ℕ) (k m q i : ℕ)
+pub plan-wrote : (n : ℕ) (leaves codes : List ℕ) → planRow n leaves places ≡ 0 → codes ≡ chainCodes n leaves → (d e f : List ℕ) (k m q i : ℕ)
     → k ≡ pick (leb (length leaves) maxChallenges) (leavesOpened leaves) 0 → Wrote d 0 (headText n k (length codes)) e m → length codes ≤ i
     → written f q (nodesText (drop i (chain n leaves))) ≡ written e m (nodesText (chain n leaves))
     → q + length (nodesText (drop i (chain n leaves))) ≡ m + length (nodesText (chain n leaves)) → 82 + 42 * 6855 ≤ length d
-    → Wrote d 0 (answerText n leaves Done) f q
+    → Wrote d 0 (answerText n leaves 0) f q
 plan-wrote n leaves codes done are d e f k m q i different w end p t room =
     let count = codes-count n leaves codes done are in
     let none = nodes-end (chain n leaves) i (omega arith) in
@@ -115,29 +106,31 @@ plan-wrote n leaves codes done are d e f k m q i different w end p t room =
     ))
 
 -- what planning into a list of 6,855 places answers
-pub done-row : (n : ℕ) (leaves : List ℕ) (o : Outcome) (list : ℕ) → list ≡ 6855 → o ≡ planRow n leaves list → o ≡ Done → planRow n leaves places ≡ Done
-done-row n leaves o list e p q = rw (← e) (sym p ∙ q)
+pub done-row : (n : ℕ) (leaves : List ℕ) (o : Outcome) (list : ℕ) → list ≡ 6855 → outcomeNumber o ≡ planRow n leaves list → o ≡ Done → planRow n leaves places ≡ 0
+done-row n leaves o list e p q = rw (← e) (is-done o (planRow n leaves list) p q)
 
-pub done-count : (n : ℕ) (leaves : List ℕ) (list count : ℕ) → list ≡ 6855 → planRow n leaves places ≡ Done → count ≡ plannedCount n leaves list
+pub done-count : (n : ℕ) (leaves : List ℕ) (list count : ℕ) → list ≡ 6855 → planRow n leaves places ≡ 0 → count ≡ plannedCount n leaves list
     → count ≡ length (chain n leaves)
 unfolding plannedCount
 done-count n leaves list count e d c = c ∙ rw (e, d)
 
-pub done-codes : (n : ℕ) (leaves list codes : List ℕ) (count : ℕ) → length list ≡ 6855 → planRow n leaves places ≡ Done
+pub done-codes : (n : ℕ) (leaves list codes : List ℕ) (count : ℕ) → length list ≡ 6855 → planRow n leaves places ≡ 0
     → count ≡ length (chain n leaves) → codes ≡ plannedList n leaves list → take count codes ≡ chainCodes n leaves
 unfolding plannedList written chainCodes
 done-codes n leaves list codes count e d c p =
     rw (p, e, d) (ap (take count) (append-assoc [] (map code (chain n leaves)) _) ∙ take-at (map code (chain n leaves)) _ count (length-map (chain n leaves) code ∙ sym c))
 
-refused-text : (n : ℕ) (leaves : List ℕ) (o : Outcome) (why : Refusal) (list k : ℕ) → list ≡ 6855 → o ≡ planRow n leaves list → o ≡ Refused why
+refused-text : (n : ℕ) (leaves : List ℕ) (o : Outcome) (why : Refusal) (list k : ℕ) → list ≡ 6855 → outcomeNumber o ≡ planRow n leaves list → o ≡ Refused why
     → k ≡ numberOf why → planText n leaves ≡ refusedText k
 unfolding planText
-refused-text n leaves o why list k a p q r = let row : planRow n leaves places ≡ Refused why = rw (← a) (sym p ∙ q) in rw (row, r)
+refused-text n leaves o why list k a p q r =
+    let row : planRow n leaves places ≡ k = rw (← a) (sym (refused-number o (planRow n leaves list) why p q) ∙ sym r) in
+    rw (row, not-done why k (sym r))
 
-pub refused-wrote : (n : ℕ) (leaves d e : List ℕ) (o : Outcome) (why : Refusal) (list k m : ℕ) → list ≡ 6855 → o ≡ planRow n leaves list → o ≡ Refused why
-    → k ≡ numberOf why → Wrote d 0 (refusedText k) e m → Wrote d 0 (planText n leaves) e m
+pub refused-wrote : (n : ℕ) (leaves d e : List ℕ) (o : Outcome) (why : Refusal) (list k m : ℕ) → list ≡ 6855 → outcomeNumber o ≡ planRow n leaves list
+    → o ≡ Refused why → k ≡ numberOf why → Wrote d 0 (refusedText k) e m → Wrote d 0 (planText n leaves) e m
 refused-wrote n leaves d e o why list k m a p q r w = rw (refused-text n leaves o why list k a p q r) w
 
-pub done-wrote : (n : ℕ) (leaves d e : List ℕ) (m : ℕ) → planRow n leaves places ≡ Done → Wrote d 0 (answerText n leaves Done) e m → Wrote d 0 (planText n leaves) e m
+pub done-wrote : (n : ℕ) (leaves d e : List ℕ) (m : ℕ) → planRow n leaves places ≡ 0 → Wrote d 0 (answerText n leaves 0) e m → Wrote d 0 (planText n leaves) e m
 unfolding planText
 done-wrote n leaves d e m a w = rw a w

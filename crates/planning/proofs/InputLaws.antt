@@ -12,8 +12,6 @@ use Rattle.base.specs.Choice.{pick, both}
 use Rattle.base.specs.Bytes.{written}
 use Rattle.base.specs.Limits.{maxDepth, maxChallenges, maxInput}
 use Rattle.base.proofs.ChoiceLaws.{both-first, both-second}
-use Rattle.refusal.specs.declared.Refusal.the-variants.{Depth, Count}
-use Rattle.refusal.specs.declared.Outcome.the-variants.{Refused}
 use Rattle.refusal.specs.Row.{either, outside}
 use Rattle.ways.specs.Planning.{every}
 use Rattle.chain.specs.PlanRow.{planRow}
@@ -63,7 +61,7 @@ too-many : (n : ℕ) (zs : List ℕ) → 200 < length zs → planText n zs ≡ p
 unfolding planText planRow
 too-many n zs h = rw (too-high 1 200 (length zs) h) (go (outside 1 maxDepth n))
   where
-    go : (d : Bool) → answerText n zs (pick d (Refused Depth) (Refused Count)) ≡ pick d (refusedText 1) (refusedText 8)
+    go : (d : Bool) → answerText n zs (pick d 1 8) ≡ pick d (refusedText 1) (refusedText 8)
     go true = refl
     go false = refl
 

@@ -1,5 +1,5 @@
 -- The list that the program lends is long enough for every input: it never prints the refusal 16.
-use mathlib.Core.Path.{_≡_, refl, ap}
+use mathlib.Core.Path.{_≡_, refl}
 use Prim.Native.Nat.{ℕ, _≤_}
 use native.Mathlib.Omega.{arith}
 use mathlib.Core.Bool.{Bool, true, false, not}
@@ -9,12 +9,7 @@ use lib.ListN.{length}
 use borrow.Author.Tests.{le-ltb, leb-true, not-false}
 use Rattle.base.specs.Limits.{maxDepth, maxChallenges}
 use Rattle.base.proofs.ChoiceLaws.{both-second, true-false}
-use Rattle.refusal.specs.declared.Refusal.{Refusal}
-use Rattle.refusal.specs.declared.Refusal.the-variants.{Depth, Count, LeafPosition, ShortList}
-use Rattle.refusal.specs.declared.Outcome.{Outcome}
-use Rattle.refusal.specs.declared.Outcome.the-variants.{Done, Refused}
 use Rattle.refusal.specs.Row.{firstOf, outside}
-use Rattle.refusal.specs.Number.{outcomeNumber}
 use Rattle.ways.specs.Ways.{chain}
 use Rattle.ways.specs.Planning.{every, isLeaf}
 use Rattle.ways.proofs.Bound.{chain-bound, leavesOpened-le}
@@ -24,17 +19,17 @@ use Rattle.planning.specs.Output.{places}
 -- a row whose last check fails only where an earlier one holds
 not-last :
     (a b d s : Bool) → (a ≡ false → b ≡ false → d ≡ false → s ≡ false)
-    → firstOf ((a, Depth) ∷ (b, Count) ∷ (d, LeafPosition) ∷ (s, ShortList) ∷ []) ≡ Refused ShortList → ⊥
-not-last true b d s h e = let z : _≡_ {A = ℕ} 1 16 = ap outcomeNumber e in omega arith
-not-last false true d s h e = let z : _≡_ {A = ℕ} 8 16 = ap outcomeNumber e in omega arith
-not-last false false true s h e = let z : _≡_ {A = ℕ} 6 16 = ap outcomeNumber e in omega arith
+    → firstOf ((a, 1) ∷ (b, 8) ∷ (d, 6) ∷ (s, 16) ∷ []) ≡ 16 → ⊥
+not-last true b d s h e = omega arith
+not-last false true d s h e = omega arith
+not-last false false true s h e = omega arith
 not-last false false false true h e = true-false true refl (h refl refl refl)
-not-last false false false false h e = let z : _≡_ {A = ℕ} 0 16 = ap outcomeNumber e in omega arith
+not-last false false false false h e = omega arith
 
 at-most : (high x : ℕ) → outside 1 high x ≡ false → x ≤ high
 at-most high x e = leb-true x high (both-second (leb 1 x) (leb x high) (not-false _ e))
 
-pub never-short : (n : ℕ) (leaves : List ℕ) → planRow n leaves places ≡ Refused ShortList → ⊥
+pub never-short : (n : ℕ) (leaves : List ℕ) → planRow n leaves places ≡ 16 → ⊥
 unfolding planRow
 never-short n leaves =
     not-last

@@ -5,9 +5,7 @@ use lib.Dec.{ltb}
 use lib.ListN.{length, getD, drop}
 use Rattle.base.specs.Choice.{pick}
 use Rattle.base.specs.Bytes.{joined}
-use Rattle.refusal.specs.declared.Outcome.{Outcome}
-use Rattle.refusal.specs.declared.Outcome.the-variants.{Done, Refused}
-use Rattle.refusal.specs.Number.{numberOf}
+use Rattle.refusal.specs.Row.{isDone}
 use Rattle.tree.specs.Nodes.{Node}
 use Rattle.ways.specs.Ways.{chain}
 use Rattle.ways.specs.Counts.{leavesOpened}
@@ -50,9 +48,10 @@ nodesText nodes = joined (map nodeText nodes)
 abbrev pub places : ℕ
 places = 6855
 
-abbrev pub answerText : ℕ → List ℕ → Outcome → List ℕ
-answerText n leaves (Refused why) = refusedText (numberOf why)
-answerText n leaves Done = headText n (leavesOpened leaves) (length (chain n leaves)) ++ nodesText (chain n leaves)
+-- the text of planning's answer, by its number
+abbrev pub answerText : ℕ → List ℕ → ℕ → List ℕ
+answerText n leaves number =
+    pick (isDone number) (headText n (leavesOpened leaves) (length (chain n leaves)) ++ nodesText (chain n leaves)) (refusedText number)
 
 unfoldable pub planText : ℕ → List ℕ → List ℕ
 planText n leaves = answerText n leaves (planRow n leaves places)

@@ -12,7 +12,6 @@ ghost use lib.Dec.{leb};
 ghost use lib.ListN.{length};
 ghost use Rattle.base.specs.Bytes.{written};
 ghost use Rattle.base.specs.Choice.{pick};
-ghost use Rattle.refusal.specs.declared.Outcome.the-variants.{Done};
 ghost use Rattle.ways.specs.Ways.{chainCodes};
 ghost use Rattle.chain.specs.PlanRow.{planRow};
 ghost use Rattle.planning.specs.Output.{places, maxOutput, answerText, planText, printed};
@@ -20,8 +19,8 @@ ghost use Rattle.planning.specs.Steps.{Wrote};
 
 // Lays out the head and the nodes of a plan.
 pub fn put_plan(depth: u64, leaves: &[u64], codes: &[u64], out: &mut [u8]) -> usize
-    requires { ⌜ (planRow depth (now leaves) places ≡ Done) × ((now codes ≡ chainCodes depth (now leaves)) × (maxOutput ≤ length (now out))) ⌝ }
-    ensures { λ r. ⌜ Wrote (now (out .entry)) 0 (answerText depth (now (leaves .entry)) Done) (now (out .exit)) r ⌝ }
+    requires { ⌜ (planRow depth (now leaves) places ≡ 0) × ((now codes ≡ chainCodes depth (now leaves)) × (maxOutput ≤ length (now out))) ⌝ }
+    ensures { λ r. ⌜ Wrote (now (out .entry)) 0 (answerText depth (now (leaves .entry)) 0) (now (out .exit)) r ⌝ }
 {
     let mut at = put_head(
         out,

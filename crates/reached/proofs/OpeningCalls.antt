@@ -3,7 +3,7 @@ use mathlib.Core.Path.{_≡_, refl, sym, ap, _∙_}
 use Prim.Native.Nat.{ℕ, _+_, _-_, _^_, _≤_, _<_, min}
 use native.Mathlib.Nat.{zero-add, sub-self}
 use native.Mathlib.Omega.{arith}
-use mathlib.Core.Bool.{Bool, true, false}
+use mathlib.Core.Bool.{Bool, true}
 use mathlib.Core.List.{List, [], _∷_, _++_}
 use lib.Dec.{ltb, leb}
 use lib.ListN.{length, drop}
@@ -11,12 +11,8 @@ use borrow.Author.Tests.{ltb-false, leb-true, leb-false, not-false, le-ltb, le-l
 use Rattle.base.specs.Choice.{pick, both}
 use Rattle.base.specs.Limits.{maxDepth, maxMemory}
 use Rattle.base.proofs.ChoiceLaws.{both-first, both-second}
-use Rattle.refusal.specs.declared.Refusal.{Refusal}
-use Rattle.refusal.specs.declared.Refusal.the-variants.{Depth, MemoryLevel, ShortStore, LeafPosition, ShortOutput}
 use Rattle.refusal.proofs.RowLaws.{NoneHolds, none-holds}
-use Rattle.refusal.specs.Row.{firstOf, outside}
-use Rattle.refusal.specs.declared.Outcome.{Outcome}
-use Rattle.refusal.specs.declared.Outcome.the-variants.{Done, Refused}
+use Rattle.refusal.specs.Row.{outside}
 use Rattle.tree.specs.Store.{storeSize}
 use Rattle.tree.specs.Openings.{openingNodes}
 use Rattle.run.specs.Rows.{memoryOver}
@@ -31,7 +27,7 @@ use Rattle.reached.proofs.OpeningRun.{opening-start, opening-from, open
 
 -- ---- the rows
 module _ (n m leaf store out : ℕ) where
-  pub open-fits : Openable n m leaf store out → openRow n m leaf store out ≡ Done
+  pub open-fits : Openable n m leaf store out → openRow n m leaf store out ≡ 0
   unfolding openRow
   open-fits fits =
       rw (
@@ -43,17 +39,17 @@ module _ (n m leaf store out : ℕ) where
         le-ltb out (openingSize n) (fits .outFits),
       )
 
-  pub fits-open : openRow n m leaf store out ≡ Done → Openable n m leaf store out
+  pub fits-open : openRow n m leaf store out ≡ 0 → Openable n m leaf store out
   unfolding openRow
   fits-open e =
-      let row : List (Bool × Refusal) =
-      (outside 1 maxDepth n, Depth)
-      ∷ (memoryOver n m, MemoryLevel)
-      ∷ (ltb store (storeSize m), ShortStore)
-      ∷ (leb (2 ^ n) leaf, LeafPosition)
-      ∷ (ltb out (openingSize n), ShortOutput)
+      let row : List (Bool × ℕ) =
+      (outside 1 maxDepth n, 1)
+      ∷ (memoryOver n m, 2)
+      ∷ (ltb store (storeSize m), 3)
+      ∷ (leb (2 ^ n) leaf, 6)
+      ∷ (ltb out (openingSize n), 7)
       ∷ [] in
-      let none : NoneHolds row = none-holds row e in
+      let none : NoneHolds row = none-holds row refl e in
       let depth : both (leb 1 n) (leb n maxDepth) ≡ true = not-false (both (leb 1 n) (leb n maxDepth)) (none .0) in
       record {
         depth =
@@ -67,7 +63,7 @@ module _ (n m leaf store out : ℕ) where
 module _ (o : Opening) (store out : ℕ) where
   pub reopen-fits :
       Openable (o .depth) (o .memory) (o .leaf) store out → o .made ≤ nodesAnew (o .depth) (o .memory)
-      → reopenRow o store out ≡ Done
+      → reopenRow o store out ≡ 0
   unfolding reopenRow
   reopen-fits fits few =
       rw (
@@ -102,7 +98,7 @@ module _
   -- no call is refused
   pub opening-goes-on :
       (k : ℕ) → k ≤ nodesAnew n m
-      → reopenRow (openingAfter statement n m leaf k) (length store) (length (outAfter statement n m leaf k out)) ≡ Done
+      → reopenRow (openingAfter statement n m leaf k) (length store) (length (outAfter statement n m leaf k out)) ≡ 0
   opening-goes-on k few =
       rw (length-after statement n m leaf out (fits .depth .0) memory-le (fits .outFits) k few)
       (reopen-fits (openingAfter statement n m leaf k) (length store) (length out) fits few)

@@ -1,5 +1,5 @@
 -- Document 01, 'Runs in lent memory', for every depth: what a run and its store hold after k labels, however they were made.
-use mathlib.Core.Path.{_≡_, refl, sym, ap, ap₂, _∙_}
+use mathlib.Core.Path.{_≡_, refl, sym, ap, _∙_}
 use Prim.Native.Nat.{ℕ, zero, suc, _+_, _-_, _^_, _≤_, _<_, min}
 use native.Mathlib.Nat.{zero-add, add-zero, add-suc, add-assoc, zero-min, sub-add-eq}
 use native.Mathlib.Numerals.{add-one}
@@ -9,7 +9,6 @@ use mathlib.Core.List.{List, [], _∷_, _++_}
 use lib.ListN.{length, take, drop}
 use Rattle.base.specs.Choice.{pick}
 use Rattle.base.specs.Bytes.{zeros, joined}
-use Rattle.refusal.specs.declared.Outcome.the-variants.{Done}
 use Rattle.refusal.specs.Row.{isDone}
 use Rattle.tree.specs.Nodes.{Node, root, InTree, leftSiblings}
 use Rattle.tree.specs.Walk.{nodesIn}
@@ -93,7 +92,7 @@ module _ (statement : List ℕ) (n m : ℕ) (store : List ℕ) (shallow : n ≤ 
 module _ (statement : List ℕ) (n m : ℕ) (store : List ℕ) (startable : Startable n m (length store)) where
   continue-at :
       (k : ℕ) → k ≤ nodesIn n
-      → continueRow (runAfter statement n m k) (length (storeAfter statement n m k store)) ≡ Done
+      → continueRow (runAfter statement n m k) (length (storeAfter statement n m k store)) ≡ 0
   continue-at k small =
       rw (store-length statement n m store (startable .enough) k small)
       (continue-done n m (length store) statement k startable small)
@@ -101,7 +100,7 @@ module _ (statement : List ℕ) (n m : ℕ) (store : List ℕ) (startable : Star
   -- no call of it is refused
   pub continue-reached :
       (k : ℕ) → k ≤ nodesIn n
-      → continueRow (steps k (atStart statement n m store) .run) (length (steps k (atStart statement n m store) .store)) ≡ Done
+      → continueRow (steps k (atStart statement n m store) .run) (length (steps k (atStart statement n m store) .store)) ≡ 0
   continue-reached k small = rw (run-reached statement n m store (startable .shallow) k small) (continue-at k small)
 
   -- the number of labels that a call makes and reports

@@ -1,6 +1,6 @@
 -- `planning::plan` meets its contract: refused by the first three checks, or left to the list.
 use Rattle.chain.proofs.Rows.{leaves-refused}
-use mathlib.Core.Path.{sym, _∙_}
+use Rattle.refusal.proofs.RowLaws.{is-done, refused-number}
 use borrow.Author.Needs.{needs}
 use Rattle.chain.proofs.planning.plan.Statement.{statement}
 use Rattle.chain.proofs.planning.plan.Tie as tie
@@ -15,10 +15,10 @@ enum-told : tie.Need-enum-told
 enum-told c = search needs
 
 plan-leaves-requires : tie.Need-plan-leaves-requires
-plan-leaves-requires c κs = let cl = c .before .before .before .check-leaves in sym (cl .ensures) ∙ c .before .enum-told .given .1
+plan-leaves-requires c κs = let cl = c .before .before .before .check-leaves in is-done _ _ (cl .ensures) (c .before .enum-told .given .1)
 
 returns : tie.Need-returns
-returns c = let cl = c .before .before .before .check-leaves in leaves-refused _ _ _ _ (sym (c .before .checked .given .1) ∙ cl .ensures)
+returns c = let cl = c .before .before .before .check-leaves in leaves-refused _ _ _ (c .before .checked .given .0 .0) (refused-number _ _ _ (cl .ensures) (c .before .checked .given .1))
 
 same-length : tie.Need-same-length
 same-length c = search needs

@@ -1,6 +1,6 @@
 -- `compare::whole::check` meets its contract: one law for each return.
-use mathlib.Core.Path.{_≡_, sym, _∙_}
-use Rattle.refusal.specs.declared.Outcome.the-variants.{Done}
+use mathlib.Core.Path.{_≡_}
+use Rattle.refusal.proofs.RowLaws.{is-done, refused-number}
 use Rattle.chain.specs.Place.{leavesRow}
 use Rattle.compare.proofs.Checks.{leaves-refused, depth-known, all-fit, size-short, size-long, size-right}
 use native.Mathlib.Omega.{arith}
@@ -19,16 +19,16 @@ returns c =
     let s = c .before .before .before .before .before in
     let n = s .args .depth in
     let leaves = s .args .leaves .now in
-    leaves-refused n leaves (s .args .size) _ (sym (c .before .checked .given .1) ∙
-    c .before .before .before .check-leaves .ensures)
+    leaves-refused n leaves (s .args .size) (c .before .checked .given .0 .0)
+    (refused-number _ _ _ (c .before .before .before .check-leaves .ensures) (c .before .checked .given .1))
 
 enum-told : tie.Need-enum-told
 enum-told c = search needs
 
 -- the first checks refused nothing
 passed : (c : tie.After-enum-told)
-    → leavesRow (c .before .before .before .before .args .depth) (c .before .before .before .before .args .leaves .now) ≡ Done
-passed c = sym (c .before .before .check-leaves .ensures) ∙ c .enum-told .given .1
+    → leavesRow (c .before .before .before .before .args .depth) (c .before .before .before .before .args .leaves .now) ≡ 0
+passed c = is-done _ _ (c .before .before .check-leaves .ensures) (c .enum-told .given .1)
 
 add-all : tie.Need-add-all
 add-all c =

@@ -1,5 +1,6 @@
 -- `compare::compare` meets its contract: refused, or compared.
 use mathlib.Core.Path.{sym, _∙_}
+use Rattle.refusal.proofs.RowLaws.{is-done, refused-number, not-done}
 use Rattle.compare.proofs.Checks.{compared-done, compared-refused}
 use borrow.Author.Needs.{needs}
 use Rattle.compare.proofs.whole.compare.Statement.{statement}
@@ -15,7 +16,7 @@ enum-told : tie.Need-enum-told
 enum-told c = search needs
 
 compare-all-requires : tie.Need-compare-all-requires
-compare-all-requires c κs = sym (c .before .before .check .ensures) ∙ c .enum-told .given .1
+compare-all-requires c κs = is-done _ _ (c .before .before .check .ensures) (c .enum-told .given .1)
 
 returns : tie.Need-returns
 returns c =
@@ -23,8 +24,8 @@ returns c =
     let n = s .args .depth in
     let leaves = s .args .leaves .now in
     let openings = s .args .openings .now in
-    let row = sym (c .before .checked .given .1) ∙ c .before .before .before .check .ensures in
-    let e = compared-refused (s .args .statement) n leaves openings _ (sym row) in
+    let row = refused-number _ _ _ (c .before .before .before .check .ensures) (c .before .checked .given .1) in
+    let e = compared-refused (s .args .statement) n leaves openings (not-done (c .before .checked .given .0 .0) _ row) in
     (row, (sym e, (rw e, rw e)))
 
 returns-2 : tie.Need-returns-2
@@ -33,7 +34,7 @@ returns-2 c =
     let n = s .args .depth in
     let leaves = s .args .leaves .now in
     let openings = s .args .openings .now in
-    let row = sym (c .before .before .before .check .ensures) ∙ c .before .enum-told .given .1 in
+    let row = is-done _ _ (c .before .before .before .check .ensures) (c .before .enum-told .given .1) in
     let e = compared-done (s .args .statement) n leaves openings row in
     let r = c .compare-all .ensures in
     (r .0 ∙ sym row, (r .1 .0 ∙ sym e, (rw e (r .1 .1 .0), rw e (r .1 .1 .1))))
