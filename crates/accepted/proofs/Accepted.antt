@@ -4,7 +4,6 @@ use Prim.Native.Nat.{ℕ, _<_}
 use mathlib.Core.Logic.{_↔_}
 use mathlib.Core.List.{List}
 use lib.ListN.{getD}
-use Rattle.refusal.specs.declared.Check.the-variants.{Accepted}
 use Rattle.proof.specs.FileCheck.{fileCheck}
 use Rattle.accepted.specs.IsProof.{IsProof}
 use Rattle.accepted.proofs.Soundness.{accepted-proof}
@@ -12,5 +11,5 @@ use Rattle.accepted.proofs.Completeness.{proof-accepted}
 
 pub exactly-proofs :
     (bytes statement : List ℕ) (n t : ℕ) → ((j : ℕ) → getD bytes j 0 < 256)
-    → fileCheck bytes statement n t ≡ Accepted ↔ IsProof bytes statement n t
+    → fileCheck bytes statement n t ≡ 0 ↔ IsProof bytes statement n t
 exactly-proofs bytes statement n t small = (accepted-proof bytes statement n t small, proof-accepted bytes statement n t)

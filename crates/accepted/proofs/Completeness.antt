@@ -7,14 +7,11 @@ use lib.ListN.{length}
 use borrow.Author.Tests.{le-ltb, eq-eqb}
 use Rattle.base.specs.Bytes.{joined}
 use Rattle.base.proofs.ListsLaws.{test-same, tells-bytes}
-use Rattle.refusal.specs.declared.Outcome.the-variants.{Done}
-use Rattle.refusal.specs.declared.Check.the-variants.{Accepted}
 use Rattle.tree.specs.Disagreement.{Given32}
 use Rattle.opening.specs.Rows.{openingSize}
-use Rattle.proof.specs.declared.HeadNumbers.the-variants.{Numbers}
 use Rattle.proof.specs.Challenge.{challengeLeaf}
 use Rattle.proof.specs.Layout.{headNumbers, fileSize, file}
-use Rattle.proof.specs.Head.{headOf, lengthFrom, statementAt, rootAt, openingAt}
+use Rattle.proof.specs.Head.{numbers, headOf, lengthFrom, statementAt, rootAt, openingAt}
 use Rattle.verify.specs.OpeningCheck.{givenBy}
 use Rattle.proof.specs.FileCheck.{openingsFrom, fileRest, fileCheck}
 use Rattle.accepted.specs.IsProof.{OpeningRight, nth, IsProof}
@@ -26,7 +23,7 @@ use Rattle.accepted.proofs.Openings.{rowOf, rows-accepted}
 
 rest-accepted :
     (bytes statement : List ℕ) (n t at : ℕ) → length bytes ≡ lengthFrom n t at → statementAt bytes at ≡ statement
-    → openingsFrom bytes n at 1 t ≡ Accepted → fileRest bytes statement n t (Numbers n t (record { at = at })) ≡ Accepted
+    → openingsFrom bytes n at 1 t ≡ 0 → fileRest bytes statement n t (numbers n t at) ≡ 0
 rest-accepted bytes statement n t at size same openings =
     rw (
       le-ltb (length bytes) (lengthFrom n t at) (omega arith),
@@ -39,7 +36,7 @@ rest-accepted bytes statement n t at size same openings =
 
 -- what reading a proof gives: its head's numbers, statement, root and openings, with 32 bytes a label, and right
 module _ (bytes statement : List ℕ) (n t : ℕ) (p : IsProof bytes statement n t) where
-  pub file-head : headOf bytes ≡ Numbers n t (record { at = length (headNumbers n t) })
+  pub file-head : headOf bytes ≡ numbers n t (length (headNumbers n t))
   unfolding file
   file-head = rw (p .isFile) (head-back statement (p .root) n t (p .depth) (p .count) (joined (p .openings)))
 
@@ -70,7 +67,7 @@ module _ (bytes statement : List ℕ) (n t : ℕ) (p : IsProof bytes statement n
       → OpeningRight statement n (challengeLeaf n statement (p .root) i) (p .root) (openingAt bytes n (length (headNumbers n t)) i)
   file-right i positive small = rw (file-opening i positive small) (p .allRight i positive small)
 
-  file-row : (i : ℕ) → 1 ≤ i → i < 1 + t → rowOf bytes n (length (headNumbers n t)) i ≡ Done
+  file-row : (i : ℕ) → 1 ≤ i → i < 1 + t → rowOf bytes n (length (headNumbers n t)) i ≡ 0
   file-row i positive small =
       rw (file-statement, file-root)
       (right-done
@@ -82,7 +79,7 @@ module _ (bytes statement : List ℕ) (n t : ℕ) (p : IsProof bytes statement n
       (file-right i positive (omega arith)))
 
   -- 'and always if they do and the rest is as document 01 says'
-  pub proof-accepted : fileCheck bytes statement n t ≡ Accepted
+  pub proof-accepted : fileCheck bytes statement n t ≡ 0
   unfolding fileCheck
   proof-accepted =
       rw file-head

@@ -10,50 +10,48 @@ use Rattle.base.specs.Bytes.{joined}
 use Rattle.base.specs.Limits.{maxDepth, maxChallenges}
 use Rattle.base.specs.Lists.{EachOf}
 use Rattle.base.proofs.BytesLaws.{length-joined, joined-at}
-use Rattle.groups.specs.declared.Number.the-variants.{Value}
 use Rattle.groups.specs.Groups.{groups}
-use Rattle.groups.specs.Reading.{readAt}
+use Rattle.groups.specs.Reading.{value, readAt}
 use Rattle.groups.proofs.ReadBack.{read-written}
 use Rattle.opening.specs.Rows.{openingSize}
-use Rattle.proof.specs.declared.HeadNumbers.the-variants.{Numbers}
 use Rattle.proof.specs.Layout.{edition, numberGroups, headNumbers, head, fileSize, file}
-use Rattle.proof.specs.Head.{headOf, statementAt, rootAt, openingAt}
+use Rattle.proof.specs.Head.{numbers, headOf, statementAt, rootAt, openingAt}
 use Rattle.accepted.specs.IsProof.{IsDepth, IsCount, nth}
 use Rattle.accepted.specs.Heads.{IsHead, SameHead}
 use Rattle.accepted.proofs.RowLaws.{within}
 
 -- ---- the numbers
 module _ (n t : ℕ) (depth : IsDepth n) (count : IsCount t) (rest : List ℕ) where
-  edition-back : readAt (headNumbers n t ++ rest) 0 numberGroups ≡ Value edition (record { at = length (groups numberGroups edition) })
+  edition-back : readAt (headNumbers n t ++ rest) 0 numberGroups ≡ value edition (length (groups numberGroups edition))
   unfolding headNumbers
   edition-back =
       simp append-assoc
-      (simp (append-assoc, zero-add) at (read-written 2 2 1 [] (groups 2 n ++ groups 2 t ++ rest) (omega arith) (omega arith) (omega arith)))
+      (simp (append-assoc, zero-add) at (read-written 2 2 1 [] (groups 2 n ++ groups 2 t ++ rest) (omega arith) (omega arith) (omega arith) (omega arith)))
 
   depth-back :
       readAt (headNumbers n t ++ rest) (length (groups numberGroups edition)) numberGroups ≡
-      Value n (record { at = length (groups numberGroups edition) + length (groups numberGroups n) })
+      value n (length (groups numberGroups edition) + length (groups numberGroups n))
   unfolding headNumbers
   depth-back =
       simp append-assoc
-      (simp append-assoc at (read-written 2 2 n (groups 2 1) (groups 2 t ++ rest) (omega arith) (omega arith) (omega arith)))
+      (simp append-assoc at (read-written 2 2 n (groups 2 1) (groups 2 t ++ rest) (omega arith) (omega arith) (omega arith) (omega arith)))
 
   count-back :
       readAt (headNumbers n t ++ rest) (length (groups numberGroups edition) + length (groups numberGroups n)) numberGroups ≡
-      Value t (record { at = length (headNumbers n t) })
+      value t (length (headNumbers n t))
   unfolding headNumbers
   count-back =
       simp (append-assoc, length-append)
-      (simp (append-assoc, length-append, add-assoc) at (read-written 2 2 t (groups 2 1 ++ groups 2 n) rest (omega arith) (omega arith) (omega arith)))
+      (simp (append-assoc, length-append, add-assoc) at (read-written 2 2 t (groups 2 1 ++ groups 2 n) rest (omega arith) (omega arith) (omega arith) (omega arith)))
 
-  numbers-back : headOf (headNumbers n t ++ rest) ≡ Numbers n t (record { at = length (headNumbers n t) })
+  numbers-back : headOf (headNumbers n t ++ rest) ≡ numbers n t (length (headNumbers n t))
   unfolding headOf
   numbers-back = rw (edition-back, depth-back, within 1 maxDepth n depth, count-back, within 1 maxChallenges t count)
 
 -- with the place after them, whatever follows
 pub head-back :
     (statement root : List ℕ) (n t : ℕ) → IsDepth n → IsCount t → (rest : List ℕ)
-    → headOf (head statement root n t ++ rest) ≡ Numbers n t (record { at = length (headNumbers n t) })
+    → headOf (head statement root n t ++ rest) ≡ numbers n t (length (headNumbers n t))
 unfolding head
 head-back statement root n t depth count rest = simp append-assoc (numbers-back n t depth count (statement ++ (root ++ rest)))
 
@@ -102,7 +100,7 @@ module _
         (rest rest′ : List ℕ) → head statement root n t ++ rest ≡ head statement′ root′ n′ t′ ++ rest′
         → SameHead statement root n t statement′ root′ n′ t′
     same-heads rest rest′ e =
-        let numbers : Numbers n t (record { at = length (headNumbers n t) }) ≡ Numbers n′ t′ (record { at = length (headNumbers n′ t′) }) =
+        let same-numbers : numbers n t (length (headNumbers n t)) ≡ numbers n′ t′ (length (headNumbers n′ t′)) =
         sym (head-back statement root n t (h .depth) (h .count) rest)
         ∙ ap headOf e
         ∙ head-back statement′ root′ n′ t′ (h′ .depth) (h′ .count) rest′ in

@@ -12,9 +12,6 @@ use Rattle.base.specs.Lists.{sameBytes}
 use Rattle.base.specs.Limits.{maxDepth, maxChallenges}
 use Rattle.base.proofs.ChoiceLaws.{both-first, both-second}
 use Rattle.base.proofs.ListsLaws.{test-same, tells-bytes}
-use Rattle.refusal.specs.declared.Refusal.{Refusal}
-use Rattle.refusal.specs.declared.Refusal.the-variants.{Depth, Count, ShortOutput, LeafPosition, BytesEnd, BytesLeft, LeafLabel, Root}
-use Rattle.refusal.specs.declared.Outcome.the-variants.{Done, Refused}
 use Rattle.refusal.proofs.RowLaws.{NoneHolds, none-holds}
 use Rattle.refusal.specs.Row.{firstOf, outside}
 use Rattle.tree.specs.Openings.{LeafRight, RootRight}
@@ -42,29 +39,29 @@ module _ (low high x : ℕ) where
 
 -- ---- the row 'A challenge'
 module _ (n i : ℕ) where
-  pub challenge-done : IsDepth n → IsCount i → challengeRow n i ≡ Done
+  pub challenge-done : IsDepth n → IsCount i → challengeRow n i ≡ 0
   unfolding challengeRow
   challenge-done depth count = rw (within 1 maxDepth n depth, within 1 maxChallenges i count)
 
-  pub done-challenge : challengeRow n i ≡ Done → IsDepth n × IsCount i
+  pub done-challenge : challengeRow n i ≡ 0 → IsDepth n × IsCount i
   unfolding challengeRow
   done-challenge e =
-      let row : List (Bool × Refusal) = (outside 1 maxDepth n, Depth) ∷ (outside 1 maxChallenges i, Count) ∷ [] in
-      let none : NoneHolds row = none-holds row e in
+      let row : List (Bool × ℕ) = (outside 1 maxDepth n, 1) ∷ (outside 1 maxChallenges i, 8) ∷ [] in
+      let none : NoneHolds row = none-holds row refl e in
       (bounds 1 maxDepth n (none .0), bounds 1 maxChallenges i (none .1 .0))
 
 -- ---- the row 'Writing the file's head'
 module _ (n t out : ℕ) where
-  pub head-done : IsDepth n → IsCount t → fileSize n t ≤ out → headRow n t out ≡ Done
+  pub head-done : IsDepth n → IsCount t → fileSize n t ≤ out → headRow n t out ≡ 0
   unfolding headRow
   head-done depth count fits = rw (within 1 maxDepth n depth, within 1 maxChallenges t count, le-ltb out (fileSize n t) fits)
 
-  pub done-head : headRow n t out ≡ Done → IsDepth n × IsCount t × (fileSize n t ≤ out)
+  pub done-head : headRow n t out ≡ 0 → IsDepth n × IsCount t × (fileSize n t ≤ out)
   unfolding headRow
   done-head e =
-      let row : List (Bool × Refusal) =
-      (outside 1 maxDepth n, Depth) ∷ (outside 1 maxChallenges t, Count) ∷ (ltb out (fileSize n t), ShortOutput) ∷ [] in
-      let none : NoneHolds row = none-holds row e in
+      let row : List (Bool × ℕ) =
+      (outside 1 maxDepth n, 1) ∷ (outside 1 maxChallenges t, 8) ∷ (ltb out (fileSize n t), 7) ∷ [] in
+      let none : NoneHolds row = none-holds row refl e in
       (bounds 1 maxDepth n (none .0), bounds 1 maxChallenges t (none .1 .0), ltb-false out (fileSize n t) (none .1 .1 .0))
 
 -- ---- the row 'One opening checked'
@@ -88,19 +85,19 @@ module _ (statement : List ℕ) (n leaf : ℕ) (root bytes : List ℕ) where
       → OpeningRight statement n leaf root bytes
   passes-right a b = record { leafRight = passes-same _ _ a; rootRight = passes-same _ _ b }
 
-  pub right-done : OpeningRight statement n leaf root bytes → rightRow statement n leaf root bytes ≡ Done
+  pub right-done : OpeningRight statement n leaf root bytes → rightRow statement n leaf root bytes ≡ 0
   unfolding rightRow
   right-done right = rw (leaf-passes (right .leafRight), root-passes (right .rootRight))
 
-  pub done-right : rightRow statement n leaf root bytes ≡ Done → OpeningRight statement n leaf root bytes
+  pub done-right : rightRow statement n leaf root bytes ≡ 0 → OpeningRight statement n leaf root bytes
   unfolding rightRow
   done-right e =
-      let row : List (Bool × Refusal) =
-      (leafWrong (stampRule statement) n leaf bytes, LeafLabel) ∷ (rootWrong (stampRule statement) n leaf bytes root, Root) ∷ [] in
-      let none : NoneHolds row = none-holds row e in
+      let row : List (Bool × ℕ) =
+      (leafWrong (stampRule statement) n leaf bytes, 14) ∷ (rootWrong (stampRule statement) n leaf bytes root, 15) ∷ [] in
+      let none : NoneHolds row = none-holds row refl e in
       passes-right (none .0) (none .1 .0)
 
-  pub opening-done : RightAlone statement n leaf root bytes → openingRow statement n leaf root bytes ≡ Done
+  pub opening-done : RightAlone statement n leaf root bytes → openingRow statement n leaf root bytes ≡ 0
   unfolding openingRow
   opening-done alone =
       rw (
@@ -112,18 +109,18 @@ module _ (statement : List ℕ) (n leaf : ℕ) (root bytes : List ℕ) where
         root-passes (alone .right .rootRight),
       )
 
-  pub done-opening : openingRow statement n leaf root bytes ≡ Done → RightAlone statement n leaf root bytes
+  pub done-opening : openingRow statement n leaf root bytes ≡ 0 → RightAlone statement n leaf root bytes
   unfolding openingRow
   done-opening e =
-      let row : List (Bool × Refusal) =
-      (outside 1 maxDepth n, Depth)
-      ∷ (leb (2 ^ n) leaf, LeafPosition)
-      ∷ (ltb (length bytes) (openingSize n), BytesEnd)
-      ∷ (ltb (openingSize n) (length bytes), BytesLeft)
-      ∷ (leafWrong (stampRule statement) n leaf bytes, LeafLabel)
-      ∷ (rootWrong (stampRule statement) n leaf bytes root, Root)
+      let row : List (Bool × ℕ) =
+      (outside 1 maxDepth n, 1)
+      ∷ (leb (2 ^ n) leaf, 6)
+      ∷ (ltb (length bytes) (openingSize n), 10)
+      ∷ (ltb (openingSize n) (length bytes), 13)
+      ∷ (leafWrong (stampRule statement) n leaf bytes, 14)
+      ∷ (rootWrong (stampRule statement) n leaf bytes root, 15)
       ∷ [] in
-      let none : NoneHolds row = none-holds row e in
+      let none : NoneHolds row = none-holds row refl e in
       let enough : openingSize n ≤ length bytes = ltb-false (length bytes) (openingSize n) (none .1 .1 .0) in
       let no-more : length bytes ≤ openingSize n = ltb-false (openingSize n) (length bytes) (none .1 .1 .1 .0) in
       record {

@@ -13,24 +13,16 @@ use Rattle.base.specs.Limits.{maxDepth, maxChallenges}
 use Rattle.base.specs.Lists.{EachOf, sameBytes}
 use Rattle.base.proofs.ChoiceLaws.{both-first, both-second}
 use Rattle.base.proofs.ListsLaws.{tells-bytes}
-use Rattle.refusal.specs.declared.Refusal.{Refusal}
-use Rattle.refusal.specs.declared.Refusal.the-variants.{Edition, Depth, Count, BytesEnd, BytesLeft, NotWanted}
-use Rattle.refusal.specs.declared.Outcome.the-variants.{Done}
-use Rattle.refusal.specs.declared.Check.the-variants.{Accepted, Rejected}
 use Rattle.refusal.specs.Row.{outside}
-use Rattle.groups.specs.declared.Cursor.{Cursor}
-use Rattle.groups.specs.declared.Number.{Number}
-use Rattle.groups.specs.declared.Number.the-variants.{Value, Refused}
 use Rattle.groups.specs.Groups.{groups}
 use Rattle.groups.specs.Reading.{readAt}
 use Rattle.groups.proofs.ShortestOnly.{Shortest, only-shortest}
 use Rattle.opening.specs.Rows.{openingSize}
-use Rattle.proof.specs.declared.HeadNumbers.{HeadNumbers}
-use Rattle.proof.specs.declared.HeadNumbers.the-variants.{Numbers, NotRead}
 use Rattle.proof.specs.Challenge.{challengeLeaf}
 use Rattle.proof.specs.Layout.{edition, numberGroups, headNumbers, head, file}
-use Rattle.proof.specs.Head.{checked, headOf, lengthFrom, statementAt, rootAt, openingAt}
-use Rattle.proof.specs.FileCheck.{openingsFrom, wanted, fileRest, fileCheck}
+use Rattle.proof.specs.Head.{HeadAnswer, numbers, notRead, headOf, lengthFrom, statementAt, rootAt, openingAt}
+use Rattle.proof.specs.FileCheck.{foundIn, openingsFrom, wanted, fileRest, fileCheck}
+use Rattle.proof.proofs.HeadLaws.{passed, head-number}
 use Rattle.accepted.specs.IsProof.{IsDepth, IsCount, OpeningRight, nth, IsProof}
 use Rattle.accepted.specs.Heads.{NumbersRead}
 use Rattle.accepted.proofs.RowLaws.{second-picked, bounds, done-right}
@@ -39,26 +31,6 @@ use Rattle.accepted.proofs.Reading.{opening-back}
 use Rattle.accepted.proofs.Openings.{rowOf, accepted-rows}
 
 -- ---- the head
-not-read : {A : Type 0} {r : Refusal} {n t : ℕ} {c : Cursor} → NotRead r ≡ Numbers n t c → A
-not-read e = let no : _≡_ {A = ℕ} 0 1 = cc in absurd (omega arith)
-
--- a number was read, passed its test, and what follows gave the head's numbers
-record Passed (x : Number) (bad : ℕ → Bool) (next : ℕ → ℕ → HeadNumbers) (n t : ℕ) (c : Cursor) : Type 0 where
-  pub value : ℕ
-  pub place : Cursor
-  pub read : x ≡ Value value place
-  pub good : bad value ≡ false
-  pub after : next value (place .at) ≡ Numbers n t c
-
-passed :
-    (x : Number) (bad : ℕ → Bool) (refusal : Refusal) (next : ℕ → ℕ → HeadNumbers) (n t : ℕ) (c : Cursor)
-    → checked x bad refusal next ≡ Numbers n t c → Passed x bad next n t c
-passed (Value x p) bad refusal next n t c e =
-    let h : (bad x ≡ false) × (next x (p .at) ≡ Numbers n t c) =
-    second-picked (bad x) (NotRead refusal) (next x (p .at)) (Numbers n t c) not-read e in
-    record { value = x; place = p; read = refl; good = h .0; after = h .1 }
-passed (Refused r) bad refusal next n t c e = not-read e
-
 numbers-of :
     (bytes : List ℕ) (n t a b c : ℕ) → IsDepth n → IsCount t
     → Shortest bytes 0 numberGroups edition a → Shortest bytes a numberGroups n b → Shortest bytes b numberGroups t c → NumbersRead bytes n t c
@@ -79,21 +51,21 @@ same-read bytes n t at n′ t′ at′ p q r read = rw (p, q, r) at read
 
 -- what is read as a head's numbers is their shortest form
 pub numbers-read :
-    (bytes : List ℕ) (n t : ℕ) (c : Cursor) → ((j : ℕ) → getD bytes j 0 < 256) → headOf bytes ≡ Numbers n t c → NumbersRead bytes n t (c .at)
+    (bytes : List ℕ) (n t at : ℕ) → ((j : ℕ) → getD bytes j 0 < 256) → headOf bytes ≡ numbers n t at → NumbersRead bytes n t at
 unfolding headOf
-numbers-read bytes n t c small e =
-    let p₁ = passed (readAt bytes 0 numberGroups) (λ e. not (eqb e edition)) Edition _ n t c e in
-    let p₂ = passed (readAt bytes (p₁ .place .at) numberGroups) (outside 1 maxDepth) Depth _ n t c (p₁ .after) in
-    let p₃ = passed (readAt bytes (p₂ .place .at) numberGroups) (outside 1 maxChallenges) Count _ n t c (p₂ .after) in
-    let one : p₁ .value ≡ edition = eqb-true (p₁ .value) edition (not-false (eqb (p₁ .value) edition) (p₁ .good)) in
+numbers-read bytes n t at small e =
+    let p₁ = passed (readAt bytes 0 numberGroups) (λ e. not (eqb e edition)) 12 _ n t at e in
+    let p₂ = passed (readAt bytes (p₁ .end) numberGroups) (outside 1 maxDepth) 1 _ n t at (p₁ .after) in
+    let p₃ = passed (readAt bytes (p₂ .end) numberGroups) (outside 1 maxChallenges) 8 _ n t at (p₂ .after) in
+    let one : p₁ .x ≡ edition = eqb-true (p₁ .x) edition (not-false (eqb (p₁ .x) edition) (p₁ .good)) in
     let last = p₃ .after in
-    same-read bytes (p₂ .value) (p₃ .value) (p₃ .place .at) n t (c .at) (cc) (cc) (cc)
-    (numbers-of bytes (p₂ .value) (p₃ .value) (p₁ .place .at) (p₂ .place .at) (p₃ .place .at)
-    (bounds 1 maxDepth (p₂ .value) (p₂ .good))
-    (bounds 1 maxChallenges (p₃ .value) (p₃ .good))
-    (rw one at (only-shortest bytes 0 numberGroups (p₁ .value) (p₁ .place) small (p₁ .read)))
-    (only-shortest bytes (p₁ .place .at) numberGroups (p₂ .value) (p₂ .place) small (p₂ .read))
-    (only-shortest bytes (p₂ .place .at) numberGroups (p₃ .value) (p₃ .place) small (p₃ .read)))
+    same-read bytes (p₂ .x) (p₃ .x) (p₃ .end) n t at (cc) (cc) (cc)
+    (numbers-of bytes (p₂ .x) (p₃ .x) (p₁ .end) (p₂ .end) (p₃ .end)
+    (bounds 1 maxDepth (p₂ .x) (p₂ .good))
+    (bounds 1 maxChallenges (p₃ .x) (p₃ .good))
+    (rw one at (only-shortest bytes 0 numberGroups (p₁ .x) (p₁ .end) small (p₁ .read)))
+    (only-shortest bytes (p₁ .end) numberGroups (p₂ .x) (p₂ .end) small (p₂ .read))
+    (only-shortest bytes (p₂ .end) numberGroups (p₃ .x) (p₃ .end) small (p₃ .read)))
 
 -- ---- the openings
 -- bytes of a file's length behind a head's numbers are a file
@@ -138,14 +110,14 @@ module _ (bytes : List ℕ) (n t at : ℕ) (read : NumbersRead bytes n t at) (si
       rw (← file-of, ← read .ends) at there
 
   right-at :
-      (i : ℕ) → 1 ≤ i → i ≤ t → rowOf bytes n at i ≡ Done
+      (i : ℕ) → 1 ≤ i → i ≤ t → rowOf bytes n at i ≡ 0
       → OpeningRight (statementAt bytes at) n (challengeLeaf n (statementAt bytes at) (rootAt bytes at) i) (rootAt bytes at) (nth openingsIn i)
   right-at i positive small e =
       rw (← opening-at i positive small)
       (done-right (statementAt bytes at) n (challengeLeaf n (statementAt bytes at) (rootAt bytes at) i) (rootAt bytes at) (openingAt bytes n at i) e)
 
   -- and if its openings pass, a proof of the statement in it
-  proof-of : openingsFrom bytes n at 1 t ≡ Accepted → IsProof bytes (statementAt bytes at) n t
+  proof-of : openingsFrom bytes n at 1 t ≡ 0 → IsProof bytes (statementAt bytes at) n t
   proof-of e =
       record {
         depth = read .depth;
@@ -161,21 +133,21 @@ module _ (bytes : List ℕ) (n t at : ℕ) (read : NumbersRead bytes n t at) (si
       }
 
 -- ---- the file
-not-accepted : {r : Refusal} {i : ℕ} → Rejected r i ≡ Accepted → ⊥
-not-accepted e = let no : _≡_ {A = ℕ} 0 1 = cc in omega arith
+not-accepted : (number : ℕ) → 1 ≤ number → foundIn 0 number ≡ 0 → ⊥
+not-accepted number some e = omega arith
 
 module _ (bytes statement : List ℕ) (n t : ℕ) (small : (j : ℕ) → getD bytes j 0 < 256) where
   from-numbers :
-      (n′ t′ : ℕ) (c : Cursor) → headOf bytes ≡ Numbers n′ t′ c → fileRest bytes statement n t (Numbers n′ t′ c) ≡ Accepted → IsProof bytes statement n t
-  from-numbers n′ t′ c h e =
-      let p₁ = second-picked (ltb (length bytes) (lengthFrom n′ t′ (c .at))) (Rejected BytesEnd 0) _ Accepted not-accepted e in
-      let p₂ = second-picked (ltb (lengthFrom n′ t′ (c .at)) (length bytes)) (Rejected BytesLeft 0) _ Accepted not-accepted (p₁ .1) in
-      let p₃ = second-picked (not (wanted (statementAt bytes (c .at)) n′ t′ statement n t)) (Rejected NotWanted 0) _ Accepted not-accepted (p₂ .1) in
-      let enough : lengthFrom n′ t′ (c .at) ≤ length bytes = ltb-false (length bytes) (lengthFrom n′ t′ (c .at)) (p₁ .0) in
-      let no-more : length bytes ≤ lengthFrom n′ t′ (c .at) = ltb-false (lengthFrom n′ t′ (c .at)) (length bytes) (p₂ .0) in
-      let w : wanted (statementAt bytes (c .at)) n′ t′ statement n t ≡ true = not-false (wanted (statementAt bytes (c .at)) n′ t′ statement n t) (p₃ .0) in
-      as-wanted (statementAt bytes (c .at)) n′ t′ w
-      (proof-of bytes n′ t′ (c .at) (numbers-read bytes n′ t′ c small h) (omega arith) (p₃ .1))
+      (n′ t′ at : ℕ) → headOf bytes ≡ numbers n′ t′ at → fileRest bytes statement n t (numbers n′ t′ at) ≡ 0 → IsProof bytes statement n t
+  from-numbers n′ t′ at h e =
+      let p₁ = second-picked (ltb (length bytes) (lengthFrom n′ t′ at)) (foundIn 0 10) _ 0 (not-accepted 10 (omega arith)) e in
+      let p₂ = second-picked (ltb (lengthFrom n′ t′ at) (length bytes)) (foundIn 0 13) _ 0 (not-accepted 13 (omega arith)) (p₁ .1) in
+      let p₃ = second-picked (not (wanted (statementAt bytes at) n′ t′ statement n t)) (foundIn 0 9) _ 0 (not-accepted 9 (omega arith)) (p₂ .1) in
+      let enough : lengthFrom n′ t′ at ≤ length bytes = ltb-false (length bytes) (lengthFrom n′ t′ at) (p₁ .0) in
+      let no-more : length bytes ≤ lengthFrom n′ t′ at = ltb-false (lengthFrom n′ t′ at) (length bytes) (p₂ .0) in
+      let w : wanted (statementAt bytes at) n′ t′ statement n t ≡ true = not-false (wanted (statementAt bytes at) n′ t′ statement n t) (p₃ .0) in
+      as-wanted (statementAt bytes at) n′ t′ w
+      (proof-of bytes n′ t′ at (numbers-read bytes n′ t′ at small h) (omega arith) (p₃ .1))
     where
       as-wanted : (s : List ℕ) (n′ t′ : ℕ) → wanted s n′ t′ statement n t ≡ true → IsProof bytes s n′ t′ → IsProof bytes statement n t
       as-wanted s n′ t′ w p =
@@ -186,11 +158,11 @@ module _ (bytes statement : List ℕ) (n t : ℕ) (small : (j : ℕ) → getD by
           let e₃ : t′ ≡ t = eqb-true t′ t (both-second (eqb n′ n) (eqb t′ t) numbers) in
           rw (e₁, e₂, e₃) at p
 
-  from-head : (h : HeadNumbers) → headOf bytes ≡ h → fileRest bytes statement n t h ≡ Accepted → IsProof bytes statement n t
-  from-head (Numbers n′ t′ c) h e = from-numbers n′ t′ c h e
-  from-head (NotRead r) h e = absurd (not-accepted e)
+  from-head : (h : HeadAnswer) → headOf bytes ≡ h → fileRest bytes statement n t h ≡ 0 → IsProof bytes statement n t
+  from-head (numbers n′ t′ at) h e = from-numbers n′ t′ at h e
+  from-head (notRead r) h e = absurd (not-accepted r (head-number bytes r h) e)
 
   -- 'a file is accepted only if all its openings obey the paper'
-  pub accepted-proof : fileCheck bytes statement n t ≡ Accepted → IsProof bytes statement n t
+  pub accepted-proof : fileCheck bytes statement n t ≡ 0 → IsProof bytes statement n t
   unfolding fileCheck
   accepted-proof e = from-head (headOf bytes) refl e

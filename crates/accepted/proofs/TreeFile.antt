@@ -11,7 +11,6 @@ use lib.Seq.{getD-at}
 use Rattle.base.specs.Bytes.{joined}
 use Rattle.base.specs.Lists.{EachOf}
 use Rattle.base.proofs.BytesLaws.{length-joined, joined-append, joined-at}
-use Rattle.refusal.specs.declared.Check.the-variants.{Accepted}
 use Rattle.tree.specs.Nodes.{root}
 use Rattle.tree.specs.Labels.{label}
 use Rattle.tree.specs.Openings.{siblings, openingNodes}
@@ -144,5 +143,5 @@ module _ (statement : List ℕ) (n : ℕ) where
   length-treeFile t size =
       length-file statement (rootOf statement n) n t size root-size (treeOpenings statement n t) (openings-count t) (openings-size t)
 
-  pub tree-accepted : (t : ℕ) → length statement ≡ 32 → IsDepth n → IsCount t → fileCheck (treeFile statement n t) statement n t ≡ Accepted
+  pub tree-accepted : (t : ℕ) → length statement ≡ 32 → IsDepth n → IsCount t → fileCheck (treeFile statement n t) statement n t ≡ 0
   tree-accepted t size depth count = proof-accepted (treeFile statement n t) statement n t (tree-proof t size depth count)

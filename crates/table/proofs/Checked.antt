@@ -23,6 +23,7 @@ pub table : Table
 unfolding inputSize orderBelow labellingOrder leftSiblings parents groups ended readFrom readAt headNumbers fileSize passing onSomeWay chain opened different insideEmpty largestEmpty
 table =
     record {
+      order = refl;
       t1Parents = refl;
       t1Input = refl;
       t2Parents = refl;

@@ -3,7 +3,7 @@ use mathlib.Core.Path.{_≡_}
 use Prim.Native.Nat.{ℕ, _-_, _*_, _^_}
 use mathlib.Core.List.{List, [], _∷_}
 use lib.ListN.{length}
-use Rattle.tree.specs.Nodes.{Node, node, parents}
+use Rattle.tree.specs.Nodes.{Node, node, root, labellingOrder, parents}
 use Rattle.tree.specs.Labels.{inputSize}
 use Rattle.tree.specs.Store.{slot, storeSize}
 use Rattle.groups.specs.Groups.{groups}
@@ -25,6 +25,8 @@ abbrev pub leaves12 : List ℕ
 leaves12 = 0 ∷ 1 ∷ 2 ∷ 3 ∷ 8 ∷ 9 ∷ 13 ∷ 14 ∷ 15 ∷ []
 
 pub record Table : Type 0 where
+  -- 'Labelling order .. Depth 2 in binary: 00, 01, 0, 10, 11, 1, root'
+  pub order : labellingOrder 2 ≡ node 2 0b00 ∷ node 2 0b01 ∷ node 1 0b0 ∷ node 2 0b10 ∷ node 2 0b11 ∷ node 1 0b1 ∷ root ∷ []
   -- T1 depth 4, leaf 1101: parents 0, 10, 1100; input 137 bytes
   pub t1Parents : parents 4 leaf1101 ≡ node 1 0b0 ∷ node 2 0b10 ∷ node 4 0b1100 ∷ []
   pub t1Input : inputSize 4 leaf1101 ≡ 137
