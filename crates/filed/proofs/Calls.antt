@@ -5,8 +5,6 @@ use native.Mathlib.Nat.{zero-add, sub-zero}
 use native.Mathlib.Omega.{arith}
 use mathlib.Core.List.{List, _++_}
 use lib.ListN.{length, take, drop, length-append, length-drop}
-use Rattle.refusal.specs.declared.Check.the-variants.{Accepted}
-use Rattle.refusal.specs.declared.Outcome.the-variants.{Done}
 use Rattle.opening.specs.Rows.{openingSize, nodesAnew}
 use Rattle.proof.specs.Layout.{fileSize}
 use Rattle.proof.specs.FileCheck.{fileCheck}
@@ -61,7 +59,7 @@ module _
 
     goes-on-at :
         r < nodesAnew n m + (q + 2 - t)
-        → rewriteRow (writtenAt statement n m t file q r .writing) (length store) (length (writtenAt statement n m t file q r .file)) ≡ Done
+        → rewriteRow (writtenAt statement n m t file q r .writing) (length store) (length (writtenAt statement n m t file q r .file)) ≡ 0
     unfolding writtenAt underWay
     goes-on-at small =
         rw length-at
@@ -84,7 +82,7 @@ module _
       (k : ℕ) → k ≤ labelsAnew n m t
       → rewriteRow (steps store k (newFile statement n m t store file) .writing) (length store)
       (length (steps store k (newFile statement n m t store file) .file))
-      ≡ Done
+      ≡ 0
   unfolding writtenAfter
   file-goes-on k small = rw (file-reached k small) (goes-on-at _ _ (place k small .inside) (at-place k small) (place k small .under))
 
@@ -158,6 +156,6 @@ module _
 
   pub file-carried-accepted :
       (budgets : List ℕ) → labelsAnew n m t ≤ total budgets
-      → fileCheck (take (fileSize n t) (afterCalls (advanced store) (newFile statement n m t store file) budgets .file)) statement n t ≡ Accepted
+      → fileCheck (take (fileSize n t) (afterCalls (advanced store) (newFile statement n m t store file) budgets .file)) statement n t ≡ 0
   file-carried-accepted budgets enough =
       rw (file-carried budgets enough) (front-accepted statement n t (drop (fileSize n t) file) size (fits .depth) (fits .count))

@@ -13,7 +13,6 @@ use lib.Seq.{take-at, drop-at}
 use borrow.Author.Tests.{eq-eqb, ne-eqb, lt-ltb, le-ltb}
 use Rattle.base.proofs.ChoiceLaws.{both-false}
 use Rattle.base.proofs.WrittenLaws.{written-over}
-use Rattle.refusal.specs.declared.Check.the-variants.{Accepted}
 use Rattle.groups.proofs.Steps.{lt-or-le}
 use Rattle.opening.specs.Rows.{openingSize, nodesAnew}
 use Rattle.opening.specs.Steps.{Open, copiedAll}
@@ -238,7 +237,7 @@ module _
       rw file-ended (opening-ended (t - 1) (omega arith) ∙ rw (last, laid-all statement n t, size-all n t))
 
   pub file-accepted :
-      fileCheck (take (fileSize n t) (steps store (labelsAnew n m t) (newFile statement n m t store file) .file)) statement n t ≡ Accepted
+      fileCheck (take (fileSize n t) (steps store (labelsAnew n m t) (newFile statement n m t store file) .file)) statement n t ≡ 0
   file-accepted = rw file-written (front-accepted statement n t (drop (fileSize n t) file) size (fits .depth) (fits .count))
 
 -- with all levels in the store the start alone gives the file

@@ -7,7 +7,6 @@ use mathlib.Core.List.{List, _++_}
 use lib.ListN.{length, take, drop}
 use lib.Seq.{take-at}
 use Rattle.base.specs.Bytes.{zeros}
-use Rattle.refusal.specs.declared.Check.the-variants.{Accepted}
 use Rattle.tree.specs.Nodes.{root}
 use Rattle.tree.specs.Walk.{nodesIn}
 use Rattle.run.specs.Steps as runs
@@ -81,7 +80,7 @@ module _ (statement : List ℕ) (n m : ℕ) (store : List ℕ) (startable : Star
     pub run-to-file-accepted :
         (labelling budgets : List ℕ) → nodesIn n ≤ total labelling → labelsAnew n m t ≤ total budgets
         → fileCheck (take (fileSize n t) (fileFrom (called (atStart statement n m store) labelling) statement n m t file budgets)) statement n t
-        ≡ Accepted
+        ≡ 0
     run-to-file-accepted labelling budgets all enough =
         rw (run-to-file labelling budgets all enough)
         (front-accepted statement n t (drop (fileSize n t) file) size (startable .positive, startable .shallow) count)

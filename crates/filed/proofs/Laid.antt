@@ -8,7 +8,6 @@ use mathlib.Core.List.{List, _++_, append-assoc, append-nil}
 use lib.ListN.{length, take, drop, length-append, length-drop, take-append-drop}
 use lib.Seq.{take-at, length-take-le, drop-drop}
 use Rattle.base.specs.Bytes.{joined, written}
-use Rattle.refusal.specs.declared.Check.the-variants.{Accepted}
 use Rattle.tree.specs.Nodes.{root}
 use Rattle.opening.specs.Rows.{openingSize}
 use Rattle.proof.specs.Layout.{head, headSize, openingFrom, fileSize, file}
@@ -82,6 +81,6 @@ module _ (statement : List ℕ) (n t : ℕ) where
   -- the tree's file is accepted, whatever lies behind it
   pub front-accepted :
       (rest : List ℕ) → length statement ≡ 32 → IsDepth n → IsCount t
-      → fileCheck (take (fileSize n t) (treeFile statement n t ++ rest)) statement n t ≡ Accepted
+      → fileCheck (take (fileSize n t) (treeFile statement n t ++ rest)) statement n t ≡ 0
   front-accepted rest size depth count =
       rw (take-at (treeFile statement n t) rest (fileSize n t) (length-treeFile statement n t size)) (tree-accepted statement n t size depth count)

@@ -1,15 +1,14 @@
 -- The rows of writing a file: a start is done just when its five conditions hold, and a call just when it can be continued.
 use mathlib.Core.Path.{_≡_, refl}
 use Prim.Native.Nat.{ℕ, _^_, _≤_, _<_, min}
-use mathlib.Core.Bool.{Bool, true, false}
+use mathlib.Core.Bool.{Bool, false}
 use mathlib.Core.List.{List, [], _∷_}
 use lib.Dec.{ltb}
 use lib.ListN.{length}
 use borrow.Author.Tests.{le-ltb, lt-leb}
 use Rattle.base.specs.Limits.{maxDepth, maxMemory, maxChallenges}
-use Rattle.refusal.specs.declared.Refusal.the-variants.{Depth, MemoryLevel, ShortStore, Count, ShortOutput}
-use Rattle.refusal.specs.declared.Outcome.the-variants.{Done}
-use Rattle.refusal.specs.Row.{firstOf, outside}
+use Rattle.refusal.specs.Row.{outside}
+use Rattle.refusal.proofs.RowLaws.{none-holds, NoneHolds}
 use Rattle.tree.specs.Store.{storeSize}
 use Rattle.run.specs.Rows.{memoryOver, startRow}
 use Rattle.opening.specs.Rows.{nodesAnew}
@@ -24,7 +23,7 @@ use Rattle.writing.specs.Steps.{mayFollow, newWriting, started}
 use Rattle.filed.specs.Filed.{Writable}
 
 module _ (n m t store file : ℕ) where
-  pub write-done : Writable n m t store file → writeRow n m t store file ≡ Done
+  pub write-done : Writable n m t store file → writeRow n m t store file ≡ 0
   unfolding writeRow
   write-done fits =
       rw (
@@ -36,21 +35,20 @@ module _ (n m t store file : ℕ) where
       )
 
   -- the row is that of a run's start and that of the head
-  both-done : writeRow n m t store file ≡ Done → (startRow n m store ≡ Done) × (headRow n t file ≡ Done)
+  both-done : writeRow n m t store file ≡ 0 → (startRow n m store ≡ 0) × (headRow n t file ≡ 0)
   unfolding writeRow startRow headRow
-  both-done = go (outside 1 maxDepth n) (memoryOver n m) (ltb store (storeSize m)) (outside 1 maxChallenges t) (ltb file (fileSize n t))
-    where
-      go :
-          (a b c d e : Bool)
-          → firstOf ((a, Depth) ∷ (b, MemoryLevel) ∷ (c, ShortStore) ∷ (d, Count) ∷ (e, ShortOutput) ∷ []) ≡ Done
-          → (firstOf ((a, Depth) ∷ (b, MemoryLevel) ∷ (c, ShortStore) ∷ []) ≡ Done)
-          × (firstOf ((a, Depth) ∷ (d, Count) ∷ (e, ShortOutput) ∷ []) ≡ Done)
-      go true b c d e h = (h, h)
-      go false true c d e h = (h, cc)
-      go false false true d e h = (h, cc)
-      go false false false d e h = (refl, h)
+  both-done e =
+      let row : List (Bool × ℕ) =
+      (outside 1 maxDepth n, 1)
+      ∷ (memoryOver n m, 2)
+      ∷ (ltb store (storeSize m), 3)
+      ∷ (outside 1 maxChallenges t, 8)
+      ∷ (ltb file (fileSize n t), 7)
+      ∷ [] in
+      let none : NoneHolds row = none-holds row refl e in
+      (rw (none .0, none .1 .0, none .1 .1 .0), rw (none .0, none .1 .1 .1 .0, none .1 .1 .1 .1 .0))
 
-  pub done-write : writeRow n m t store file ≡ Done → Writable n m t store file
+  pub done-write : writeRow n m t store file ≡ 0 → Writable n m t store file
   done-write e =
       let run : Startable n m store = start-bounds n m store (both-done e .0) in
       let head : IsDepth n × IsCount t × (fileSize n t ≤ file) = done-head n t file (both-done e .1) in
@@ -73,7 +71,7 @@ pub rewrite-done :
     (w : Writing) (store file : ℕ) → Writable (w .opening .depth) (w .opening .memory) (w .count) store file
     → w .opening .made ≤ nodesAnew (w .opening .depth) (w .opening .memory) → w .opening .leaf < 2 ^ (w .opening .depth)
     → (1 ≤ w .number) × (w .number ≤ w .count) → mayFollow w ≡ false
-    → rewriteRow w store file ≡ Done
+    → rewriteRow w store file ≡ 0
 unfolding rewriteRow
 rewrite-done w store file fits few inside number under =
     rw (

@@ -7,9 +7,7 @@ use borrow.Author.Tests.{ltb-false, leb-false}
 use lib.Dec.{ltb, leb}
 use lib.ListN.{length}
 use Rattle.base.specs.Limits.{maxDepth, maxMemory, maxChallenges}
-use Rattle.refusal.specs.declared.Refusal.{Refusal}
-use Rattle.refusal.specs.declared.Outcome.the-variants.{Done, Refused}
-use Rattle.refusal.specs.Row.{outside, either}
+use Rattle.refusal.specs.Row.{outside, either, isDone}
 use Rattle.run.specs.Rows.{memoryOver, impossible}
 use Rattle.run.proofs.RowLaws.{neither}
 use Rattle.opening.specs.declared.Opening.{Opening}
@@ -55,27 +53,27 @@ state-bounds w e =
 -- ---- what a start and a call give, by their answers
 module _ (statement root : List ℕ) (n m t : ℕ) (store file : List ℕ) where
   pub start-done :
-      writeRow n m t (length store) (length file) ≡ Done
+      writeRow n m t (length store) (length file) ≡ 0
       → newWriting statement root n m t store file ≡ started statement root n m t store file
   unfolding started
   start-done e = rw e
 
   pub start-refused :
-      (r : Refusal) → writeRow n m t (length store) (length file) ≡ Refused r
+      isDone (writeRow n m t (length store) (length file)) ≡ false
       → (noWriting ≡ started statement root n m t store file .writing) × (file ≡ started statement root n m t store file .file)
   unfolding started
-  start-refused r e = (rw e, rw e)
+  start-refused e = (rw e, rw e)
 
 module _ (w : Writing) (store file : List ℕ) (budget : ℕ) where
   pub labels-done :
-      rewriteRow w (length store) (length file) ≡ Done → min budget (remaining w) ≡ labelsIn store (writtenOf w file) budget
+      rewriteRow w (length store) (length file) ≡ 0 → min budget (remaining w) ≡ labelsIn store (writtenOf w file) budget
   unfolding labelsIn
   labels-done e = rw e
 
   pub labels-refused :
-      (r : Refusal) → rewriteRow w (length store) (length file) ≡ Refused r → 0 ≡ labelsIn store (writtenOf w file) budget
+      isDone (rewriteRow w (length store) (length file)) ≡ false → 0 ≡ labelsIn store (writtenOf w file) budget
   unfolding labelsIn
-  labels-refused r e = rw e
+  labels-refused e = rw e
 
   pub advanced-by :
       (k : ℕ) (w′ : Writing) (file′ : List ℕ) → k ≡ labelsIn store (writtenOf w file) budget

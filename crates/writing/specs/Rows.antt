@@ -5,8 +5,6 @@ use mathlib.Core.List.{[], _∷_}
 use lib.Dec.{ltb, leb, eqb}
 use Rattle.base.specs.Choice.{both}
 use Rattle.base.specs.Limits.{maxDepth, maxChallenges}
-use Rattle.refusal.specs.declared.Refusal.the-variants.{Depth, MemoryLevel, ShortStore, State, ShortOutput, Count}
-use Rattle.refusal.specs.declared.Outcome.{Outcome}
 use Rattle.refusal.specs.Row.{firstOf, outside, either}
 use Rattle.tree.specs.Store.{storeSize}
 use Rattle.run.specs.Rows.{memoryOver, impossible}
@@ -16,20 +14,20 @@ use Rattle.proof.specs.Layout.{fileSize}
 use Rattle.writing.specs.declared.Writing.{Writing}
 
 -- 1, 2, 3; 8: t not 1..200; 7: less than the whole file fits
-unfoldable pub writeRow : ℕ → ℕ → ℕ → ℕ → ℕ → Outcome
+unfoldable pub writeRow : ℕ → ℕ → ℕ → ℕ → ℕ → ℕ
 writeRow n m t store file =
     firstOf
-    ((outside 1 maxDepth n, Depth)
-    ∷ (memoryOver n m, MemoryLevel)
-    ∷ (ltb store (storeSize m), ShortStore)
-    ∷ (outside 1 maxChallenges t, Count)
-    ∷ (ltb file (fileSize n t), ShortOutput)
+    ((outside 1 maxDepth n, 1)
+    ∷ (memoryOver n m, 2)
+    ∷ (ltb store (storeSize m), 3)
+    ∷ (outside 1 maxChallenges t, 8)
+    ∷ (ltb file (fileSize n t), 7)
     ∷ []
     )
 
 -- 4 (also a leaf of 2^n or more, a count not 1..200, an opening's number not 1..t, or an opening done that is not the last,
 -- which no start or call leaves); 3; 7
-unfoldable pub rewriteRow : Writing → ℕ → ℕ → Outcome
+unfoldable pub rewriteRow : Writing → ℕ → ℕ → ℕ
 rewriteRow w store file =
     let o : Opening = w .opening in
     firstOf
@@ -39,9 +37,9 @@ rewriteRow w store file =
           (either (leb (2 ^ (o .depth)) (o .leaf))
           (either (outside 1 maxChallenges (w .count))
           (either (outside 1 (w .count) (w .number)) (both (eqb (o .made) (nodesAnew (o .depth) (o .memory))) (ltb (w .number) (w .count)))))),
-      State,
+      4,
     )
-    ∷ (ltb store (storeSize (o .memory)), ShortStore)
-    ∷ (ltb file (fileSize (o .depth) (w .count)), ShortOutput)
+    ∷ (ltb store (storeSize (o .memory)), 3)
+    ∷ (ltb file (fileSize (o .depth) (w .count)), 7)
     ∷ []
     )

@@ -1,5 +1,6 @@
 // What may be started and continued: the rows of writing a file, for every number.
 ghost use mathlib.Core.Path.{_≡_};
+ghost use Rattle.refusal.specs.Number.{outcomeNumber};
 ghost use Rattle.writing.specs.Rows.{writeRow, rewriteRow};
 ghost use Rattle.writing.specs.Possible.{stateOutside};
 use crate::Writing;
@@ -15,7 +16,7 @@ use run::store_short;
 use verify::beyond;
 
 pub fn may_start(depth: u64, memory: u64, count: u64, store: usize, file: usize) -> Outcome
-    ensures { λ r. ⌜ r ≡ writeRow depth memory count store file ⌝ }
+    ensures { λ r. ⌜ outcomeNumber r ≡ writeRow depth memory count store file ⌝ }
 {
     if depth_outside(depth) {
         return Outcome::Refused(Refusal::Depth);
@@ -54,7 +55,7 @@ fn state_outside(writing: Writing) -> bool
 }
 
 pub fn may_continue(writing: Writing, store: usize, file: usize) -> Outcome
-    ensures { λ r. ⌜ r ≡ rewriteRow writing store file ⌝ }
+    ensures { λ r. ⌜ outcomeNumber r ≡ rewriteRow writing store file ⌝ }
 {
     if state_outside(writing) {
         return Outcome::Refused(Refusal::State);

@@ -5,6 +5,7 @@ mod parts; // parts.rt: an opening in its part of the file
 
 ghost use mathlib.Core.Path.{_≡_};
 ghost use lib.ListN.{length};
+ghost use Rattle.refusal.specs.Number.{outcomeNumber};
 ghost use Rattle.writing.specs.Rows.{writeRow, rewriteRow};
 ghost use Rattle.writing.specs.Possible.{writtenOf};
 ghost use Rattle.writing.specs.Steps.{noWriting, started, labelsIn, advanced};
@@ -72,7 +73,7 @@ impl Writing {
         store: &[u8],
         file: &mut [u8],
     ) -> Started
-        ensures { λ r. ⌜ r .outcome ≡ writeRow depth memory count (length (now (store .entry))) (length (now (file .entry))) ⌝ }
+        ensures { λ r. ⌜ outcomeNumber (r .outcome) ≡ writeRow depth memory count (length (now (store .entry))) (length (now (file .entry))) ⌝ }
         ensures { λ r. ⌜ r .writing ≡ started statement root depth memory count (now (store .entry)) (now (file .entry)) .writing ⌝ }
         ensures { λ _. ⌜ now (file .exit) ≡ started statement root depth memory count (now (store .entry)) (now (file .entry)) .file ⌝ }
     {
@@ -91,7 +92,7 @@ impl Writing {
 
     // Makes exactly the smaller of the budget and the labels that remain, and begins the next opening when one is done.
     pub fn advance(self, budget: u64, store: &[u8], file: &mut [u8]) -> Advanced
-        ensures { λ r. ⌜ r .outcome ≡ rewriteRow self (length (now (store .entry))) (length (now (file .entry))) ⌝ }
+        ensures { λ r. ⌜ outcomeNumber (r .outcome) ≡ rewriteRow self (length (now (store .entry))) (length (now (file .entry))) ⌝ }
         ensures { λ r. ⌜ r .labels ≡ labelsIn (now (store .entry)) (writtenOf self (now (file .entry))) budget ⌝ }
         ensures { λ r. ⌜ r .writing ≡ advanced (now (store .entry)) (writtenOf self (now (file .entry))) budget .writing ⌝ }
         ensures { λ _. ⌜ now (file .exit) ≡ advanced (now (store .entry)) (writtenOf self (now (file .entry))) budget .file ⌝ }

@@ -1,20 +1,16 @@
 -- `writing::Writing::advance` meets its contract, by the answer: a writing that may be continued has its labels left.
-use mathlib.Core.Path.{_≡_, sym, ap, _∙_}
+use mathlib.Core.Path.{_≡_, refl, ap, _∙_}
 use mathlib.Core.Bool.{Bool, false}
 use mathlib.Core.List.{List, [], _∷_}
 use borrow.Author.Tests.{ltb-false}
 use lib.Dec.{ltb}
-use Rattle.refusal.specs.declared.Refusal.{Refusal}
-use Rattle.refusal.specs.declared.Refusal.the-variants.{ShortStore, State, ShortOutput}
-use Rattle.refusal.proofs.RowLaws.{NoneHolds, none-holds}
+use Rattle.refusal.proofs.RowLaws.{NoneHolds, none-holds, is-done, is-refused}
 use Rattle.tree.specs.Store.{storeSize}
 use Rattle.proof.specs.Layout.{fileSize}
 use Rattle.writing.specs.declared.Writing.{Writing}
 use Prim.Native.Nat.{ℕ, min}
 use native.Mathlib.Omega.{arith}
 use lib.ListN.{length}
-use Rattle.refusal.specs.declared.Outcome.{Outcome}
-use Rattle.refusal.specs.declared.Outcome.the-variants.{Done}
 use Rattle.writing.specs.Rows.{rewriteRow}
 use Rattle.writing.specs.Possible.{Ready, stateOutside, writtenOf}
 use Rattle.writing.specs.Steps.{mayFollow, labelsIn}
@@ -24,15 +20,15 @@ use Rattle.writing.proofs.Writing.advance.Statement.{statement}
 use Rattle.writing.proofs.Writing.advance.Tie as tie
 
 -- a writing that may be continued
-rewrite-ready : (w : Writing) (store file : ℕ) → rewriteRow w store file ≡ Done → Ready w store file × (mayFollow w ≡ false)
+rewrite-ready : (w : Writing) (store file : ℕ) → rewriteRow w store file ≡ 0 → Ready w store file × (mayFollow w ≡ false)
 unfolding rewriteRow
 rewrite-ready w store file e =
-    let row : List (Bool × Refusal) =
-    (stateOutside w, State)
-    ∷ (ltb store (storeSize (w .opening .memory)), ShortStore)
-    ∷ (ltb file (fileSize (w .opening .depth) (w .count)), ShortOutput)
+    let row : List (Bool × ℕ) =
+    (stateOutside w, 4)
+    ∷ (ltb store (storeSize (w .opening .memory)), 3)
+    ∷ (ltb file (fileSize (w .opening .depth) (w .count)), 7)
     ∷ [] in
-    let none : NoneHolds row = none-holds row e in
+    let none : NoneHolds row = none-holds row refl e in
     let known : Bounded w = state-bounds w (none .0) in (
       record {
         room =
@@ -50,12 +46,12 @@ rewrite-ready w store file e =
       known .under,
     )
 
--- the row's answer, and what is known if it is Done
-abbrev row : tie.Start → Outcome
+-- the row's answer, and what is known if it is 0
+abbrev row : tie.Start → ℕ
 row s = rewriteRow (s .args .self) (length (s .args .store .now)) (length (s .args .file .now))
 
-done : (c : tie.After-enum-told) → row (c .before .before .before .before .before) ≡ Done
-done c = sym (c .before .before .may-continue .ensures) ∙ c .enum-told .given .1
+done : (c : tie.After-enum-told) → row (c .before .before .before .before .before) ≡ 0
+done c = is-done _ _ (c .before .before .may-continue .ensures) (c .enum-told .given .1)
 
 abbrev CanGoOn : tie.Start → Type 0
 CanGoOn s = Ready (s .args .self) (length (s .args .store .now)) (length (s .args .file .now)) × (mayFollow (s .args .self) ≡ false)
@@ -102,7 +98,7 @@ returns-2 : tie.Need-returns-2
 returns-2 c =
     let m = c .before .before in
     let a = m .before .before .before .args in
-    let z = labels-refused (a .self) (a .store .now) (a .file .now) (a .budget) _ (sym (m .may-continue .ensures) ∙ c .enum-told2 .given .1) in
+    let z = labels-refused (a .self) (a .store .now) (a .file .now) (a .budget) (is-refused _ _ _ (m .may-continue .ensures) (c .enum-told2 .given .1)) in
     (m .may-continue .ensures, (z, unchanged (a .self) (a .store .now) (a .file .now) (a .budget) z))
 
 pub advance-spec : {M : Type 1} → statement M

@@ -6,20 +6,16 @@ use native.Mathlib.Omega.{arith}
 use borrow.Author.Tests.{ltb-false}
 use lib.Dec.{ltb}
 use Rattle.base.specs.Limits.{maxDepth, maxMemory, maxChallenges}
-use Rattle.refusal.specs.declared.Refusal.{Refusal}
-use Rattle.refusal.specs.declared.Refusal.the-variants.{Depth, MemoryLevel, ShortStore, Count, ShortOutput}
 use Rattle.refusal.specs.Row.{outside}
-use Rattle.refusal.proofs.RowLaws.{NoneHolds, none-holds}
+use Rattle.refusal.proofs.RowLaws.{NoneHolds, none-holds, is-done, is-refused}
 use Rattle.tree.specs.Store.{storeSize}
 use Rattle.run.specs.Rows.{memoryOver}
 use Rattle.proof.specs.Layout.{fileSize}
 use Rattle.accepted.proofs.RowLaws.{bounds}
 use Rattle.writing.specs.Possible.{Room}
 use borrow.Author.Needs.{needs}
-use mathlib.Core.Path.{_≡_, sym, ap, _∙_}
+use mathlib.Core.Path.{_≡_, refl, ap, _∙_}
 use lib.ListN.{length}
-use Rattle.refusal.specs.declared.Outcome.{Outcome}
-use Rattle.refusal.specs.declared.Outcome.the-variants.{Done}
 use Rattle.writing.specs.Rows.{writeRow}
 use Rattle.writing.specs.Steps.{Written}
 use Rattle.writing.proofs.RowLaws.{start-done, start-refused}
@@ -27,17 +23,17 @@ use Rattle.writing.proofs.Writing.start.Statement.{statement}
 use Rattle.writing.proofs.Writing.start.Tie as tie
 
 -- a start that is done has room for its first opening
-write-room : (n m t store file : ℕ) → writeRow n m t store file ≡ Done → Room n m t 1 store file
+write-room : (n m t store file : ℕ) → writeRow n m t store file ≡ 0 → Room n m t 1 store file
 unfolding writeRow
 write-room n m t store file e =
-    let row : List (Bool × Refusal) =
-    (outside 1 maxDepth n, Depth)
-    ∷ (memoryOver n m, MemoryLevel)
-    ∷ (ltb store (storeSize m), ShortStore)
-    ∷ (outside 1 maxChallenges t, Count)
-    ∷ (ltb file (fileSize n t), ShortOutput)
+    let row : List (Bool × ℕ) =
+    (outside 1 maxDepth n, 1)
+    ∷ (memoryOver n m, 2)
+    ∷ (ltb store (storeSize m), 3)
+    ∷ (outside 1 maxChallenges t, 8)
+    ∷ (ltb file (fileSize n t), 7)
     ∷ [] in
-    let none : NoneHolds row = none-holds row e in
+    let none : NoneHolds row = none-holds row refl e in
     let count : (1 ≤ t) × (t ≤ maxChallenges) = bounds 1 maxChallenges t (none .1 .1 .1 .0) in
     record {
       depth = bounds 1 maxDepth n (none .0);
@@ -49,11 +45,11 @@ write-room n m t store file e =
     }
 
 -- the row's answer
-abbrev row : tie.Start → Outcome
+abbrev row : tie.Start → ℕ
 row s = writeRow (s .args .depth) (s .args .memory) (s .args .count) (length (s .args .store .now)) (length (s .args .file .now))
 
-done : (c : tie.After-enum-told) → row (c .before .before .before .before .before) ≡ Done
-done c = sym (c .before .before .may-start .ensures) ∙ c .enum-told .given .1
+done : (c : tie.After-enum-told) → row (c .before .before .before .before .before) ≡ 0
+done c = is-done _ _ (c .before .before .may-start .ensures) (c .enum-told .given .1)
 
 may-start-requires : tie.Need-may-start-requires
 may-start-requires c κs = search needs
@@ -87,7 +83,7 @@ returns-2 : tie.Need-returns-2
 returns-2 c =
     let m = c .before .before .before in
     let a = m .before .before .before .args in
-    let (o, f) = start-refused (a .statement) (a .root) (a .depth) (a .memory) (a .count) (a .store .now) (a .file .now) _ (sym (m .may-start .ensures) ∙ c .before .enum-told2 .given .1) in
+    let (o, f) = start-refused (a .statement) (a .root) (a .depth) (a .memory) (a .count) (a .store .now) (a .file .now) (is-refused _ _ _ (m .may-start .ensures) (c .before .enum-told2 .given .1)) in
     (m .may-start .ensures, (c .no-writing .ensures ∙ o, f))
 
 pub start-spec : {M : Type 1} → statement M
