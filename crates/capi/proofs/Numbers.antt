@@ -1,11 +1,10 @@
 -- Equal drawings have the same numbers.
 use mathlib.Core.Path.{_≡_, ap}
-use Rattle.draw.specs.declared.Drawing.{Drawing}
-use Rattle.draw.specs.Drawing.{clashPair}
+use Rattle.draw.specs.Drawing.{DrawingAnswer, clashPair}
 use Rattle.capi.specs.Answers.{firstOf, secondOf, levelOf, kindOf, refusalOf, countOf}
 
 pub same-numbers :
-    (d e : Drawing) →
+    (d e : DrawingAnswer) →
     d ≡ e →
     ((kindOf d ≡ kindOf e) × ((refusalOf d ≡ refusalOf e) × (countOf d ≡ countOf e)))
     × ((firstOf (clashPair d) ≡ firstOf (clashPair e))

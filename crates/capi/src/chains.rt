@@ -1,10 +1,9 @@
 // Chains: planned and drawn, and the comparison of openings.
 ghost use mathlib.Core.Path.{_≡_};
 ghost use lib.ListN.{length};
-ghost use Rattle.refusal.specs.Number.{outcomeNumber};
 ghost use Rattle.chain.specs.PlanRow.{planRow, plannedCount, plannedList};
 ghost use Rattle.compare.specs.Comparison.{compareRow, compared, firstInput, secondInput};
-ghost use Rattle.draw.specs.Drawing.{drawingOf, drawnList, firstDrawn, secondDrawn, clashPair};
+ghost use Rattle.draw.specs.Drawing.{drawingAnswer, drawingOf, drawnList, firstDrawn, secondDrawn, clashPair};
 ghost use Rattle.capi.specs.Answers.{firstOf, secondOf, levelOf, kindOf, refusalOf, countOf};
 use compare::Pair;
 use draw::Drawing;
@@ -20,7 +19,7 @@ pub struct Planned {
 // The chain of leaves in any order, with repeats, from the list's first place on, and its count, or the refusal beside 0.
 #[no_mangle]
 pub extern "C" fn mastdock_plan(depth: u64, leaves: &[u64], list: &mut [u64]) -> Planned
-    ensures { λ r. ⌜ r .refusal ≡ outcomeNumber (planRow depth (now (leaves .entry)) (length (now (list .entry)))) ⌝ }
+    ensures { λ r. ⌜ r .refusal ≡ planRow depth (now (leaves .entry)) (length (now (list .entry))) ⌝ }
     ensures { λ r. ⌜ r .count ≡ plannedCount depth (now (leaves .entry)) (length (now (list .entry))) ⌝ }
     ensures { λ _. ⌜ now (list .exit) ≡ plannedList depth (now (leaves .entry)) (now (list .entry)) ⌝ }
 {
@@ -71,7 +70,7 @@ pub extern "C" fn mastdock_compare(
     leaves: &[u64],
     openings: &[u8],
 ) -> Compared
-    ensures { λ r. ⌜ r .refusal ≡ outcomeNumber (compareRow depth (now (leaves .entry)) (length (now (openings .entry)))) ⌝ }
+    ensures { λ r. ⌜ r .refusal ≡ compareRow depth (now (leaves .entry)) (length (now (openings .entry))) ⌝ }
     ensures { λ r. ⌜ r .i ≡ firstOf (compared (now (statement .entry)) depth (now (leaves .entry)) (now (openings .entry))) ⌝ }
     ensures { λ r. ⌜ r .j ≡ secondOf (compared (now (statement .entry)) depth (now (leaves .entry)) (now (openings .entry))) ⌝ }
     ensures { λ r. ⌜ r .level ≡ levelOf (compared (now (statement .entry)) depth (now (leaves .entry)) (now (openings .entry))) ⌝ }
@@ -106,8 +105,8 @@ struct Parts {
 }
 
 fn drawing_numbers(drawing: Drawing) -> Parts
-    ensures { λ r. ⌜ (r .kind ≡ kindOf drawing) × ((r .code ≡ refusalOf drawing) × (r .count ≡ countOf drawing)) ⌝ }
-    ensures { λ r. ⌜ (r .i ≡ firstOf (clashPair drawing)) × ((r .j ≡ secondOf (clashPair drawing)) × (r .level ≡ levelOf (clashPair drawing))) ⌝ }
+    ensures { λ r. ⌜ (r .kind ≡ kindOf (drawingAnswer drawing)) × ((r .code ≡ refusalOf (drawingAnswer drawing)) × (r .count ≡ countOf (drawingAnswer drawing))) ⌝ }
+    ensures { λ r. ⌜ (r .i ≡ firstOf (clashPair (drawingAnswer drawing))) × ((r .j ≡ secondOf (clashPair (drawingAnswer drawing))) × (r .level ≡ levelOf (clashPair (drawingAnswer drawing)))) ⌝ }
 {
     match drawing {
         Drawing::NotDrawn(why, opening) => Parts {

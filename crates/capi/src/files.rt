@@ -1,7 +1,6 @@
 // Challenges, the head, and the checks of openings and files.
 ghost use mathlib.Core.Path.{_≡_};
 ghost use lib.ListN.{length};
-ghost use Rattle.refusal.specs.Number.{outcomeNumber, codeOf};
 ghost use Rattle.verify.specs.OpeningCheck.{openingRow};
 ghost use Rattle.proof.specs.Challenge.{challengeRow, challenged};
 ghost use Rattle.proof.specs.Layout.{headRow, headWritten};
@@ -24,7 +23,7 @@ pub extern "C" fn mastdock_challenge(
     depth: u64,
     i: u64,
 ) -> Challenged
-    ensures { λ r. ⌜ r .refusal ≡ outcomeNumber (challengeRow depth i) ⌝ }
+    ensures { λ r. ⌜ r .refusal ≡ challengeRow depth i ⌝ }
     ensures { λ r. ⌜ r .leaf ≡ challenged depth (now (statement .entry)) (now (root .entry)) i ⌝ }
 {
     let c = proof::challenge(depth, *statement, *root, i);
@@ -45,7 +44,7 @@ pub extern "C" fn mastdock_write_head(
     count: u64,
     file: &mut [u8],
 ) -> u64
-    ensures { λ r. ⌜ r ≡ outcomeNumber (headRow depth count (length (now (file .entry)))) ⌝ }
+    ensures { λ r. ⌜ r ≡ headRow depth count (length (now (file .entry))) ⌝ }
     ensures { λ _. ⌜ now (file .exit) ≡ headWritten (now (statement .entry)) (now (root .entry)) depth count (now (file .entry)) ⌝ }
 {
     let outcome = proof::write_head(*statement, *root, depth, count, file);
@@ -70,7 +69,7 @@ pub extern "C" fn mastdock_check_opening(
     leaf: u64,
     opening: &[u8],
 ) -> u64
-    ensures { λ r. ⌜ r ≡ outcomeNumber (openingRow (now (statement .entry)) depth leaf (now (root .entry)) (now (opening .entry))) ⌝ }
+    ensures { λ r. ⌜ r ≡ openingRow (now (statement .entry)) depth leaf (now (root .entry)) (now (opening .entry)) ⌝ }
 {
     let outcome = verify::check_opening(*statement, depth, leaf, *root, opening);
     outcome_number(outcome)
@@ -84,7 +83,7 @@ pub extern "C" fn mastdock_check_file(
     depth: u64,
     count: u64,
 ) -> u64
-    ensures { λ r. ⌜ r ≡ codeOf (fileCheck (now (file .entry)) (now (statement .entry)) depth count) ⌝ }
+    ensures { λ r. ⌜ r ≡ fileCheck (now (file .entry)) (now (statement .entry)) depth count ⌝ }
 {
     proof::check_file_code(file, *statement, depth, count)
 }

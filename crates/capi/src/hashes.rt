@@ -1,7 +1,6 @@
 // SHA-256, in portions and in one call.
 ghost use mathlib.Core.Path.{_≡_};
-ghost use Rattle.refusal.specs.Number.{outcomeNumber};
-ghost use Rattle.sha256.specs.Portions.{newHash, updateOutcome, updateState, finishOutcome, finishDigest, digestOutcome, digestAnswer};
+ghost use Rattle.sha256.specs.Portions.{newHash, updateRow, updateState, finishRow, finishDigest, digestRow, digestAnswer};
 use refusal::outcome_number;
 use sha256::Hash;
 
@@ -35,7 +34,7 @@ pub extern "C" fn mastdock_hash_new() -> Hash
 // A portion more.
 #[no_mangle]
 pub extern "C" fn mastdock_hash_update(hash: Hash, part: &[u8]) -> HashUpdated
-    ensures { λ r. ⌜ r .refusal ≡ outcomeNumber (updateOutcome hash (now (part .entry))) ⌝ }
+    ensures { λ r. ⌜ r .refusal ≡ updateRow hash (now (part .entry)) ⌝ }
     ensures { λ r. ⌜ r .hash ≡ updateState hash (now (part .entry)) ⌝ }
 {
     let u = hash.update(part);
@@ -50,7 +49,7 @@ pub extern "C" fn mastdock_hash_update(hash: Hash, part: &[u8]) -> HashUpdated
 // The digest of what was taken; the hash is handed back as it was.
 #[no_mangle]
 pub extern "C" fn mastdock_hash_finish(hash: Hash) -> HashFinished
-    ensures { λ r. ⌜ r .refusal ≡ outcomeNumber (finishOutcome hash) ⌝ }
+    ensures { λ r. ⌜ r .refusal ≡ finishRow hash ⌝ }
     ensures { λ r. ⌜ r .digest ≡ finishDigest hash ⌝ }
     ensures { λ r. ⌜ r .hash ≡ hash ⌝ }
 {
@@ -68,7 +67,7 @@ pub extern "C" fn mastdock_hash_finish(hash: Hash) -> HashFinished
 // The digest of a message in one call.
 #[no_mangle]
 pub extern "C" fn mastdock_digest(message: &[u8]) -> HashDigest
-    ensures { λ r. ⌜ r .refusal ≡ outcomeNumber (digestOutcome (now (message .entry))) ⌝ }
+    ensures { λ r. ⌜ r .refusal ≡ digestRow (now (message .entry)) ⌝ }
     ensures { λ r. ⌜ r .digest ≡ digestAnswer (now (message .entry)) ⌝ }
 {
     let d = sha256::digest(message);

@@ -1,7 +1,6 @@
 // Openings.
 ghost use mathlib.Core.Path.{_≡_};
 ghost use lib.ListN.{length};
-ghost use Rattle.refusal.specs.Number.{outcomeNumber};
 ghost use Rattle.opening.specs.Rows.{openRow, reopenRow};
 ghost use Rattle.opening.specs.Possible.{openOf};
 ghost use Rattle.opening.specs.Steps.{started, startedOut, labelsIn, advanced};
@@ -31,7 +30,7 @@ pub extern "C" fn mastdock_opening_start(
     store: &[u8],
     out: &mut [u8],
 ) -> OpeningStarted
-    ensures { λ r. ⌜ r .refusal ≡ outcomeNumber (openRow depth memory leaf (length (now (store .entry))) (length (now (out .entry)))) ⌝ }
+    ensures { λ r. ⌜ r .refusal ≡ openRow depth memory leaf (length (now (store .entry))) (length (now (out .entry))) ⌝ }
     ensures { λ r. ⌜ r .opening ≡ started (now (statement .entry)) depth memory leaf (length (now (store .entry))) (length (now (out .entry))) ⌝ }
     ensures { λ r. ⌜ now (out .exit) ≡ startedOut depth memory leaf (now (store .entry)) (now (out .entry)) ⌝ }
 {
@@ -52,7 +51,7 @@ pub extern "C" fn mastdock_opening_advance(
     store: &[u8],
     out: &mut [u8],
 ) -> OpeningAdvanced
-    ensures { λ r. ⌜ r .refusal ≡ outcomeNumber (reopenRow opening (length (now (store .entry))) (length (now (out .entry)))) ⌝ }
+    ensures { λ r. ⌜ r .refusal ≡ reopenRow opening (length (now (store .entry))) (length (now (out .entry))) ⌝ }
     ensures { λ r. ⌜ r .labels ≡ labelsIn (now (store .entry)) (openOf opening (now (out .entry))) budget ⌝ }
     ensures { λ r. ⌜ r .opening ≡ advanced (now (store .entry)) (openOf opening (now (out .entry))) budget .opening ⌝ }
     ensures { λ r. ⌜ now (out .exit) ≡ advanced (now (store .entry)) (openOf opening (now (out .entry))) budget .out ⌝ }

@@ -1,7 +1,6 @@
 // Runs.
 ghost use mathlib.Core.Path.{_≡_};
 ghost use lib.ListN.{length};
-ghost use Rattle.refusal.specs.Number.{outcomeNumber};
 ghost use Rattle.run.specs.Rows.{startRow, continueRow};
 ghost use Rattle.run.specs.Steps.{started, stamped, labelsIn, advanced};
 use refusal::outcome_number;
@@ -28,7 +27,7 @@ pub extern "C" fn mastdock_run_start(
     memory: u64,
     store: &[u8],
 ) -> RunStarted
-    ensures { λ r. ⌜ r .refusal ≡ outcomeNumber (startRow depth memory (length (now (store .entry)))) ⌝ }
+    ensures { λ r. ⌜ r .refusal ≡ startRow depth memory (length (now (store .entry))) ⌝ }
     ensures { λ r. ⌜ r .run ≡ started (now (statement .entry)) depth memory (length (now (store .entry))) ⌝ }
 {
     let s = Run::start(*statement, depth, memory, store);
@@ -43,7 +42,7 @@ pub extern "C" fn mastdock_run_start(
 // Labels the smaller of the budget and what remains.
 #[no_mangle]
 pub extern "C" fn mastdock_run_advance(run: Run, budget: u64, store: &mut [u8]) -> RunAdvanced
-    ensures { λ r. ⌜ r .refusal ≡ outcomeNumber (continueRow run (length (now (store .entry)))) ⌝ }
+    ensures { λ r. ⌜ r .refusal ≡ continueRow run (length (now (store .entry))) ⌝ }
     ensures { λ r. ⌜ r .labels ≡ labelsIn (stamped run (now (store .entry))) budget ⌝ }
     ensures { λ r. ⌜ r .run ≡ advanced (stamped run (now (store .entry))) budget .run ⌝ }
     ensures { λ r. ⌜ now (store .exit) ≡ advanced (stamped run (now (store .entry))) budget .store ⌝ }

@@ -1,7 +1,6 @@
 // Whole files, written by budgets.
 ghost use mathlib.Core.Path.{_≡_};
 ghost use lib.ListN.{length};
-ghost use Rattle.refusal.specs.Number.{outcomeNumber};
 ghost use Rattle.writing.specs.Rows.{writeRow, rewriteRow};
 ghost use Rattle.writing.specs.Possible.{writtenOf};
 ghost use Rattle.writing.specs.Steps.{started, labelsIn, advanced};
@@ -32,7 +31,7 @@ pub extern "C" fn mastdock_writing_start(
     store: &[u8],
     file: &mut [u8],
 ) -> WritingStarted
-    ensures { λ r. ⌜ r .refusal ≡ outcomeNumber (writeRow depth memory count (length (now (store .entry))) (length (now (file .entry)))) ⌝ }
+    ensures { λ r. ⌜ r .refusal ≡ writeRow depth memory count (length (now (store .entry))) (length (now (file .entry))) ⌝ }
     ensures { λ r. ⌜ r .writing ≡ started (now (statement .entry)) (now (root .entry)) depth memory count (now (store .entry)) (now (file .entry)) .writing ⌝ }
     ensures { λ _. ⌜ now (file .exit) ≡ started (now (statement .entry)) (now (root .entry)) depth memory count (now (store .entry)) (now (file .entry)) .file ⌝ }
 {
@@ -53,7 +52,7 @@ pub extern "C" fn mastdock_writing_advance(
     store: &[u8],
     file: &mut [u8],
 ) -> WritingAdvanced
-    ensures { λ r. ⌜ r .refusal ≡ outcomeNumber (rewriteRow writing (length (now (store .entry))) (length (now (file .entry)))) ⌝ }
+    ensures { λ r. ⌜ r .refusal ≡ rewriteRow writing (length (now (store .entry))) (length (now (file .entry))) ⌝ }
     ensures { λ r. ⌜ r .labels ≡ labelsIn (now (store .entry)) (writtenOf writing (now (file .entry))) budget ⌝ }
     ensures { λ r. ⌜ r .writing ≡ advanced (now (store .entry)) (writtenOf writing (now (file .entry))) budget .writing ⌝ }
     ensures { λ _. ⌜ now (file .exit) ≡ advanced (now (store .entry)) (writtenOf writing (now (file .entry))) budget .file ⌝ }

@@ -1,6 +1,6 @@
 -- What a drawing that gives a chain says of the file, the leaves and the list.
 use mathlib.Core.Path.{_≡_, refl, _∙_}
-use Prim.Native.Nat.{ℕ, _≤_, _<_}
+use Prim.Native.Nat.{ℕ, zero, suc, _≤_, _<_}
 use native.Mathlib.Omega.{arith}
 use mathlib.Core.Bool.{Bool, true, false}
 use mathlib.Core.List.{List}
@@ -10,60 +10,53 @@ use borrow.Author.Tests.{ltb-false}
 use Rattle.base.specs.Choice.{pick}
 use Rattle.base.specs.Bytes.{written}
 use Rattle.base.proofs.WrittenLaws.{written-here}
-use Rattle.refusal.specs.declared.Refusal.{Refusal}
-use Rattle.refusal.specs.declared.Refusal.the-variants.{ShortList}
-use Rattle.refusal.specs.declared.Outcome.the-variants.{Done}
-use Rattle.refusal.specs.declared.Check.{Check}
-use Rattle.refusal.specs.declared.Check.the-variants.{Accepted, Rejected}
-use Rattle.proof.specs.FileCheck.{fileCheck}
+use Rattle.proof.specs.FileCheck.{foundIn, fileCheck}
 use Rattle.ways.specs.Ways.{chain, chainCodes, code}
 use Rattle.chain.specs.PlanRow.{planRow}
 use Rattle.chain.proofs.Rows.{list-check}
 use Rattle.compare.specs.declared.Pair.{Pair}
 use Rattle.compare.specs.declared.Pair.the-variants.{Agree, Disagree}
-use Rattle.draw.specs.declared.Drawing.{Drawing}
-use Rattle.draw.specs.declared.Drawing.the-variants.{NotDrawn, Chain, Clash}
-use Rattle.draw.specs.Drawing.{drawnIf, drawnFrom, leavesOf, pairOf, drawingOf, drawnList}
+use Rattle.draw.specs.Drawing.{DrawingAnswer, notDrawn, drawnChain, drawnClash, drawnIf, drawnFrom, leavesOf, pairOf, drawingOf, drawnList}
 use Rattle.draw.proofs.AcceptedFile.{leaves-done}
 
-not-refused : (r : Refusal) (i c : ℕ) → NotDrawn r i ≡ Chain c → ⊥
-not-refused r i c e = let z : _≡_ {A = ℕ} 0 1 = cc in omega arith
+not-refused : (code c : ℕ) → notDrawn code ≡ drawnChain c → ⊥
+not-refused code c e = let z : _≡_ {A = ℕ} 0 1 = cc in omega arith
 
-not-clash : (i j l c : ℕ) → Clash i j l ≡ Chain c → ⊥
+not-clash : (i j l c : ℕ) → drawnClash i j l ≡ drawnChain c → ⊥
 not-clash i j l c e = let z : _≡_ {A = ℕ} 0 1 = cc in omega arith
 
-same-count : (c d : ℕ) → Chain c ≡ Chain d → c ≡ d
+same-count : (c d : ℕ) → drawnChain c ≡ drawnChain d → c ≡ d
 same-count c d e = cc
 
 -- all file checks passed
-check-passed : (k : Check) (d : Drawing) (c : ℕ) → drawnIf k d ≡ Chain c → (k ≡ Accepted) × (d ≡ Chain c)
-check-passed Accepted d c e = (refl, e)
-check-passed (Rejected r i) d c e = absurd (not-refused r i c e)
+check-passed : (code : ℕ) (d : DrawingAnswer) (c : ℕ) → drawnIf code d ≡ drawnChain c → (code ≡ 0) × (d ≡ drawnChain c)
+check-passed zero d c e = (refl, e)
+check-passed (suc code) d c e = absurd (not-refused (suc code) c e)
 
 -- no pair disagrees, and the list is long enough
-pair-passed : (p : Pair) (count list c : ℕ) → drawnFrom p count list ≡ Chain c → (ltb list count ≡ false) × (count ≡ c)
+pair-passed : (p : Pair) (count list c : ℕ) → drawnFrom p count list ≡ drawnChain c → (ltb list count ≡ false) × (count ≡ c)
 pair-passed (Disagree i j l) count list c e = absurd (not-clash i j l c e)
 pair-passed Agree count list c e = go (ltb list count) e
   where
-    go : (t : Bool) → pick t (NotDrawn ShortList 0) (Chain count) ≡ Chain c → (t ≡ false) × (count ≡ c)
-    go true e = absurd (not-refused ShortList 0 c e)
+    go : (t : Bool) → pick t (notDrawn (foundIn 0 16)) (drawnChain count) ≡ drawnChain c → (t ≡ false) × (count ≡ c)
+    go true e = absurd (not-refused (foundIn 0 16) c e)
     go false e = (refl, same-count count c e)
 
-module _ (bytes statement : List ℕ) (n t list c : ℕ) (drawn : drawingOf bytes statement n t list ≡ Chain c) where
-  passed : (fileCheck bytes statement n t ≡ Accepted)
-      × (drawnFrom (pairOf bytes statement n t) (length (chain n (leavesOf bytes statement n t))) list ≡ Chain c)
+module _ (bytes statement : List ℕ) (n t list c : ℕ) (drawn : drawingOf bytes statement n t list ≡ drawnChain c) where
+  passed : (fileCheck bytes statement n t ≡ 0)
+      × (drawnFrom (pairOf bytes statement n t) (length (chain n (leavesOf bytes statement n t))) list ≡ drawnChain c)
   unfolding drawingOf
   passed =
       check-passed (fileCheck bytes statement n t)
       (drawnFrom (pairOf bytes statement n t) (length (chain n (leavesOf bytes statement n t))) list) c drawn
 
-  pub file-accepted : fileCheck bytes statement n t ≡ Accepted
+  pub file-accepted : fileCheck bytes statement n t ≡ 0
   file-accepted = passed .0
 
   fitting : (ltb list (length (chain n (leavesOf bytes statement n t))) ≡ false) × (length (chain n (leavesOf bytes statement n t)) ≡ c)
   fitting = pair-passed (pairOf bytes statement n t) (length (chain n (leavesOf bytes statement n t))) list c (passed .1)
 
-  pub plan-done : ((j : ℕ) → getD bytes j 0 < 256) → (leaves : List ℕ) → leaves ≡ leavesOf bytes statement n t → planRow n leaves list ≡ Done
+  pub plan-done : ((j : ℕ) → getD bytes j 0 < 256) → (leaves : List ℕ) → leaves ≡ leavesOf bytes statement n t → planRow n leaves list ≡ 0
   plan-done small leaves e =
       list-check n leaves (leaves-done bytes statement n t small file-accepted leaves e) list ∙ rw (e, fitting .0)
 
@@ -73,7 +66,7 @@ module _ (bytes statement : List ℕ) (n t list c : ℕ) (drawn : drawingOf byte
 
 -- the codes in the list
 module _ (bytes statement : List ℕ) (n t : ℕ) (list after : List ℕ) (c : ℕ)
-    (drawn : drawingOf bytes statement n t (length list) ≡ Chain c) (is : after ≡ drawnList bytes statement n t list) where
+    (drawn : drawingOf bytes statement n t (length list) ≡ drawnChain c) (is : after ≡ drawnList bytes statement n t list) where
   over : after ≡ written list 0 (chainCodes n (leavesOf bytes statement n t))
   unfolding drawnList
   over = is ∙ rw drawn

@@ -5,8 +5,7 @@ ghost use lib.ListN.{length};
 ghost use Rattle.ways.specs.Ways.{chainCodes};
 ghost use Rattle.planning.specs.Output.{places, maxOutput, planText};
 ghost use Rattle.planning.specs.Steps.{Wrote};
-ghost use Rattle.draw.specs.declared.Drawing.the-variants.{Chain};
-ghost use Rattle.draw.specs.Drawing.{leavesOf, drawingOf};
+ghost use Rattle.draw.specs.Drawing.{drawnChain, leavesOf, drawingOf};
 
 // Lays out the chain that was drawn of a file, and answers how many bytes that takes.
 pub fn put_chain(
@@ -17,7 +16,7 @@ pub fn put_chain(
     codes: &[u64],
     out: &mut [u8],
 ) -> usize
-    requires { ⌜ (drawingOf (now file) statement depth count places ≡ Chain (length (now codes))) × (now codes ≡ chainCodes depth (leavesOf (now file) statement depth count)) × (maxOutput ≤ length (now out)) ⌝ }
+    requires { ⌜ (drawingOf (now file) statement depth count places ≡ drawnChain (length (now codes))) × (now codes ≡ chainCodes depth (leavesOf (now file) statement depth count)) × (maxOutput ≤ length (now out)) ⌝ }
     ensures { λ r. ⌜ Wrote (now (out .entry)) 0 (planText depth (leavesOf (now (file .entry)) statement depth count)) (now (out .exit)) r ⌝ }
 {
     let at = draw::numbers_end(file);

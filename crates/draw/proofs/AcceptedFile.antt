@@ -2,22 +2,26 @@
 use mathlib.Core.Path.{_≡_, refl, sym, ap, _∙_}
 use Prim.Native.Nat.{ℕ, _+_, _-_, _*_, _<_}
 use native.Mathlib.Omega.{arith}
-use mathlib.Core.Bool.{true}
+use mathlib.Core.Bool.{true, false}
 use mathlib.Core.List.{List}
 use lib.ListN.{length, getD, take, drop, length-drop}
 use lib.Seq.{take-all}
 use Rattle.base.specs.Bytes.{zeros}
 use Rattle.base.specs.Limits.{maxDepth, maxChallenges}
 use Rattle.refusal.specs.declared.Refusal.{Refusal}
-use Rattle.refusal.specs.declared.Outcome.the-variants.{Done}
-use Rattle.refusal.specs.declared.Check.the-variants.{Accepted, Rejected}
+use Rattle.refusal.specs.declared.Check.{Check}
+use Rattle.refusal.specs.declared.Check.the-variants.{Rejected}
+use Rattle.refusal.specs.Number.{numberOf, codeOf}
+use Rattle.refusal.specs.Row.{isDone}
+use Rattle.refusal.proofs.Bounds.{number-some}
+use Rattle.refusal.proofs.RowLaws.{some-refused}
 use Rattle.ways.specs.Ways.{chain}
 use Rattle.ways.specs.Planning.{every, isLeaf}
 use Rattle.opening.specs.Rows.{openingSize}
 use Rattle.verify.proofs.Ranges.{in-range}
 use Rattle.proof.specs.Layout.{headNumbers}
 use Rattle.proof.specs.Head.{headOf, lengthFrom, rootAt}
-use Rattle.proof.specs.FileCheck.{fileCheck}
+use Rattle.proof.specs.FileCheck.{foundIn, fileCheck}
 use Rattle.accepted.specs.IsProof.{IsDepth, IsCount, IsProof}
 use Rattle.accepted.proofs.Soundness.{accepted-proof}
 use Rattle.accepted.proofs.Completeness.{file-head, file-size}
@@ -26,9 +30,7 @@ use Rattle.chain.proofs.Rows.{row-done}
 use Rattle.compare.specs.declared.Pair.{Pair}
 use Rattle.compare.specs.Comparison.{compared, firstInput, secondInput}
 use Rattle.compare.proofs.Checks.{size-right, compared-done}
-use Rattle.draw.specs.declared.Drawing.{Drawing}
-use Rattle.draw.specs.declared.Drawing.the-variants.{NotDrawn}
-use Rattle.draw.specs.Drawing.{leavesFrom, numbersEnd, leavesOf, openingsOf, pairOf, drawnFrom, drawingOf, drawnList, clashPair, firstDrawn, secondDrawn}
+use Rattle.draw.specs.Drawing.{DrawingAnswer, notDrawn, leavesFrom, numbersEnd, leavesOf, openingsOf, pairOf, drawnFrom, drawingOf, drawnList, clashPair, firstDrawn, secondDrawn}
 use Rattle.draw.proofs.LeavesOpened.{length-leaves, leaves-inside}
 use Rattle.draw.proofs.Chains.{DrawnFrom, clash-pair}
 
@@ -37,18 +39,22 @@ pub rest-of : (bytes : List ℕ) (start : ℕ) → take (length bytes - start) (
 rest-of bytes start = take-all (length bytes - start) (drop start bytes) (rw length-drop (omega arith))
 
 -- the answer and the list afterwards
-abbrev pub Answers : List ℕ → List ℕ → ℕ → ℕ → List ℕ → Drawing → List ℕ → List ℕ → List ℕ → Type 0
+abbrev pub Answers : List ℕ → List ℕ → ℕ → ℕ → List ℕ → DrawingAnswer → List ℕ → List ℕ → List ℕ → Type 0
 Answers bytes statement n t list drawing after first second =
     (drawing ≡ drawingOf bytes statement n t (length list))
     × ((after ≡ drawnList bytes statement n t list)
     × ((first ≡ firstDrawn bytes statement n t (length list)) × (second ≡ secondDrawn bytes statement n t (length list))))
 
-pub file-refused : (bytes statement : List ℕ) (n t : ℕ) (list : List ℕ) (r : Refusal) (i : ℕ) → fileCheck bytes statement n t ≡ Rejected r i
-    → Answers bytes statement n t list (NotDrawn r i) list (zeros 105) (zeros 105)
+pub file-refused : (bytes statement : List ℕ) (n t : ℕ) (list : List ℕ) (checked : Check) (r : Refusal) (i : ℕ)
+    → codeOf checked ≡ fileCheck bytes statement n t → checked ≡ Rejected r i
+    → Answers bytes statement n t list (notDrawn (foundIn i (numberOf r))) list (zeros 105) (zeros 105)
 unfolding drawingOf drawnList firstDrawn secondDrawn
-file-refused bytes statement n t list r i e = (rw e, (rw e, (rw e, rw e)))
+file-refused bytes statement n t list checked r i e told =
+    let code : fileCheck bytes statement n t ≡ foundIn i (numberOf r) = sym e ∙ ap codeOf told in
+    let no : isDone (foundIn i (numberOf r)) ≡ false = some-refused (foundIn i (numberOf r)) (omega (arith, number-some r)) in
+    (rw (code, no), (rw (code, no), (rw (code, no), rw (code, no))))
 
-module _ (bytes statement : List ℕ) (n t : ℕ) (small : (j : ℕ) → getD bytes j 0 < 256) (ok : fileCheck bytes statement n t ≡ Accepted) where
+module _ (bytes statement : List ℕ) (n t : ℕ) (small : (j : ℕ) → getD bytes j 0 < 256) (ok : fileCheck bytes statement n t ≡ 0) where
   isProof : IsProof bytes statement n t
   isProof = accepted-proof bytes statement n t small ok
 
@@ -82,13 +88,13 @@ module _ (bytes statement : List ℕ) (n t : ℕ) (small : (j : ℕ) → getD by
   unfolding leavesOf
   all-leaves = leaves-inside n statement (rootAt bytes (numbersEnd (headOf bytes))) (depth-known .1) 1 t
 
-  leaves-row : leavesRow n (leavesOf bytes statement n t) ≡ Done
+  leaves-row : leavesRow n (leavesOf bytes statement n t) ≡ 0
   leaves-row =
       sym
       (row-done n (leavesOf bytes statement n t) (in-range 1 maxDepth n (depth-known .0) (depth-known .1))
       (rw leaves-count (in-range 1 maxChallenges t (count-known .0) (count-known .1))) all-leaves)
 
-  pub leaves-done : (leaves : List ℕ) → leaves ≡ leavesOf bytes statement n t → leavesRow n leaves ≡ Done
+  pub leaves-done : (leaves : List ℕ) → leaves ≡ leavesOf bytes statement n t → leavesRow n leaves ≡ 0
   leaves-done leaves e = rw e leaves-row
 
   openings-length : length (openingsOf bytes) ≡ length (leavesOf bytes statement n t) * openingSize n
@@ -115,7 +121,7 @@ module _ (bytes statement : List ℕ) (n t : ℕ) (small : (j : ℕ) → getD by
       ∙ clash-pair (pairOf bytes statement n t) (length (chain n (leavesOf bytes statement n t))) list
 
   -- what the comparison and the chain give is what is drawn
-  pub all-drawn : (leaves openings list after first second : List ℕ) (pair : Pair) (drawing : Drawing) → leaves ≡ leavesOf bytes statement n t
+  pub all-drawn : (leaves openings list after first second : List ℕ) (pair : Pair) (drawing : DrawingAnswer) → leaves ≡ leavesOf bytes statement n t
       → openings ≡ openingsOf bytes → pair ≡ compared statement n leaves openings
       → first ≡ firstInput statement n leaves openings (compared statement n leaves openings)
       → second ≡ secondInput statement n leaves openings (compared statement n leaves openings) → DrawnFrom pair n leaves list drawing after

@@ -8,56 +8,57 @@ use lib.Dec.{ltb}
 use lib.ListN.{length}
 use Rattle.base.specs.Choice.{pick}
 use Rattle.refusal.specs.declared.Refusal.{Refusal}
-use Rattle.refusal.specs.declared.Refusal.the-variants.{ShortList}
-use Rattle.refusal.specs.declared.Outcome.the-variants.{Done, Refused}
+use Rattle.refusal.specs.declared.Outcome.{Outcome}
+use Rattle.refusal.specs.declared.Outcome.the-variants.{Refused}
+use Rattle.refusal.specs.Number.{numberOf, outcomeNumber}
+use Rattle.refusal.proofs.Bounds.{number-some}
+use Rattle.refusal.proofs.RowLaws.{refused-number, not-done}
 use Rattle.ways.specs.Ways.{chain, chainCodes}
 use Rattle.chain.specs.Place.{leavesRow}
 use Rattle.chain.specs.PlanRow.{planRow, plannedCount, plannedList}
 use Rattle.chain.proofs.Rows.{list-check}
 use Rattle.compare.specs.declared.Pair.{Pair}
 use Rattle.compare.specs.declared.Pair.the-variants.{Agree, Disagree}
-use Rattle.draw.specs.declared.Drawing.{Drawing}
-use Rattle.draw.specs.declared.Drawing.the-variants.{NotDrawn, Chain}
-use Rattle.draw.specs.Drawing.{drawnFrom, listAfter, clashPair}
+use Rattle.proof.specs.FileCheck.{foundIn}
+use Rattle.draw.specs.Drawing.{DrawingAnswer, notDrawn, drawnChain, drawnFrom, listAfter, clashPair}
 
 -- what is drawn of leaves, and the list afterwards
-abbrev pub DrawnFrom : Pair → ℕ → List ℕ → List ℕ → Drawing → List ℕ → Type 0
+abbrev pub DrawnFrom : Pair → ℕ → List ℕ → List ℕ → DrawingAnswer → List ℕ → Type 0
 DrawnFrom pair n leaves list drawing after =
     (drawing ≡ drawnFrom pair (length (chain n leaves)) (length list)) × (after ≡ listAfter drawing (chainCodes n leaves) list)
 
-module _ (n : ℕ) (leaves list after : List ℕ) (count : ℕ) (done : leavesRow n leaves ≡ Done) (k : count ≡ plannedCount n leaves (length list))
+module _ (n : ℕ) (leaves list after : List ℕ) (count : ℕ) (done : leavesRow n leaves ≡ 0) (k : count ≡ plannedCount n leaves (length list))
     (e : after ≡ plannedList n leaves list) where
-  refused-by : (short : Bool) → ltb (length list) (length (chain n leaves)) ≡ short → (r : Refusal) → planRow n leaves (length list) ≡ Refused r
-      → DrawnFrom Agree n leaves list (NotDrawn r 0) after
+  refused-by : (short : Bool) → ltb (length list) (length (chain n leaves)) ≡ short → (r : Refusal) → numberOf r ≡ planRow n leaves (length list)
+      → DrawnFrom Agree n leaves list (notDrawn (foundIn 0 (numberOf r))) after
   unfolding plannedList
   refused-by true s r o =
-      let same : Refused r ≡ Refused ShortList = sym o ∙ list-check n leaves done (length list) ∙ rw s in
-      let which : r ≡ ShortList = cc in
-      (rw (s, which), e ∙ rw o)
+      let same : numberOf r ≡ 16 = o ∙ list-check n leaves done (length list) ∙ rw s in
+      (rw (s, same), e ∙ rw (not-done r (planRow n leaves (length list)) o))
   refused-by false s r o =
-      let same : Refused r ≡ Done = sym o ∙ list-check n leaves done (length list) ∙ rw s in
-      absurd (let z : _≡_ {A = ℕ} 0 1 = cc in omega arith)
+      let same : numberOf r ≡ 0 = o ∙ list-check n leaves done (length list) ∙ rw s in
+      absurd (omega (arith, number-some r))
 
-  drawn-by : (short : Bool) → ltb (length list) (length (chain n leaves)) ≡ short → planRow n leaves (length list) ≡ Done
-      → DrawnFrom Agree n leaves list (Chain count) after
+  drawn-by : (short : Bool) → ltb (length list) (length (chain n leaves)) ≡ short → planRow n leaves (length list) ≡ 0
+      → DrawnFrom Agree n leaves list (drawnChain count) after
   unfolding plannedCount plannedList
-  drawn-by true s o =
-      let same : Done ≡ Refused ShortList = sym o ∙ list-check n leaves done (length list) ∙ rw s in
-      absurd (let z : _≡_ {A = ℕ} 0 1 = cc in omega arith)
-  drawn-by false s o = (rw s (ap Chain (k ∙ rw o)), e ∙ rw o)
+  drawn-by true s o = let same : _≡_ {A = ℕ} 0 16 = sym o ∙ list-check n leaves done (length list) ∙ rw s in absurd (omega arith)
+  drawn-by false s o = (rw s (ap drawnChain (k ∙ rw o)), e ∙ rw o)
 
-  pub chain-refused : (r : Refusal) → planRow n leaves (length list) ≡ Refused r → DrawnFrom Agree n leaves list (NotDrawn r 0) after
-  chain-refused r o = refused-by (ltb (length list) (length (chain n leaves))) refl r o
+  pub chain-refused : (o : Outcome) (r : Refusal) → outcomeNumber o ≡ planRow n leaves (length list) → o ≡ Refused r
+      → DrawnFrom Agree n leaves list (notDrawn (foundIn 0 (numberOf r))) after
+  chain-refused o r p told =
+      refused-by (ltb (length list) (length (chain n leaves))) refl r (refused-number o (planRow n leaves (length list)) r p told)
 
-  pub chain-drawn : planRow n leaves (length list) ≡ Done → DrawnFrom Agree n leaves list (Chain count) after
+  pub chain-drawn : planRow n leaves (length list) ≡ 0 → DrawnFrom Agree n leaves list (drawnChain count) after
   chain-drawn o = drawn-by (ltb (length list) (length (chain n leaves))) refl o
 
-pub pair-drawn : (n : ℕ) (leaves list after : List ℕ) (pair told : Pair) (drawing : Drawing) → pair ≡ told
+pub pair-drawn : (n : ℕ) (leaves list after : List ℕ) (pair told : Pair) (drawing : DrawingAnswer) → pair ≡ told
     → DrawnFrom told n leaves list drawing after → DrawnFrom pair n leaves list drawing after
 pair-drawn n leaves list after pair told drawing e d = rw e d
 
 -- the pair that a drawing names is the one that it was drawn from
-clash-by : (short : Bool) (count : ℕ) → clashPair (pick short (NotDrawn ShortList 0) (Chain count)) ≡ Agree
+clash-by : (short : Bool) (count : ℕ) → clashPair (pick short (notDrawn (foundIn 0 16)) (drawnChain count)) ≡ Agree
 clash-by true count = refl
 clash-by false count = refl
 

@@ -12,13 +12,14 @@ use Rattle.ways.specs.Planning.{every, isLeaf}
 use Rattle.ways.proofs.Lists.{every-both}
 use Rattle.proof.specs.declared.HeadNumbers.{HeadNumbers}
 use Rattle.proof.specs.Challenge.{challengeLeaf, challenged}
+use Rattle.proof.specs.Head.{HeadAnswer, headAnswer}
 use Rattle.accepted.specs.IsProof.{IsDepth}
 use Rattle.accepted.proofs.RowLaws.{challenge-done}
 use Rattle.accepted.proofs.Leaves.{challengeLeaf-small}
 use Rattle.draw.specs.Drawing.{leavesFrom, numbersEnd}
 
-pub end-known : (head read : HeadNumbers) (at : ℕ) → head ≡ read → numbersEnd head ≡ at → at ≡ numbersEnd read
-end-known head read at e f = sym f ∙ ap numbersEnd e
+pub end-known : (head told : HeadNumbers) (read : HeadAnswer) → headAnswer head ≡ read → head ≡ told → numbersEnd (headAnswer told) ≡ numbersEnd read
+end-known head told read e f = ap numbersEnd (rw f at e)
 
 module _ (n : ℕ) (statement root : List ℕ) where
   pub length-leaves : (i left : ℕ) → length (leavesFrom n statement root i left) ≡ left

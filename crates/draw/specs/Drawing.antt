@@ -5,20 +5,29 @@ use lib.Dec.{ltb}
 use lib.ListN.{length, drop}
 use Rattle.base.specs.Choice.{pick}
 use Rattle.base.specs.Bytes.{zeros, written}
-use Rattle.refusal.specs.declared.Refusal.the-variants.{ShortList}
-use Rattle.refusal.specs.declared.Check.{Check}
-use Rattle.refusal.specs.declared.Check.the-variants.{Accepted, Rejected}
+use Rattle.refusal.specs.Number.{numberOf}
+use Rattle.refusal.specs.Row.{isDone}
 use Rattle.ways.specs.Ways.{chain, chainCodes}
-use Rattle.proof.specs.declared.HeadNumbers.{HeadNumbers}
-use Rattle.proof.specs.declared.HeadNumbers.the-variants.{Numbers, NotRead}
 use Rattle.proof.specs.Challenge.{challengeLeaf}
-use Rattle.proof.specs.Head.{headOf, rootAt}
-use Rattle.proof.specs.FileCheck.{fileCheck}
+use Rattle.proof.specs.Head.{HeadAnswer, numbers, notRead, headOf, rootAt}
+use Rattle.proof.specs.FileCheck.{foundIn, fileCheck}
 use Rattle.compare.specs.declared.Pair.{Pair}
 use Rattle.compare.specs.declared.Pair.the-variants.{Agree, Disagree}
 use Rattle.compare.specs.Comparison.{firstDisagreement, firstInput, secondInput}
 use Rattle.draw.specs.declared.Drawing.{Drawing}
 use Rattle.draw.specs.declared.Drawing.the-variants.{NotDrawn, Chain, Clash}
+
+-- what drawing answers: the refusal with the opening it was found in as one number, or the chain's count, or a clash: the pair
+-- i < j, from 1, and the level
+pub data DrawingAnswer : Type 0 where
+  notDrawn : ℕ → DrawingAnswer
+  drawnChain : ℕ → DrawingAnswer
+  drawnClash : ℕ → ℕ → ℕ → DrawingAnswer
+
+abbrev pub drawingAnswer : Drawing → DrawingAnswer
+drawingAnswer (NotDrawn r i) = notDrawn (foundIn i (numberOf r))
+drawingAnswer (Chain count) = drawnChain count
+drawingAnswer (Clash i j l) = drawnClash i j l
 
 -- the leaves of `left` challenges from i on
 unfoldable pub leavesFrom : ℕ → List ℕ → List ℕ → ℕ → ℕ → List ℕ
@@ -26,9 +35,9 @@ leavesFrom n statement root i zero = []
 leavesFrom n statement root i (suc left) = challengeLeaf n statement root i ∷ leavesFrom n statement root (i + 1) left
 
 -- where the head's numbers end
-abbrev pub numbersEnd : HeadNumbers → ℕ
-numbersEnd (Numbers n t c) = c .at
-numbersEnd (NotRead r) = 0
+abbrev pub numbersEnd : HeadAnswer → ℕ
+numbersEnd (numbers n t at) = at
+numbersEnd (notRead r) = 0
 
 -- 'The leaves opened are those of its challenges 1 to t.'
 unfoldable pub leavesOf : List ℕ → List ℕ → ℕ → ℕ → List ℕ
@@ -43,36 +52,35 @@ unfoldable pub pairOf : List ℕ → List ℕ → ℕ → ℕ → Pair
 pairOf bytes statement n t = firstDisagreement statement n (leavesOf bytes statement n t) (openingsOf bytes)
 
 -- where no pair disagrees; 16: the list has fewer places than the count
-abbrev pub drawnFrom : Pair → ℕ → ℕ → Drawing
-drawnFrom (Disagree i j l) count list = Clash i j l
-drawnFrom Agree count list = pick (ltb list count) (NotDrawn ShortList 0) (Chain count)
+abbrev pub drawnFrom : Pair → ℕ → ℕ → DrawingAnswer
+drawnFrom (Disagree i j l) count list = drawnClash i j l
+drawnFrom Agree count list = pick (ltb list count) (notDrawn (foundIn 0 16)) (drawnChain count)
 
 -- all file checks first
-abbrev pub drawnIf : Check → Drawing → Drawing
-drawnIf (Rejected r i) drawing = NotDrawn r i
-drawnIf Accepted drawing = drawing
+abbrev pub drawnIf : ℕ → DrawingAnswer → DrawingAnswer
+drawnIf code drawing = pick (isDone code) drawing (notDrawn code)
 
 -- the answer, for a list of so many places
-unfoldable pub drawingOf : List ℕ → List ℕ → ℕ → ℕ → ℕ → Drawing
+unfoldable pub drawingOf : List ℕ → List ℕ → ℕ → ℕ → ℕ → DrawingAnswer
 drawingOf bytes statement n t list =
     drawnIf (fileCheck bytes statement n t)
     (drawnFrom (pairOf bytes statement n t) (length (chain n (leavesOf bytes statement n t))) list)
 
 -- the list afterwards: 'later places keep what they had'; untouched but for a chain
-abbrev pub listAfter : Drawing → List ℕ → List ℕ → List ℕ
-listAfter (Chain count) codes list = written list 0 codes
-listAfter (Clash i j l) codes list = list
-listAfter (NotDrawn r i) codes list = list
+abbrev pub listAfter : DrawingAnswer → List ℕ → List ℕ → List ℕ
+listAfter (drawnChain count) codes list = written list 0 codes
+listAfter (drawnClash i j l) codes list = list
+listAfter (notDrawn code) codes list = list
 
 unfoldable pub drawnList : List ℕ → List ℕ → ℕ → ℕ → List ℕ → List ℕ
 drawnList bytes statement n t list =
     listAfter (drawingOf bytes statement n t (length list)) (chainCodes n (leavesOf bytes statement n t)) list
 
 -- the two inputs of a clash, all zero where there is none
-abbrev pub clashPair : Drawing → Pair
-clashPair (Clash i j l) = Disagree i j l
-clashPair (Chain count) = Agree
-clashPair (NotDrawn r i) = Agree
+abbrev pub clashPair : DrawingAnswer → Pair
+clashPair (drawnClash i j l) = Disagree i j l
+clashPair (drawnChain count) = Agree
+clashPair (notDrawn code) = Agree
 
 unfoldable pub firstDrawn : List ℕ → List ℕ → ℕ → ℕ → ℕ → List ℕ
 firstDrawn bytes statement n t list =

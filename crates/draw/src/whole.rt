@@ -1,13 +1,11 @@
 // Document 01, 'Drawing the chain': all file checks, then the comparison, then the chain.
 ghost use mathlib.Core.Path.{_≡_};
 ghost use lib.ListN.{length};
-ghost use Rattle.refusal.specs.declared.Outcome.the-variants.{Done};
-ghost use Rattle.refusal.specs.declared.Check.the-variants.{Accepted};
 ghost use Rattle.ways.specs.Ways.{chain, chainCodes};
 ghost use Rattle.proof.specs.FileCheck.{fileCheck};
 ghost use Rattle.chain.specs.Place.{leavesRow};
 ghost use Rattle.compare.specs.declared.Pair.the-variants.{Agree};
-ghost use Rattle.draw.specs.Drawing.{drawnFrom, listAfter, drawingOf, drawnList, firstDrawn, secondDrawn};
+ghost use Rattle.draw.specs.Drawing.{drawingAnswer, drawnFrom, listAfter, drawingOf, drawnList, firstDrawn, secondDrawn};
 use crate::Drawing;
 use crate::Drawn;
 use crate::leaves::challenge_leaves;
@@ -22,9 +20,9 @@ use verify::label_at;
 
 // The chain of leaves, where no pair disagrees. Its callers know that they are leaves.
 fn draw_chain(depth: u64, leaves: &[u64], list: &mut [u64]) -> Drawing
-    requires { ⌜ leavesRow depth (now leaves) ≡ Done ⌝ }
-    ensures { λ r. ⌜ r ≡ drawnFrom Agree (length (chain depth (now (leaves .entry)))) (length (now (list .entry))) ⌝ }
-    ensures { λ r. ⌜ now (list .exit) ≡ listAfter r (chainCodes depth (now (leaves .entry))) (now (list .entry)) ⌝ }
+    requires { ⌜ leavesRow depth (now leaves) ≡ 0 ⌝ }
+    ensures { λ r. ⌜ drawingAnswer r ≡ drawnFrom Agree (length (chain depth (now (leaves .entry)))) (length (now (list .entry))) ⌝ }
+    ensures { λ r. ⌜ now (list .exit) ≡ listAfter (drawingAnswer r) (chainCodes depth (now (leaves .entry))) (now (list .entry)) ⌝ }
 {
     let planned = plan(depth, leaves, list);
     let outcome = planned.outcome;
@@ -36,9 +34,9 @@ fn draw_chain(depth: u64, leaves: &[u64], list: &mut [u64]) -> Drawing
 
 // The clash of the first pair that disagrees, or the chain.
 fn draw_pair(pair: Pair, depth: u64, leaves: &[u64], list: &mut [u64]) -> Drawing
-    requires { ⌜ leavesRow depth (now leaves) ≡ Done ⌝ }
-    ensures { λ r. ⌜ r ≡ drawnFrom pair (length (chain depth (now (leaves .entry)))) (length (now (list .entry))) ⌝ }
-    ensures { λ r. ⌜ now (list .exit) ≡ listAfter r (chainCodes depth (now (leaves .entry))) (now (list .entry)) ⌝ }
+    requires { ⌜ leavesRow depth (now leaves) ≡ 0 ⌝ }
+    ensures { λ r. ⌜ drawingAnswer r ≡ drawnFrom pair (length (chain depth (now (leaves .entry)))) (length (now (list .entry))) ⌝ }
+    ensures { λ r. ⌜ now (list .exit) ≡ listAfter (drawingAnswer r) (chainCodes depth (now (leaves .entry))) (now (list .entry)) ⌝ }
 {
     match pair {
         Pair::Disagree(i, j, level) => Drawing::Clash(i, j, level),
@@ -54,8 +52,8 @@ fn draw_accepted(
     count: u64,
     list: &mut [u64],
 ) -> Drawn
-    requires { ⌜ fileCheck (now file) statement depth count ≡ Accepted ⌝ }
-    ensures { λ r. ⌜ r .drawing ≡ drawingOf (now (file .entry)) statement depth count (length (now (list .entry))) ⌝ }
+    requires { ⌜ fileCheck (now file) statement depth count ≡ 0 ⌝ }
+    ensures { λ r. ⌜ drawingAnswer (r .drawing) ≡ drawingOf (now (file .entry)) statement depth count (length (now (list .entry))) ⌝ }
     ensures { λ r. ⌜ now (list .exit) ≡ drawnList (now (file .entry)) statement depth count (now (list .entry)) ⌝ }
     ensures { λ r. ⌜ r .first ≡ firstDrawn (now (file .entry)) statement depth count (length (now (list .entry))) ⌝ }
     ensures { λ r. ⌜ r .second ≡ secondDrawn (now (file .entry)) statement depth count (length (now (list .entry))) ⌝ }
@@ -79,7 +77,7 @@ fn draw_accepted(
 
 // Draws the chain of a proof into the list, from its first place on; the list is untouched if that is refused or a pair disagrees.
 pub fn draw(file: &[u8], statement: [u8; 32], depth: u64, count: u64, list: &mut [u64]) -> Drawn
-    ensures { λ r. ⌜ r .drawing ≡ drawingOf (now (file .entry)) statement depth count (length (now (list .entry))) ⌝ }
+    ensures { λ r. ⌜ drawingAnswer (r .drawing) ≡ drawingOf (now (file .entry)) statement depth count (length (now (list .entry))) ⌝ }
     ensures { λ r. ⌜ now (list .exit) ≡ drawnList (now (file .entry)) statement depth count (now (list .entry)) ⌝ }
     ensures { λ r. ⌜ r .first ≡ firstDrawn (now (file .entry)) statement depth count (length (now (list .entry))) ⌝ }
     ensures { λ r. ⌜ r .second ≡ secondDrawn (now (file .entry)) statement depth count (length (now (list .entry))) ⌝ }

@@ -1,7 +1,7 @@
 -- The three answers of a drawing, each by what gives it, and the planning row of an accepted proof's leaves.
 use mathlib.Core.Path.{_≡_, refl, _∙_}
 use mathlib.Core.Logic.{_⊎_, inl, inr, ⊎-elim}
-use Prim.Native.Nat.{ℕ, _≤_, _<_}
+use Prim.Native.Nat.{ℕ, zero, suc, _≤_, _<_}
 use native.Mathlib.Omega.{arith}
 use mathlib.Core.Bool.{Bool, true, false}
 use mathlib.Core.List.{List}
@@ -10,55 +10,50 @@ use lib.ListN.{length}
 use borrow.Author.Tests.{ltb-true, ltb-false, lt-ltb, le-ltb}
 use Rattle.base.specs.Choice.{pick}
 use Rattle.base.specs.Limits.{maxDepth, maxChallenges}
-use Rattle.refusal.specs.declared.Refusal.{Refusal}
-use Rattle.refusal.specs.declared.Refusal.the-variants.{ShortList}
-use Rattle.refusal.specs.declared.Outcome.the-variants.{Done, Refused}
-use Rattle.refusal.specs.declared.Check.{Check}
-use Rattle.refusal.specs.declared.Check.the-variants.{Accepted, Rejected}
+use Rattle.refusal.proofs.RowLaws.{some-refused}
 use Rattle.groups.proofs.Steps.{lt-or-le}
 use Rattle.chain.specs.PlanRow.{planRow, plannedCount, plannedList}
-use Rattle.proof.specs.FileCheck.{fileCheck}
+use Rattle.proof.specs.FileCheck.{foundIn, fileCheck}
 use Rattle.accepted.specs.IsProof.{IsProof}
 use Rattle.accepted.proofs.RowLaws.{within}
 use Rattle.compare.specs.declared.Pair.{Pair}
 use Rattle.compare.specs.declared.Pair.the-variants.{Agree, Disagree}
-use Rattle.draw.specs.declared.Drawing.the-variants.{NotDrawn, Chain, Clash}
-use Rattle.draw.specs.Drawing.{leavesOf, pairOf, drawnFrom, drawnIf, drawingOf, drawnList}
+use Rattle.draw.specs.Drawing.{notDrawn, drawnChain, drawnClash, leavesOf, pairOf, drawnFrom, drawnIf, drawingOf, drawnList}
 use Rattle.drawn.specs.Demand3.{NoneDisagree, SomeDisagree, drawnNodes, AsPlanned}
 use Rattle.drawn.proofs.Openings.{leaves-length, agree-none, disagree-first, first-some, some-none, all-inside}
 
 -- ---- from an answer back
 module _ (list count : ℕ) where
-  chain-from : (b : Bool) → ltb list count ≡ b → (x : ℕ) → pick b (NotDrawn ShortList 0) (Chain count) ≡ Chain x → (count ≤ list) × (x ≡ count)
+  chain-from : (b : Bool) → ltb list count ≡ b → (x : ℕ) → pick b (notDrawn (foundIn 0 16)) (drawnChain count) ≡ drawnChain x → (count ≤ list) × (x ≡ count)
   chain-from true e x d = absurd (let no : _≡_ {A = ℕ} 0 1 = cc in omega arith)
   chain-from false e x d = (ltb-false list count e, cc)
 
   short-from :
-      (b : Bool) → ltb list count ≡ b → (r : Refusal) (o : ℕ) → pick b (NotDrawn ShortList 0) (Chain count) ≡ NotDrawn r o →
-      (list < count) × (r ≡ ShortList) × (o ≡ 0)
-  short-from true e r o d = (ltb-true list count e, cc, cc)
-  short-from false e r o d = absurd (let no : _≡_ {A = ℕ} 0 1 = cc in omega arith)
+      (b : Bool) → ltb list count ≡ b → (code : ℕ) → pick b (notDrawn (foundIn 0 16)) (drawnChain count) ≡ notDrawn code →
+      (list < count) × (code ≡ foundIn 0 16)
+  short-from true e code d = (ltb-true list count e, cc)
+  short-from false e code d = absurd (let no : _≡_ {A = ℕ} 0 1 = cc in omega arith)
 
-  no-clash : (b : Bool) (i j l : ℕ) → pick b (NotDrawn ShortList 0) (Chain count) ≡ Clash i j l → ⊥
+  no-clash : (b : Bool) (i j l : ℕ) → pick b (notDrawn (foundIn 0 16)) (drawnChain count) ≡ drawnClash i j l → ⊥
   no-clash true i j l d = let no : _≡_ {A = ℕ} 0 1 = cc in omega arith
   no-clash false i j l d = let no : _≡_ {A = ℕ} 0 1 = cc in omega arith
 
-  from-chain : (c : Check) (q : Pair) (x : ℕ) → drawnIf c (drawnFrom q count list) ≡ Chain x → (c ≡ Accepted) × (q ≡ Agree) × (count ≤ list) × (x ≡ count)
-  from-chain (Rejected r o) q x d = absurd (let no : _≡_ {A = ℕ} 0 1 = cc in omega arith)
-  from-chain Accepted (Disagree i j l) x d = absurd (let no : _≡_ {A = ℕ} 0 1 = cc in omega arith)
-  from-chain Accepted Agree x d = let found = chain-from (ltb list count) refl x d in (refl, refl, found .0, found .1)
+  from-chain : (c : ℕ) (q : Pair) (x : ℕ) → drawnIf c (drawnFrom q count list) ≡ drawnChain x → (c ≡ 0) × (q ≡ Agree) × (count ≤ list) × (x ≡ count)
+  from-chain (suc c) q x d = absurd (let no : _≡_ {A = ℕ} 0 1 = cc in omega arith)
+  from-chain zero (Disagree i j l) x d = absurd (let no : _≡_ {A = ℕ} 0 1 = cc in omega arith)
+  from-chain zero Agree x d = let found = chain-from (ltb list count) refl x d in (refl, refl, found .0, found .1)
 
-  from-clash : (c : Check) (q : Pair) (i j l : ℕ) → drawnIf c (drawnFrom q count list) ≡ Clash i j l → (c ≡ Accepted) × (q ≡ Disagree i j l)
-  from-clash (Rejected r o) q i j l d = absurd (let no : _≡_ {A = ℕ} 0 1 = cc in omega arith)
-  from-clash Accepted (Disagree a b k) i j l d = (refl, cc)
-  from-clash Accepted Agree i j l d = absurd (no-clash (ltb list count) i j l d)
+  from-clash : (c : ℕ) (q : Pair) (i j l : ℕ) → drawnIf c (drawnFrom q count list) ≡ drawnClash i j l → (c ≡ 0) × (q ≡ Disagree i j l)
+  from-clash (suc c) q i j l d = absurd (let no : _≡_ {A = ℕ} 0 1 = cc in omega arith)
+  from-clash zero (Disagree a b k) i j l d = (refl, cc)
+  from-clash zero Agree i j l d = absurd (no-clash (ltb list count) i j l d)
 
   from-refusal :
-      (c : Check) (q : Pair) (r : Refusal) (o : ℕ) → drawnIf c (drawnFrom q count list) ≡ NotDrawn r o →
-      (c ≡ Rejected r o) ⊎ ((c ≡ Accepted) × (q ≡ Agree) × (list < count) × (r ≡ ShortList) × (o ≡ 0))
-  from-refusal (Rejected r′ o′) q r o d = inl (cc)
-  from-refusal Accepted (Disagree i j l) r o d = absurd (let no : _≡_ {A = ℕ} 0 1 = cc in omega arith)
-  from-refusal Accepted Agree r o d = let found = short-from (ltb list count) refl r o d in inr (refl, refl, found .0, found .1, found .2)
+      (c : ℕ) (q : Pair) (code : ℕ) → drawnIf c (drawnFrom q count list) ≡ notDrawn code →
+      ((c ≡ code) × (1 ≤ code)) ⊎ ((c ≡ 0) × (q ≡ Agree) × (list < count) × (code ≡ foundIn 0 16))
+  from-refusal (suc c) q code d = let same : suc c ≡ code = cc in inl (same, omega arith)
+  from-refusal zero (Disagree i j l) code d = absurd (let no : _≡_ {A = ℕ} 0 1 = cc in omega arith)
+  from-refusal zero Agree code d = let found = short-from (ltb list count) refl code d in inr (refl, refl, found .0, found .1)
 
 module _ (bytes statement : List ℕ) (n t : ℕ) where
   -- ---- the pair
@@ -80,8 +75,8 @@ module _ (bytes statement : List ℕ) (n t : ℕ) where
   -- ---- the answers
   module _ (list : ℕ) where
     pub chain-given :
-        (count : ℕ) → drawingOf bytes statement n t list ≡ Chain count →
-        (fileCheck bytes statement n t ≡ Accepted)
+        (count : ℕ) → drawingOf bytes statement n t list ≡ drawnChain count →
+        (fileCheck bytes statement n t ≡ 0)
         × (pairOf bytes statement n t ≡ Agree)
         × (length (drawnNodes bytes statement n t) ≤ list)
         × (count ≡ length (drawnNodes bytes statement n t))
@@ -89,41 +84,40 @@ module _ (bytes statement : List ℕ) (n t : ℕ) where
     chain-given count d = from-chain list (length (drawnNodes bytes statement n t)) (fileCheck bytes statement n t) (pairOf bytes statement n t) count d
 
     pub given-chain :
-        fileCheck bytes statement n t ≡ Accepted → pairOf bytes statement n t ≡ Agree → length (drawnNodes bytes statement n t) ≤ list →
-        drawingOf bytes statement n t list ≡ Chain (length (drawnNodes bytes statement n t))
+        fileCheck bytes statement n t ≡ 0 → pairOf bytes statement n t ≡ Agree → length (drawnNodes bytes statement n t) ≤ list →
+        drawingOf bytes statement n t list ≡ drawnChain (length (drawnNodes bytes statement n t))
     unfolding drawingOf
     given-chain a b fits = rw (a, b, le-ltb list (length (drawnNodes bytes statement n t)) fits)
 
     pub clash-given :
-        (i j l : ℕ) → drawingOf bytes statement n t list ≡ Clash i j l →
-        (fileCheck bytes statement n t ≡ Accepted) × (pairOf bytes statement n t ≡ Disagree i j l)
+        (i j l : ℕ) → drawingOf bytes statement n t list ≡ drawnClash i j l →
+        (fileCheck bytes statement n t ≡ 0) × (pairOf bytes statement n t ≡ Disagree i j l)
     unfolding drawingOf
     clash-given i j l d = from-clash list (length (drawnNodes bytes statement n t)) (fileCheck bytes statement n t) (pairOf bytes statement n t) i j l d
 
     pub given-clash :
-        (i j l : ℕ) → fileCheck bytes statement n t ≡ Accepted → pairOf bytes statement n t ≡ Disagree i j l →
-        drawingOf bytes statement n t list ≡ Clash i j l
+        (i j l : ℕ) → fileCheck bytes statement n t ≡ 0 → pairOf bytes statement n t ≡ Disagree i j l →
+        drawingOf bytes statement n t list ≡ drawnClash i j l
     unfolding drawingOf
     given-clash i j l a b = rw (a, b)
 
     pub refusal-given :
-        (r : Refusal) (o : ℕ) → drawingOf bytes statement n t list ≡ NotDrawn r o →
-        (fileCheck bytes statement n t ≡ Rejected r o)
-        ⊎ ((fileCheck bytes statement n t ≡ Accepted)
+        (code : ℕ) → drawingOf bytes statement n t list ≡ notDrawn code →
+        ((fileCheck bytes statement n t ≡ code) × (1 ≤ code))
+        ⊎ ((fileCheck bytes statement n t ≡ 0)
         × (pairOf bytes statement n t ≡ Agree)
         × (list < length (drawnNodes bytes statement n t))
-        × (r ≡ ShortList)
-        × (o ≡ 0))
+        × (code ≡ foundIn 0 16))
     unfolding drawingOf
-    refusal-given r o d = from-refusal list (length (drawnNodes bytes statement n t)) (fileCheck bytes statement n t) (pairOf bytes statement n t) r o d
+    refusal-given code d = from-refusal list (length (drawnNodes bytes statement n t)) (fileCheck bytes statement n t) (pairOf bytes statement n t) code d
 
-    pub given-refusal : (r : Refusal) (o : ℕ) → fileCheck bytes statement n t ≡ Rejected r o → drawingOf bytes statement n t list ≡ NotDrawn r o
+    pub given-refusal : (code : ℕ) → fileCheck bytes statement n t ≡ code → 1 ≤ code → drawingOf bytes statement n t list ≡ notDrawn code
     unfolding drawingOf
-    given-refusal r o a = rw a
+    given-refusal code a some = rw (a, some-refused code some)
 
     pub given-short :
-        fileCheck bytes statement n t ≡ Accepted → pairOf bytes statement n t ≡ Agree → list < length (drawnNodes bytes statement n t) →
-        drawingOf bytes statement n t list ≡ NotDrawn ShortList 0
+        fileCheck bytes statement n t ≡ 0 → pairOf bytes statement n t ≡ Agree → list < length (drawnNodes bytes statement n t) →
+        drawingOf bytes statement n t list ≡ notDrawn (foundIn 0 16)
     unfolding drawingOf
     given-short a b short = rw (a, b, lt-ltb list (length (drawnNodes bytes statement n t)) short)
 
@@ -135,7 +129,7 @@ module _ (bytes statement : List ℕ) (n t : ℕ) where
     row-of :
         (list : ℕ) →
         planRow n (leavesOf bytes statement n t) list ≡
-        pick (ltb list (length (drawnNodes bytes statement n t))) (Refused ShortList) Done
+        pick (ltb list (length (drawnNodes bytes statement n t))) 16 0
     unfolding planRow
     row-of list =
         simp (
@@ -144,20 +138,20 @@ module _ (bytes statement : List ℕ) (n t : ℕ) where
           all-inside bytes statement n t p,
         )
 
-    module _ (a : fileCheck bytes statement n t ≡ Accepted) (b : pairOf bytes statement n t ≡ Agree) (list : List ℕ) where
+    module _ (a : fileCheck bytes statement n t ≡ 0) (b : pairOf bytes statement n t ≡ Agree) (list : List ℕ) where
       planned-short : length list < length (drawnNodes bytes statement n t) → AsPlanned bytes statement n t list
       unfolding drawnList plannedList plannedCount
       planned-short short =
-          let drawn : drawingOf bytes statement n t (length list) ≡ NotDrawn ShortList 0 = given-short (length list) a b short in
-          let row : planRow n (leavesOf bytes statement n t) (length list) ≡ Refused ShortList =
+          let drawn : drawingOf bytes statement n t (length list) ≡ notDrawn (foundIn 0 16) = given-short (length list) a b short in
+          let row : planRow n (leavesOf bytes statement n t) (length list) ≡ 16 =
           row-of (length list) ∙ rw (lt-ltb (length list) (length (drawnNodes bytes statement n t)) short) in
           record { answer = rw (drawn, row); after = rw (drawn, row) }
 
       planned-chain : length (drawnNodes bytes statement n t) ≤ length list → AsPlanned bytes statement n t list
       unfolding drawnList plannedList plannedCount
       planned-chain fits =
-          let drawn : drawingOf bytes statement n t (length list) ≡ Chain (length (drawnNodes bytes statement n t)) = given-chain (length list) a b fits in
-          let row : planRow n (leavesOf bytes statement n t) (length list) ≡ Done =
+          let drawn : drawingOf bytes statement n t (length list) ≡ drawnChain (length (drawnNodes bytes statement n t)) = given-chain (length list) a b fits in
+          let row : planRow n (leavesOf bytes statement n t) (length list) ≡ 0 =
           row-of (length list) ∙ rw (le-ltb (length list) (length (drawnNodes bytes statement n t)) fits) in
           record { answer = rw (drawn, row); after = rw (drawn, row) }
 

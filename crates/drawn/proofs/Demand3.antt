@@ -5,13 +5,10 @@ use Prim.Native.Nat.{ℕ, _≤_, _<_}
 use native.Mathlib.Omega.{arith}
 use mathlib.Core.List.{List}
 use lib.ListN.{length, getD}
-use Rattle.refusal.specs.declared.Refusal.{Refusal}
-use Rattle.refusal.specs.declared.Check.the-variants.{Rejected}
 use Rattle.proof.specs.FileCheck.{fileCheck}
 use Rattle.accepted.specs.IsProof.{IsProof}
 use Rattle.accepted.proofs.Accepted.{exactly-proofs}
-use Rattle.draw.specs.declared.Drawing.the-variants.{NotDrawn, Chain, Clash}
-use Rattle.draw.specs.Drawing.{drawingOf, drawnList, firstDrawn, secondDrawn}
+use Rattle.draw.specs.Drawing.{notDrawn, drawnChain, drawnClash, drawingOf, drawnList, firstDrawn, secondDrawn}
 use Rattle.drawn.specs.Demand3.{IsAccepted, NoneDisagree, SomeDisagree, chainLength, drawnNodes, Counted, HashChain, EndsAtRoot, OnTheWays, ListDrawn, IsClash, AsPlanned, ListShort, ListUntouched, NoInputs}
 use Rattle.drawn.proofs.Openings.{agree-none, disagree-first, first-some}
 use Rattle.drawn.proofs.Hashes.{ends-at-root, hash-chain}
@@ -30,7 +27,7 @@ module _ (bytes statement : List ℕ) (n t : ℕ) (small : (j : ℕ) → getD by
   -- 'a chain is drawn exactly when the proof is accepted, no two openings disagree and the list has at least 2k − 1 + c places'
   pub chain-exactly :
       (list : ℕ) →
-      ((count : ℕ) × (drawingOf bytes statement n t list ≡ Chain count)) ↔
+      ((count : ℕ) × (drawingOf bytes statement n t list ≡ drawnChain count)) ↔
       (IsAccepted bytes statement n t × NoneDisagree bytes statement n t × (chainLength bytes statement n t ≤ list))
   chain-exactly list = (
     λ drawn.
@@ -43,7 +40,7 @@ module _ (bytes statement : List ℕ) (n t : ℕ) (small : (j : ℕ) → getD by
   )
 
   -- where one is drawn
-  module _ (list : List ℕ) (count : ℕ) (drawn : drawingOf bytes statement n t (length list) ≡ Chain count) where
+  module _ (list : List ℕ) (count : ℕ) (drawn : drawingOf bytes statement n t (length list) ≡ drawnChain count) where
     accepted : IsAccepted bytes statement n t
     accepted = chain-given bytes statement n t (length list) count drawn .0
 
@@ -83,7 +80,7 @@ module _ (bytes statement : List ℕ) (n t : ℕ) (small : (j : ℕ) → getD by
   -- 'A clash is drawn exactly when the proof is accepted and some two openings disagree'
   pub clash-exactly :
       (list : ℕ) →
-      ((i : ℕ) × (j : ℕ) × (l : ℕ) × (drawingOf bytes statement n t list ≡ Clash i j l)) ↔
+      ((i : ℕ) × (j : ℕ) × (l : ℕ) × (drawingOf bytes statement n t list ≡ drawnClash i j l)) ↔
       (IsAccepted bytes statement n t × SomeDisagree bytes statement n t)
   clash-exactly list = (
     λ drawn.
@@ -103,7 +100,7 @@ module _ (bytes statement : List ℕ) (n t : ℕ) (small : (j : ℕ) → getD by
 
   -- 'the two inputs differ, have the same SHA-256, and are those of the first pair and smallest level'
   pub clash-inputs :
-      (list i j l : ℕ) → drawingOf bytes statement n t list ≡ Clash i j l →
+      (list i j l : ℕ) → drawingOf bytes statement n t list ≡ drawnClash i j l →
       IsClash bytes statement n t i j l (firstDrawn bytes statement n t list) (secondDrawn bytes statement n t list)
   unfolding firstDrawn secondDrawn
   clash-inputs list i j l drawn =
@@ -118,9 +115,9 @@ module _ (bytes statement : List ℕ) (n t : ℕ) (small : (j : ℕ) → getD by
 
   -- ---- document 01's row 'Drawing a chain': 'all file checks; 16, if no pair disagrees'
   refusal-why :
-      (list : ℕ) (r : Refusal) (o : ℕ) → drawingOf bytes statement n t list ≡ NotDrawn r o →
-      (fileCheck bytes statement n t ≡ Rejected r o) ⊎ ListShort bytes statement n t list r o
-  refusal-why list r o drawn =
+      (list code : ℕ) → drawingOf bytes statement n t list ≡ notDrawn code →
+      ((fileCheck bytes statement n t ≡ code) × (1 ≤ code)) ⊎ ListShort bytes statement n t list code
+  refusal-why list code drawn =
       ⊎-map
       (λ file. file)
       (λ short.
@@ -129,36 +126,35 @@ module _ (bytes statement : List ℕ) (n t : ℕ) (small : (j : ℕ) → getD by
         agree = agree-none bytes statement n t (short .1);
         short = omega (arith, short .2, length-of (short .0));
         refusal = short .3;
-        outside = short .4;
       })
-      (refusal-given bytes statement n t list r o drawn)
+      (refusal-given bytes statement n t list code drawn)
 
   refusal-by :
-      (list : ℕ) (r : Refusal) (o : ℕ) → (fileCheck bytes statement n t ≡ Rejected r o) ⊎ ListShort bytes statement n t list r o →
-      drawingOf bytes statement n t list ≡ NotDrawn r o
-  refusal-by list r o (inl file) = given-refusal bytes statement n t list r o file
-  refusal-by list r o (inr s) =
-      rw (s .refusal, s .outside)
+      (list code : ℕ) → ((fileCheck bytes statement n t ≡ code) × (1 ≤ code)) ⊎ ListShort bytes statement n t list code →
+      drawingOf bytes statement n t list ≡ notDrawn code
+  refusal-by list code (inl file) = given-refusal bytes statement n t list code (file .0) (file .1)
+  refusal-by list code (inr s) =
+      rw (s .refusal)
       (given-short bytes statement n t list (s .accepted) (none-agree bytes statement n t (s .agree)) (omega (arith, s .short, length-of (s .accepted))))
 
   pub refused-exactly :
-      (list : ℕ) (r : Refusal) (o : ℕ) →
-      drawingOf bytes statement n t list ≡ NotDrawn r o ↔
-      ((fileCheck bytes statement n t ≡ Rejected r o) ⊎ ListShort bytes statement n t list r o)
-  refused-exactly list r o = (refusal-why list r o, refusal-by list r o)
+      (list code : ℕ) →
+      drawingOf bytes statement n t list ≡ notDrawn code ↔
+      (((fileCheck bytes statement n t ≡ code) × (1 ≤ code)) ⊎ ListShort bytes statement n t list code)
+  refused-exactly list code = (refusal-why list code, refusal-by list code)
 
 -- ---- 'the list is untouched', for any bytes; the inputs are all zero but for a clash
 module _ (bytes statement : List ℕ) (n t : ℕ) where
-  pub clash-untouched : (list : List ℕ) (i j l : ℕ) → drawingOf bytes statement n t (length list) ≡ Clash i j l → ListUntouched bytes statement n t list
+  pub clash-untouched : (list : List ℕ) (i j l : ℕ) → drawingOf bytes statement n t (length list) ≡ drawnClash i j l → ListUntouched bytes statement n t list
   unfolding drawnList
   clash-untouched list i j l drawn = rw drawn
 
   pub refused-untouched :
-      (list : List ℕ) (r : Refusal) (o : ℕ) → drawingOf bytes statement n t (length list) ≡ NotDrawn r o →
+      (list : List ℕ) (code : ℕ) → drawingOf bytes statement n t (length list) ≡ notDrawn code →
       ListUntouched bytes statement n t list × NoInputs bytes statement n t (length list)
   unfolding drawnList firstDrawn secondDrawn
-  refused-untouched list r o drawn = (rw drawn, (rw drawn, rw drawn))
+  refused-untouched list code drawn = (rw drawn, (rw drawn, rw drawn))
 
-  pub chain-inputs : (list count : ℕ) → drawingOf bytes statement n t list ≡ Chain count → NoInputs bytes statement n t list
+  pub chain-inputs : (list count : ℕ) → drawingOf bytes statement n t list ≡ drawnChain count → NoInputs bytes statement n t list
   unfolding firstDrawn secondDrawn
   chain-inputs list count drawn = (rw drawn, rw drawn)

@@ -5,13 +5,9 @@ use mathlib.Core.Logic.{_↔_}
 use mathlib.Core.Bool.{Bool, true, false}
 use mathlib.Core.List.{List, map}
 use lib.ListN.{length, getD, take, drop}
-use Rattle.base.specs.Choice.{passing}
+use Rattle.base.specs.Choice.{pick, passing}
 use Rattle.base.specs.Bytes.{zeros}
-use Rattle.refusal.specs.declared.Refusal.{Refusal}
-use Rattle.refusal.specs.declared.Refusal.the-variants.{ShortList}
-use Rattle.refusal.specs.declared.Outcome.{Outcome}
-use Rattle.refusal.specs.declared.Outcome.the-variants.{Done, Refused}
-use Rattle.refusal.specs.declared.Check.the-variants.{Accepted}
+use Rattle.refusal.specs.Row.{isDone}
 use Rattle.sha256.specs.Digest.{digest}
 use Rattle.tree.specs.Nodes.{Node, root, onWay, labellingOrder, parents}
 use Rattle.tree.specs.Held.{among}
@@ -25,13 +21,11 @@ use Rattle.verify.specs.OpeningCheck.{givenBy}
 use Rattle.proof.specs.Challenge.{challengeLeaf}
 use Rattle.proof.specs.Head.{headOf, rootAt, openingAt}
 use Rattle.proof.specs.FileCheck.{fileCheck}
-use Rattle.draw.specs.declared.Drawing.{Drawing}
-use Rattle.draw.specs.declared.Drawing.the-variants.{NotDrawn, Chain}
-use Rattle.draw.specs.Drawing.{numbersEnd, leavesOf, drawingOf, drawnList, firstDrawn, secondDrawn}
+use Rattle.draw.specs.Drawing.{DrawingAnswer, notDrawn, drawnChain, numbersEnd, leavesOf, drawingOf, drawnList, firstDrawn, secondDrawn}
 
 -- 'A proof is accepted if no check of the two File rows below refuses it.'
 abbrev pub IsAccepted : List ℕ → List ℕ → ℕ → ℕ → Type 0
-IsAccepted bytes statement n t = fileCheck bytes statement n t ≡ Accepted
+IsAccepted bytes statement n t = fileCheck bytes statement n t ≡ 0
 
 -- ---- openings
 -- the proof's root
@@ -173,9 +167,8 @@ pub record IsClash (bytes statement : List ℕ) (n t i j l : ℕ) (first second 
 
 -- ---- planning
 -- what a drawing answers where planning answers so
-abbrev pub plannedDrawing : Outcome → ℕ → Drawing
-plannedDrawing Done count = Chain count
-plannedDrawing (Refused r) count = NotDrawn r 0
+abbrev pub plannedDrawing : ℕ → ℕ → DrawingAnswer
+plannedDrawing row count = pick (isDone row) (drawnChain count) (notDrawn (256 * row))
 
 -- the answer and the list are those of planning from the challenged leaves
 pub record AsPlanned (bytes statement : List ℕ) (n t : ℕ) (list : List ℕ) : Type 0 where
@@ -188,12 +181,11 @@ pub record AsPlanned (bytes statement : List ℕ) (n t : ℕ) (list : List ℕ) 
 
 -- ---- nothing drawn
 -- '16, if no pair disagrees': 'A list is short if it has fewer places than the count.'
-pub record ListShort (bytes statement : List ℕ) (n t list : ℕ) (r : Refusal) (o : ℕ) : Type 0 where
+pub record ListShort (bytes statement : List ℕ) (n t list code : ℕ) : Type 0 where
   pub accepted : IsAccepted bytes statement n t
   pub agree : NoneDisagree bytes statement n t
   pub short : list < chainLength bytes statement n t
-  pub refusal : r ≡ ShortList
-  pub outside : o ≡ 0
+  pub refusal : code ≡ 256 * 16
 
 -- list and inputs where no chain is drawn, and where no clash is
 abbrev pub ListUntouched : List ℕ → List ℕ → ℕ → ℕ → List ℕ → Type 0

@@ -1,4 +1,5 @@
-use mathlib.Core.Path.{sym, _∙_}
+use mathlib.Core.Path.{sym, ap, _∙_}
+use Rattle.draw.specs.Drawing.{drawingAnswer}
 use Rattle.capi.proofs.Numbers.{same-numbers}
 use borrow.Author.Needs.{needs}
 use Rattle.capi.proofs.chains.drawing_numbers.Statement.{statement}
@@ -18,14 +19,14 @@ enum-known-drawing-3 c = search needs
 
 returns : tie.Need-returns
 returns c =
-    let k = same-numbers _ _ (sym (c .before .before .drawing .given .1)) in
+    let k = same-numbers _ _ (ap drawingAnswer (sym (c .before .before .drawing .given .1))) in
     ((k .0 .0, (c .code .ensures ∙ k .0 .1 .0, k .0 .1 .1)), k .1)
 
 returns-2 : tie.Need-returns-2
-returns-2 c = same-numbers _ _ (sym (c .before .drawing2 .given .1))
+returns-2 c = same-numbers _ _ (ap drawingAnswer (sym (c .before .drawing2 .given .1)))
 
 returns-3 : tie.Need-returns-3
-returns-3 c = same-numbers _ _ (sym (c .before .drawing3 .given .1))
+returns-3 c = same-numbers _ _ (ap drawingAnswer (sym (c .before .drawing3 .given .1)))
 
 pub drawing-numbers-spec : {M : Type 1} → statement M
 drawing-numbers-spec =

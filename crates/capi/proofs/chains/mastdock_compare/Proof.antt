@@ -1,5 +1,4 @@
 use mathlib.Core.Path.{ap, _∙_}
-use Rattle.refusal.specs.Number.{outcomeNumber}
 use borrow.Author.Needs.{needs}
 use Rattle.capi.specs.Answers.{firstOf, secondOf, levelOf}
 use Rattle.capi.proofs.chains.mastdock_compare.Statement.{statement}
@@ -19,7 +18,7 @@ returns c =
     let e = c .before .before .before .before .compare .ensures in
     let pair = e .1 .0 in
     let numbers = c .pair-numbers .ensures in (
-      c .before .outcome-number .ensures ∙ ap outcomeNumber (e .0),
+      c .before .outcome-number .ensures ∙ e .0,
       (numbers .0 ∙ ap firstOf pair, (numbers .1 .0 ∙ ap secondOf pair, (numbers .1 .1 ∙ ap levelOf pair, e .1 .1))),
     )
 

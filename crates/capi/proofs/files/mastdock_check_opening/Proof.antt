@@ -1,5 +1,4 @@
-use mathlib.Core.Path.{ap, _∙_}
-use Rattle.refusal.specs.Number.{outcomeNumber}
+use mathlib.Core.Path.{_∙_}
 use borrow.Author.Needs.{needs}
 use Rattle.capi.proofs.files.mastdock_check_opening.Statement.{statement}
 use Rattle.capi.proofs.files.mastdock_check_opening.Tie as tie
@@ -11,7 +10,7 @@ outcome-number-requires : tie.Need-outcome-number-requires
 outcome-number-requires c κs = search needs
 
 returns : tie.Need-returns
-returns c = c .outcome-number .ensures ∙ ap outcomeNumber (c .before .check-opening .ensures)
+returns c = c .outcome-number .ensures ∙ c .before .check-opening .ensures
 
 pub mastdock-check-opening-spec : {M : Type 1} → statement M
 mastdock-check-opening-spec =

@@ -1,5 +1,4 @@
-use mathlib.Core.Path.{ap, _∙_}
-use Rattle.refusal.specs.Number.{outcomeNumber}
+use mathlib.Core.Path.{_∙_}
 use borrow.Author.Needs.{needs}
 use Rattle.capi.proofs.hashes.mastdock_hash_update.Statement.{statement}
 use Rattle.capi.proofs.hashes.mastdock_hash_update.Tie as tie
@@ -11,7 +10,7 @@ outcome-number-requires : tie.Need-outcome-number-requires
 outcome-number-requires c κs = search needs
 
 returns : tie.Need-returns
-returns c = (c .outcome-number .ensures ∙ ap outcomeNumber (c .before .before .update .ensures .0), c .before .before .update .ensures .1)
+returns c = (c .outcome-number .ensures ∙ c .before .before .update .ensures .0, c .before .before .update .ensures .1)
 
 pub mastdock-hash-update-spec : {M : Type 1} → statement M
 mastdock-hash-update-spec = tie.close (tie.spec update-requires outcome-number-requires returns)

@@ -1,5 +1,4 @@
-use mathlib.Core.Path.{ap, _∙_}
-use Rattle.refusal.specs.Number.{outcomeNumber}
+use mathlib.Core.Path.{_∙_}
 use borrow.Author.Needs.{needs}
 use Rattle.capi.proofs.openings.mastdock_opening_start.Statement.{statement}
 use Rattle.capi.proofs.openings.mastdock_opening_start.Tie as tie
@@ -14,7 +13,7 @@ same-length : tie.Need-same-length
 same-length c = search needs
 
 returns : tie.Need-returns
-returns c = (c .outcome-number .ensures ∙ ap outcomeNumber (c .before .before .before .before .start .ensures .0), c .before .before .before .before .start .ensures .1)
+returns c = (c .outcome-number .ensures ∙ c .before .before .before .before .start .ensures .0, c .before .before .before .before .start .ensures .1)
 
 pub mastdock-opening-start-spec : {M : Type 1} → statement M
 mastdock-opening-start-spec =

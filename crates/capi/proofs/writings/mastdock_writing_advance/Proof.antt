@@ -1,5 +1,4 @@
-use mathlib.Core.Path.{ap, _∙_}
-use Rattle.refusal.specs.Number.{outcomeNumber}
+use mathlib.Core.Path.{_∙_}
 use borrow.Author.Needs.{needs}
 use Rattle.capi.proofs.writings.mastdock_writing_advance.Statement.{statement}
 use Rattle.capi.proofs.writings.mastdock_writing_advance.Tie as tie
@@ -16,7 +15,7 @@ same-length c = search needs
 returns : tie.Need-returns
 returns c =
     let e = c .before .before .before .before .advance .ensures in
-    (c .outcome-number .ensures ∙ ap outcomeNumber (e .0), e .1)
+    (c .outcome-number .ensures ∙ e .0, e .1)
 
 pub mastdock-writing-advance-spec : {M : Type 1} → statement M
 mastdock-writing-advance-spec =

@@ -1,6 +1,4 @@
 -- `draw::leaves::numbers_end` meets its contract, whether the head can be read or not.
-use mathlib.Core.Path.{ap}
-use Rattle.draw.specs.Drawing.{numbersEnd}
 use Rattle.draw.proofs.LeavesOpened.{end-known}
 use borrow.Author.Needs.{needs}
 use Rattle.draw.proofs.leaves.numbers_end.Statement.{statement}
@@ -16,10 +14,10 @@ enum-known-head : tie.Need-enum-known-head
 enum-known-head c = search needs
 
 returns : tie.Need-returns
-returns c = end-known _ _ 0 (c .before .before .read-head .ensures) (ap numbersEnd (c .enum-told .given .1))
+returns c = let r = c .before .before .read-head in end-known (r .result) _ _ (r .ensures) (c .enum-told .given .1)
 
 returns-2 : tie.Need-returns-2
-returns-2 c = end-known _ _ _ (c .before .before .before .read-head .ensures) (ap numbersEnd (c .before .head .given .1))
+returns-2 c = let r = c .before .before .before .read-head in end-known (r .result) _ _ (r .ensures) (c .before .head .given .1)
 
 pub numbers-end-spec : {M : Type 1} → statement M
 numbers-end-spec =

@@ -1,5 +1,6 @@
 -- `draw::draw` meets its contract: refused, or drawn.
-use mathlib.Core.Path.{sym, _∙_}
+use mathlib.Core.Path.{sym, ap, _∙_}
+use Rattle.refusal.specs.Number.{codeOf}
 use Rattle.draw.proofs.AcceptedFile.{file-refused}
 use borrow.Author.Needs.{needs}
 use Rattle.draw.proofs.whole.draw.Statement.{statement}
@@ -15,13 +16,13 @@ enum-told : tie.Need-enum-told
 enum-told c = search needs
 
 draw-accepted-requires : tie.Need-draw-accepted-requires
-draw-accepted-requires c κs = sym (c .before .before .before .check-file .ensures) ∙ c .before .enum-told .given .1
+draw-accepted-requires c κs = sym (c .before .before .before .check-file .ensures) ∙ ap codeOf (c .before .enum-told .given .1)
 
 returns : tie.Need-returns
 returns c =
     let s = c .before .before .before .before .before .before in
-    file-refused (s .args .file .now) (s .args .statement) (s .args .depth) (s .args .count) (s .args .list .now) _ _
-    (sym (c .before .before .before .check-file .ensures) ∙ c .before .checked .given .1)
+    file-refused (s .args .file .now) (s .args .statement) (s .args .depth) (s .args .count) (s .args .list .now) _ _ _
+    (c .before .before .before .check-file .ensures) (c .before .checked .given .1)
 
 same-length : tie.Need-same-length
 same-length c = search needs

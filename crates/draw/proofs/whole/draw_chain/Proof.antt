@@ -1,5 +1,5 @@
 -- `draw::whole::draw_chain` meets its contract: the list is short, or the chain is written.
-use mathlib.Core.Path.{sym, _∙_}
+use Rattle.refusal.proofs.RowLaws.{is-done}
 use Rattle.draw.proofs.Chains.{chain-refused, chain-drawn}
 use borrow.Author.Needs.{needs}
 use Rattle.draw.proofs.whole.draw_chain.Statement.{statement}
@@ -22,7 +22,7 @@ returns c =
     let s = c .before .before .before .before .before .before .before .before .before in
     let p = c .before .before .before .before .before .plan in
     chain-refused (s .args .depth) (s .args .leaves .now) (s .args .list .now) _ (p .result .count) (s .pre) (p .ensures .1 .0)
-    (p .ensures .1 .1) _ (sym (p .ensures .0) ∙ c .before .outcome .given .1)
+    (p .ensures .1 .1) _ _ (p .ensures .0) (c .before .outcome .given .1)
 
 same-length-2 : tie.Need-same-length-2
 same-length-2 c = search needs
@@ -32,7 +32,7 @@ returns-2 c =
     let s = c .before .before .before .before .before .before .before .before in
     let p = c .before .before .before .before .plan in
     chain-drawn (s .args .depth) (s .args .leaves .now) (s .args .list .now) _ (p .result .count) (s .pre) (p .ensures .1 .0)
-    (p .ensures .1 .1) (sym (p .ensures .0) ∙ c .enum-told .given .1)
+    (p .ensures .1 .1) (is-done _ _ (p .ensures .0) (c .enum-told .given .1))
 
 pub draw-chain-spec : {M : Type 1} → statement M
 draw-chain-spec =
