@@ -1,7 +1,9 @@
 -- Answers that are enums, as numbers: one definition for each number, 0 where the case has none.
 use Prim.Native.Nat.{ℕ}
 use Rattle.refusal.specs.declared.Check.the-variants.{Rejected}
-use Rattle.refusal.specs.Number.{codeOf}
+use Rattle.refusal.specs.Number.{numberOf, codeOf}
+use Rattle.proof.specs.declared.HeadNumbers.{HeadNumbers}
+use Rattle.proof.specs.declared.HeadNumbers.the-variants.{Numbers, NotRead}
 use Rattle.compare.specs.declared.Pair.{Pair}
 use Rattle.compare.specs.declared.Pair.the-variants.{Agree, Disagree}
 use Rattle.draw.specs.declared.Drawing.{Drawing}
@@ -36,3 +38,16 @@ abbrev pub countOf : Drawing → ℕ
 countOf (NotDrawn r i) = 0
 countOf (Chain count) = count
 countOf (Clash i j l) = 0
+
+-- a head that is read: no refusal, with depth and count; or the refusal
+abbrev pub headRefusal : HeadNumbers → ℕ
+headRefusal (Numbers n t c) = 0
+headRefusal (NotRead r) = numberOf r
+
+abbrev pub headDepth : HeadNumbers → ℕ
+headDepth (Numbers n t c) = n
+headDepth (NotRead r) = 0
+
+abbrev pub headCount : HeadNumbers → ℕ
+headCount (Numbers n t c) = t
+headCount (NotRead r) = 0
