@@ -23,50 +23,77 @@ use Rattle.capi.specs.declared.chains.Compared.{Compared}
 use Rattle.capi.specs.declared.chains.Drawn.{Drawn}
 use Rattle.capi.specs.declared.chains.Clash.{Clash}
 
-pub clash : (r : Clash) {i· : ℕ} {j· : ℕ} {level· : ℕ} {first· : List ℕ} {second· : List ℕ} {zero· : List ℕ} → r .i ≡ i· → r .j ≡ j· → r .level ≡ level· → r .first ≡ first· → r .second ≡ second· → r .zero ≡ zero· → r ≡ record { i = i·; j = j·; level = level·; first = first·; second = second·; zero = zero· }
-clash r p0 p1 p2 p3 p4 p5 = rw (sym p0, sym p1, sym p2, sym p3, sym p4, sym p5)
+pub clash :
+    (r : Clash) {a b c : ℕ} {d e f : List ℕ} →
+    r .i ≡ a → r .j ≡ b → r .level ≡ c → r .first ≡ d → r .second ≡ e → r .zero ≡ f →
+    r ≡ record { i = a; j = b; level = c; first = d; second = e; zero = f }
+clash r pa pb pc pd pe pf = rw (sym pa, sym pb, sym pc, sym pd, sym pe, sym pf)
 
-pub hash-updated : (r : HashUpdated) {refusal· : ℕ} {hash· : Hash} → r .refusal ≡ refusal· → r .hash ≡ hash· → r ≡ record { refusal = refusal·; hash = hash· }
-hash-updated r p0 p1 = rw (sym p0, sym p1)
+pub hash-updated : (r : HashUpdated) {a : ℕ} {b : Hash} → r .refusal ≡ a → r .hash ≡ b → r ≡ record { refusal = a; hash = b }
+hash-updated r pa pb = rw (sym pa, sym pb)
 
-pub hash-finished : (r : HashFinished) {refusal· : ℕ} {digest· : List ℕ} {hash· : Hash} → r .refusal ≡ refusal· → r .digest ≡ digest· → r .hash ≡ hash· → r ≡ record { refusal = refusal·; digest = digest·; hash = hash· }
-hash-finished r p0 p1 p2 = rw (sym p0, sym p1, sym p2)
+pub hash-finished :
+    (r : HashFinished) {a : ℕ} {b : List ℕ} {c : Hash} →
+    r .refusal ≡ a → r .digest ≡ b → r .hash ≡ c →
+    r ≡ record { refusal = a; digest = b; hash = c }
+hash-finished r pa pb pc = rw (sym pa, sym pb, sym pc)
 
-pub hash-digest : (r : HashDigest) {refusal· : ℕ} {digest· : List ℕ} → r .refusal ≡ refusal· → r .digest ≡ digest· → r ≡ record { refusal = refusal·; digest = digest· }
-hash-digest r p0 p1 = rw (sym p0, sym p1)
+pub hash-digest : (r : HashDigest) {a : ℕ} {b : List ℕ} → r .refusal ≡ a → r .digest ≡ b → r ≡ record { refusal = a; digest = b }
+hash-digest r pa pb = rw (sym pa, sym pb)
 
-pub run-started : (r : RunStarted) {refusal· : ℕ} {run· : Run} → r .refusal ≡ refusal· → r .run ≡ run· → r ≡ record { refusal = refusal·; run = run· }
-run-started r p0 p1 = rw (sym p0, sym p1)
+pub run-started : (r : RunStarted) {a : ℕ} {b : Run} → r .refusal ≡ a → r .run ≡ b → r ≡ record { refusal = a; run = b }
+run-started r pa pb = rw (sym pa, sym pb)
 
-pub run-advanced : (r : RunAdvanced) {refusal· : ℕ} {labels· : ℕ} {run· : Run} → r .refusal ≡ refusal· → r .labels ≡ labels· → r .run ≡ run· → r ≡ record { refusal = refusal·; labels = labels·; run = run· }
-run-advanced r p0 p1 p2 = rw (sym p0, sym p1, sym p2)
+pub run-advanced :
+    (r : RunAdvanced) {a b : ℕ} {c : Run} →
+    r .refusal ≡ a → r .labels ≡ b → r .run ≡ c →
+    r ≡ record { refusal = a; labels = b; run = c }
+run-advanced r pa pb pc = rw (sym pa, sym pb, sym pc)
 
-pub opening-started : (r : OpeningStarted) {refusal· : ℕ} {opening· : Opening} → r .refusal ≡ refusal· → r .opening ≡ opening· → r ≡ record { refusal = refusal·; opening = opening· }
-opening-started r p0 p1 = rw (sym p0, sym p1)
+pub opening-started :
+    (r : OpeningStarted) {a : ℕ} {b : Opening} →
+    r .refusal ≡ a → r .opening ≡ b →
+    r ≡ record { refusal = a; opening = b }
+opening-started r pa pb = rw (sym pa, sym pb)
 
-pub opening-advanced : (r : OpeningAdvanced) {refusal· : ℕ} {labels· : ℕ} {opening· : Opening} → r .refusal ≡ refusal· → r .labels ≡ labels· → r .opening ≡ opening· → r ≡ record { refusal = refusal·; labels = labels·; opening = opening· }
-opening-advanced r p0 p1 p2 = rw (sym p0, sym p1, sym p2)
+pub opening-advanced :
+    (r : OpeningAdvanced) {a b : ℕ} {c : Opening} →
+    r .refusal ≡ a → r .labels ≡ b → r .opening ≡ c →
+    r ≡ record { refusal = a; labels = b; opening = c }
+opening-advanced r pa pb pc = rw (sym pa, sym pb, sym pc)
 
-pub challenged : (r : Challenged) {refusal· : ℕ} {leaf· : ℕ} → r .refusal ≡ refusal· → r .leaf ≡ leaf· → r ≡ record { refusal = refusal·; leaf = leaf· }
-challenged r p0 p1 = rw (sym p0, sym p1)
+pub challenged : (r : Challenged) {a b : ℕ} → r .refusal ≡ a → r .leaf ≡ b → r ≡ record { refusal = a; leaf = b }
+challenged r pa pb = rw (sym pa, sym pb)
 
-pub head-read : (r : HeadRead) {refusal· : ℕ} {depth· : ℕ} {count· : ℕ} → r .refusal ≡ refusal· → r .depth ≡ depth· → r .count ≡ count· → r ≡ record { refusal = refusal·; depth = depth·; count = count· }
-head-read r p0 p1 p2 = rw (sym p0, sym p1, sym p2)
+pub head-read :
+    (r : HeadRead) {a b c : ℕ} →
+    r .refusal ≡ a → r .depth ≡ b → r .count ≡ c →
+    r ≡ record { refusal = a; depth = b; count = c }
+head-read r pa pb pc = rw (sym pa, sym pb, sym pc)
 
-pub place : (r : Place) {offset· : ℕ} {length· : ℕ} → r .offset ≡ offset· → r .length ≡ length· → r ≡ record { offset = offset·; length = length· }
-place r p0 p1 = rw (sym p0, sym p1)
+pub place : (r : Place) {a b : ℕ} → r .offset ≡ a → r .length ≡ b → r ≡ record { offset = a; length = b }
+place r pa pb = rw (sym pa, sym pb)
 
-pub writing-started : (r : WritingStarted) {refusal· : ℕ} {writing· : Writing} → r .refusal ≡ refusal· → r .writing ≡ writing· → r ≡ record { refusal = refusal·; writing = writing· }
-writing-started r p0 p1 = rw (sym p0, sym p1)
+pub writing-started :
+    (r : WritingStarted) {a : ℕ} {b : Writing} →
+    r .refusal ≡ a → r .writing ≡ b →
+    r ≡ record { refusal = a; writing = b }
+writing-started r pa pb = rw (sym pa, sym pb)
 
-pub writing-advanced : (r : WritingAdvanced) {refusal· : ℕ} {labels· : ℕ} {writing· : Writing} → r .refusal ≡ refusal· → r .labels ≡ labels· → r .writing ≡ writing· → r ≡ record { refusal = refusal·; labels = labels·; writing = writing· }
-writing-advanced r p0 p1 p2 = rw (sym p0, sym p1, sym p2)
+pub writing-advanced :
+    (r : WritingAdvanced) {a b : ℕ} {c : Writing} →
+    r .refusal ≡ a → r .labels ≡ b → r .writing ≡ c →
+    r ≡ record { refusal = a; labels = b; writing = c }
+writing-advanced r pa pb pc = rw (sym pa, sym pb, sym pc)
 
-pub planned : (r : Planned) {refusal· : ℕ} {count· : ℕ} → r .refusal ≡ refusal· → r .count ≡ count· → r ≡ record { refusal = refusal·; count = count· }
-planned r p0 p1 = rw (sym p0, sym p1)
+pub planned : (r : Planned) {a b : ℕ} → r .refusal ≡ a → r .count ≡ b → r ≡ record { refusal = a; count = b }
+planned r pa pb = rw (sym pa, sym pb)
 
-pub compared : (r : Compared) {refusal· : ℕ} {clash· : Clash} → r .refusal ≡ refusal· → r .clash ≡ clash· → r ≡ record { refusal = refusal·; clash = clash· }
-compared r p0 p1 = rw (sym p0, sym p1)
+pub compared : (r : Compared) {a : ℕ} {b : Clash} → r .refusal ≡ a → r .clash ≡ b → r ≡ record { refusal = a; clash = b }
+compared r pa pb = rw (sym pa, sym pb)
 
-pub drawn : (r : Drawn) {kind· : ℕ} {code· : ℕ} {count· : ℕ} {clash· : Clash} → r .kind ≡ kind· → r .code ≡ code· → r .count ≡ count· → r .clash ≡ clash· → r ≡ record { kind = kind·; code = code·; count = count·; clash = clash· }
-drawn r p0 p1 p2 p3 = rw (sym p0, sym p1, sym p2, sym p3)
+pub drawn :
+    (r : Drawn) {a b c : ℕ} {d : Clash} →
+    r .kind ≡ a → r .code ≡ b → r .count ≡ c → r .clash ≡ d →
+    r ≡ record { kind = a; code = b; count = c; clash = d }
+drawn r pa pb pc pd = rw (sym pa, sym pb, sym pc, sym pd)

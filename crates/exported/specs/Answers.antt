@@ -61,19 +61,33 @@ digest message =
 
 abbrev pub runStart : List ℕ → ℕ → ℕ → List ℕ → RunStarted
 runStart statement depth memory store =
-    record { refusal = outcomeNumber (startRow depth memory (length store)); run = runs.started statement depth memory (length store) }
+    record {
+      refusal = outcomeNumber (startRow depth memory (length store));
+      run = runs.started statement depth memory (length store);
+    }
 
 abbrev pub runAdvance : Run → ℕ → List ℕ → RunAdvanced
 runAdvance run budget store =
-    record { refusal = outcomeNumber (continueRow run (length store)); labels = runs.labelsIn (runs.stamped run store) budget; run = runs.advanced (runs.stamped run store) budget .run }
+    record {
+      refusal = outcomeNumber (continueRow run (length store));
+      labels = runs.labelsIn (runs.stamped run store) budget;
+      run = runs.advanced (runs.stamped run store) budget .run;
+    }
 
 abbrev pub openingStart : List ℕ → ℕ → ℕ → ℕ → List ℕ → List ℕ → OpeningStarted
 openingStart statement depth memory leaf store out =
-    record { refusal = outcomeNumber (openRow depth memory leaf (length store) (length out)); opening = openings.started statement depth memory leaf (length store) (length out) }
+    record {
+      refusal = outcomeNumber (openRow depth memory leaf (length store) (length out));
+      opening = openings.started statement depth memory leaf (length store) (length out);
+    }
 
 abbrev pub openingAdvance : Opening → ℕ → List ℕ → List ℕ → OpeningAdvanced
 openingAdvance opening budget store out =
-    record { refusal = outcomeNumber (reopenRow opening (length store) (length out)); labels = openings.labelsIn store (openOf opening out) budget; opening = openings.advanced store (openOf opening out) budget .opening }
+    record {
+      refusal = outcomeNumber (reopenRow opening (length store) (length out));
+      labels = openings.labelsIn store (openOf opening out) budget;
+      opening = openings.advanced store (openOf opening out) budget .opening;
+    }
 
 abbrev pub challenge : List ℕ → List ℕ → ℕ → ℕ → Challenged
 challenge statement root depth i =
@@ -89,11 +103,18 @@ openingPlace file i =
 
 abbrev pub writingStart : List ℕ → List ℕ → ℕ → ℕ → ℕ → List ℕ → List ℕ → WritingStarted
 writingStart statement root depth memory count store file =
-    record { refusal = outcomeNumber (writeRow depth memory count (length store) (length file)); writing = writings.started statement root depth memory count store file .writing }
+    record {
+      refusal = outcomeNumber (writeRow depth memory count (length store) (length file));
+      writing = writings.started statement root depth memory count store file .writing;
+    }
 
 abbrev pub writingAdvance : Writing → ℕ → List ℕ → List ℕ → WritingAdvanced
 writingAdvance writing budget store file =
-    record { refusal = outcomeNumber (rewriteRow writing (length store) (length file)); labels = writings.labelsIn store (writtenOf writing file) budget; writing = writings.advanced store (writtenOf writing file) budget .writing }
+    record {
+      refusal = outcomeNumber (rewriteRow writing (length store) (length file));
+      labels = writings.labelsIn store (writtenOf writing file) budget;
+      writing = writings.advanced store (writtenOf writing file) budget .writing;
+    }
 
 abbrev pub plan : ℕ → List ℕ → List ℕ → Planned
 plan depth leaves list =
@@ -101,14 +122,22 @@ plan depth leaves list =
 
 abbrev pub compareFrom : Pair → List ℕ → ℕ → List ℕ → List ℕ → Compared
 compareFrom pair statement depth leaves openings =
-    record { refusal = outcomeNumber (compareRow depth leaves (length openings)); clash = clashOf pair (firstInput statement depth leaves openings pair) (secondInput statement depth leaves openings pair) }
+    record {
+      refusal = outcomeNumber (compareRow depth leaves (length openings));
+      clash = clashOf pair (firstInput statement depth leaves openings pair) (secondInput statement depth leaves openings pair);
+    }
 
 abbrev pub compare : List ℕ → ℕ → List ℕ → List ℕ → Compared
 compare statement depth leaves openings = compareFrom (compared statement depth leaves openings) statement depth leaves openings
 
 abbrev pub drawFrom : Drawing → List ℕ → List ℕ → ℕ → ℕ → List ℕ → Drawn
 drawFrom drawing file statement depth count list =
-    record { kind = kindOf drawing; code = refusalOf drawing; count = countOf drawing; clash = clashOf (clashPair drawing) (firstDrawn file statement depth count (length list)) (secondDrawn file statement depth count (length list)) }
+    record {
+      kind = kindOf drawing;
+      code = refusalOf drawing;
+      count = countOf drawing;
+      clash = clashOf (clashPair drawing) (firstDrawn file statement depth count (length list)) (secondDrawn file statement depth count (length list));
+    }
 
 abbrev pub draw : List ℕ → List ℕ → ℕ → ℕ → List ℕ → Drawn
 draw file statement depth count list = drawFrom (drawingOf file statement depth count (length list)) file statement depth count list

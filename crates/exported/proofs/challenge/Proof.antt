@@ -7,7 +7,9 @@ mastdock-challenge-requires : tie.Need-mastdock-challenge-requires
 mastdock-challenge-requires c κs = search needs
 
 returns : tie.Need-returns
-returns c = let e = c .mastdock-challenge .ensures in challenged _ (e .0) (e .1)
+returns c =
+    let e = c .mastdock-challenge .ensures in
+    challenged _ (e .0) (e .1)
 
 pub challenge-spec : {M : Type 1} → statement M
 challenge-spec = tie.close (tie.spec mastdock-challenge-requires returns)

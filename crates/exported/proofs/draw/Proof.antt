@@ -10,7 +10,11 @@ same-length : tie.Need-same-length
 same-length c = search needs
 
 returns : tie.Need-returns
-returns c = let e = c .before .before .mastdock-draw .ensures in (drawn _ (e .0) (e .1 .0) (e .1 .1 .0) (clash _ (e .1 .1 .1 .0) (e .1 .1 .1 .1 .0) (e .1 .1 .1 .1 .1 .0) (e .1 .1 .1 .1 .1 .1 .0) (e .1 .1 .1 .1 .1 .1 .1 .0) (e .1 .1 .1 .1 .1 .1 .1 .1 .0)), e .1 .1 .1 .1 .1 .1 .1 .1 .1)
+returns c =
+    let e = c .before .before .mastdock-draw .ensures in
+    let f = e .1 .1 .1 in
+    let found = clash _ (f .0) (f .1 .0) (f .1 .1 .0) (f .1 .1 .1 .0) (f .1 .1 .1 .1 .0) (f .1 .1 .1 .1 .1 .0) in
+    (drawn _ (e .0) (e .1 .0) (e .1 .1 .0) found, f .1 .1 .1 .1 .1 .1)
 
 pub draw-spec : {M : Type 1} → statement M
 draw-spec = tie.close (tie.spec mastdock-draw-requires same-length returns)

@@ -10,7 +10,9 @@ same-length : tie.Need-same-length
 same-length c = search needs
 
 returns : tie.Need-returns
-returns c = let e = c .before .before .mastdock-opening-start .ensures in (opening-started _ (e .0) (e .1 .0), e .1 .1)
+returns c =
+    let e = c .before .before .mastdock-opening-start .ensures in
+    (opening-started _ (e .0) (e .1 .0), e .1 .1)
 
 pub opening-start-spec : {M : Type 1} → statement M
 opening-start-spec = tie.close (tie.spec mastdock-opening-start-requires same-length returns)

@@ -10,7 +10,9 @@ same-length : tie.Need-same-length
 same-length c = search needs
 
 returns : tie.Need-returns
-returns c = let e = c .before .before .mastdock-plan .ensures in (planned _ (e .0) (e .1 .0), e .1 .1)
+returns c =
+    let e = c .before .before .mastdock-plan .ensures in
+    (planned _ (e .0) (e .1 .0), e .1 .1)
 
 pub plan-spec : {M : Type 1} → statement M
 plan-spec = tie.close (tie.spec mastdock-plan-requires same-length returns)

@@ -7,7 +7,9 @@ mastdock-run-start-requires : tie.Need-mastdock-run-start-requires
 mastdock-run-start-requires c κs = search needs
 
 returns : tie.Need-returns
-returns c = let e = c .mastdock-run-start .ensures in run-started _ (e .0) (e .1)
+returns c =
+    let e = c .mastdock-run-start .ensures in
+    run-started _ (e .0) (e .1)
 
 pub run-start-spec : {M : Type 1} → statement M
 run-start-spec = tie.close (tie.spec mastdock-run-start-requires returns)

@@ -10,7 +10,9 @@ same-length : tie.Need-same-length
 same-length c = search needs
 
 returns : tie.Need-returns
-returns c = let e = c .before .before .mastdock-writing-advance .ensures in (writing-advanced _ (e .0) (e .1 .0) (e .1 .1 .0), e .1 .1 .1)
+returns c =
+    let e = c .before .before .mastdock-writing-advance .ensures in
+    (writing-advanced _ (e .0) (e .1 .0) (e .1 .1 .0), e .1 .1 .1)
 
 pub writing-advance-spec : {M : Type 1} → statement M
 writing-advance-spec = tie.close (tie.spec mastdock-writing-advance-requires same-length returns)

@@ -10,7 +10,9 @@ same-length : tie.Need-same-length
 same-length c = search needs
 
 returns : tie.Need-returns
-returns c = let e = c .before .before .mastdock-writing-start .ensures in (writing-started _ (e .0) (e .1 .0), e .1 .1)
+returns c =
+    let e = c .before .before .mastdock-writing-start .ensures in
+    (writing-started _ (e .0) (e .1 .0), e .1 .1)
 
 pub writing-start-spec : {M : Type 1} → statement M
 writing-start-spec = tie.close (tie.spec mastdock-writing-start-requires same-length returns)
