@@ -82,7 +82,7 @@ static double compared(void) {
     double start = now();
     mastdock_compared c = mastdock_compare(statement, DEPTH, leaves, COUNT, openings, sizeof openings);
     double took = now() - start;
-    if (c.refusal || c.i) {
+    if (c.refusal || c.clash.i) {
         printf("the openings disagree\n");
         exit(1);
     }

@@ -60,12 +60,12 @@ static void write_file(const uint8_t statement[32], const uint8_t root[32], cons
     if (started.refusal)
         fail("mastdock_writing_start", started.refusal);
     mastdock_writing writing = started.writing;
-    for (uint64_t labels = 1; labels != 0;) {
+    for (uint64_t left = COUNT * MASTDOCK_LABELS_ANEW(DEPTH, MEMORY); left != 0;) {
         mastdock_writing_advanced advanced = mastdock_writing_advance(writing, BUDGET, store, store_len, file, file_len);
         if (advanced.refusal)
             fail("mastdock_writing_advance", advanced.refusal);
         writing = advanced.writing;
-        labels = advanced.labels;
+        left -= advanced.labels;
     }
 }
 
@@ -90,6 +90,8 @@ int main(void) {
     memset(file, 0, file_len);
     write_file(statement, root, store, store_len, file, file_len);
     print_label("file", mastdock_digest(file, file_len).digest);
+    mastdock_head head = mastdock_read_head(file, file_len);
+    printf("head depth %llu count %llu\n", (unsigned long long)head.depth, (unsigned long long)head.count);
     printf("check %llu\n", (unsigned long long)mastdock_check_file(file, file_len, statement, DEPTH, COUNT));
     draw_chain(statement, file, file_len);
 

@@ -6,11 +6,13 @@
  * - A refusal is document 01's number, 0 where there is none; enum mastdock_refusal names them. Each call lists its refusals in
  *   the order in which they are tested. A refused call changes no lent byte, hands a state back as it was and makes 0 labels; a
  *   refused start hands back an all-zero state, and other values beside a refusal are 0.
- * - Lent memory is a pointer and a number of elements.
+ * - Lent memory is a pointer and a number of elements. Where the number is 0 the pointer may be null: so it is for every pointer of
+ *   every call that a number follows, and the call answers as for memory of that length.
+ * - No struct has padding: its bytes are those of its fields, `zero` among them, so two answers are equal just when memcmp says so.
  *
  * What pointers owe
- * - A pointer to an array of 32 bytes points to 32 readable bytes. A pointer with a number of elements points to so many, readable
- *   or, where it is not const, writable; it may be null if the number is 0. A uint64_t pointer is aligned.
+ * - A pointer to an array of 32 bytes points to 32 readable bytes and is not null. A pointer with a number of elements points to so
+ *   many, readable or, where it is not const, writable. A uint64_t pointer is aligned, unless it is null.
  * - Memory that a call may write overlaps no other memory lent to that call.
  * Nothing else is asked. No call keeps a pointer, allocates, or uses global data, so calls on different memory may run at once. */
 #ifndef MASTDOCK_H
@@ -28,7 +30,8 @@ enum mastdock_refusal {
     MASTDOCK_DEPTH = 1,           /* depth n not 1..40 */
     MASTDOCK_MEMORY_LEVEL = 2,    /* memory level m over min(n, 20) */
     MASTDOCK_SHORT_STORE = 3,     /* store short */
-    MASTDOCK_STATE = 4,           /* a state that cannot be continued */
+    MASTDOCK_STATE = 4,           /* a state that cannot be continued: n not 1..40, m over min(n, 20), a leaf of 2^n or more, or more
+                                     labels made than there are to make */
     MASTDOCK_TOO_MANY_BYTES = 5,  /* over 2^61 - 1 bytes to hash in all */
     MASTDOCK_LEAF_POSITION = 6,   /* a leaf's position 2^n or more */
     MASTDOCK_SHORT_OUTPUT = 7,    /* output short */
@@ -46,22 +49,31 @@ enum mastdock_refusal {
 
 /* Limits and sizes. A state's size is its sizeof. The sizes are constant where their arguments are; n is 1..40, m at most
  * min(n, 20), t 1..200. */
+#ifdef __cplusplus
+#define MASTDOCK_SIZE(x) static_cast<size_t>(x)
+#define MASTDOCK_NUMBER(x) static_cast<uint64_t>(x)
+#else
+#define MASTDOCK_SIZE(x) ((size_t)(x))
+#define MASTDOCK_NUMBER(x) ((uint64_t)(x))
+#endif
 #define MASTDOCK_MAX_DEPTH 40
 #define MASTDOCK_MAX_MEMORY 20
 #define MASTDOCK_MAX_COUNT 200
-#define MASTDOCK_HELD_SIZE 1312                                          /* 41 places of 32 bytes */
-#define MASTDOCK_STORE_SIZE(m) ((size_t)32 * (((size_t)2 << (m)) - 1))   /* bytes of a store of levels 0 to m */
-#define MASTDOCK_OPENING_SIZE(n) ((size_t)32 * ((size_t)(n) + 1))        /* bytes of an opening */
-#define MASTDOCK_HEAD_SIZE(t) ((size_t)((t) < 128 ? 67 : 68))            /* bytes before the openings */
-#define MASTDOCK_FILE_SIZE(n, t) (MASTDOCK_HEAD_SIZE(t) + (size_t)(t) * MASTDOCK_OPENING_SIZE(n))
-#define MASTDOCK_LABELS(n) (((uint64_t)2 << (n)) - 1)                    /* labels of a whole run */
-#define MASTDOCK_LABELS_ANEW(n, m) (((uint64_t)2 << ((n) - (m))) - 2)    /* labels that an opening makes anew */
-#define MASTDOCK_INPUT_SIZE 105                                          /* bytes of an inner node's hash input */
-#define MASTDOCK_MAX_CHAIN 6855                                          /* nodes of a chain of 200 leaves, at most */
+#define MASTDOCK_HELD_SIZE 1312                                             /* 41 places of 32 bytes */
+#define MASTDOCK_STORE_SIZE(m) (32 * ((MASTDOCK_SIZE(2) << (m)) - 1))       /* bytes of a store of levels 0 to m */
+#define MASTDOCK_OPENING_SIZE(n) (32 * (MASTDOCK_SIZE(n) + 1))              /* bytes of an opening */
+#define MASTDOCK_HEAD_SIZE(t) MASTDOCK_SIZE((t) < 128 ? 67 : 68)            /* bytes before the openings */
+#define MASTDOCK_FILE_SIZE(n, t) (MASTDOCK_HEAD_SIZE(t) + MASTDOCK_SIZE(t) * MASTDOCK_OPENING_SIZE(n))
+#define MASTDOCK_LABELS(n) ((MASTDOCK_NUMBER(2) << (n)) - 1)                /* labels of a whole run */
+#define MASTDOCK_LABELS_ANEW(n, m) ((MASTDOCK_NUMBER(2) << ((n) - (m))) - 2) /* labels that an opening makes anew */
+#define MASTDOCK_INPUT_SIZE 105                                             /* bytes of an inner node's hash input */
+#define MASTDOCK_MAX_CHAIN 6855                                             /* nodes of a chain of 200 leaves, at most */
 
 /* ---- Hashing: SHA-256 in portions ---- */
 
-/* A hash under way: the eight hash words, the bytes that wait for their block to fill, and how many were taken in all. */
+/* A hash under way: the eight hash words, the bytes that wait for their block to fill, and how many were taken in all. Of the tail
+ * the first taken % 64 bytes wait; when they fill a block they go into the words, and the whole tail is zero again. Behind the
+ * bytes that wait, the tail of a hash begun with mastdock_hash_new is zero. */
 typedef struct mastdock_hash {
     uint32_t words[8];
     uint8_t tail[64];
@@ -179,6 +191,17 @@ mastdock_challenged mastdock_challenge(const uint8_t statement[32], const uint8_
 uint64_t mastdock_write_head(const uint8_t statement[32], const uint8_t root[32], uint64_t depth, uint64_t count, uint8_t *file,
                              size_t file_len);
 
+typedef struct mastdock_head {
+    uint64_t refusal;
+    uint64_t depth;
+    uint64_t count;
+} mastdock_head;
+
+/* Reads depth and count out of a file's head, whose first bytes are enough; what follows them is not looked at. The statement is the
+ * 32 bytes from MASTDOCK_HEAD_SIZE(count) - 64 on, the root the 32 after it, and the file should be MASTDOCK_FILE_SIZE(depth, count)
+ * bytes long. Refusals: edition 10, 11, 12; depth 10, 11, 1; count 10, 11, 8. */
+mastdock_head mastdock_read_head(const uint8_t *file, size_t file_len);
+
 /* Where opening i, from 1, lies in a file: nowhere if a head number is refused, the length is not the layout's, or there is no
  * opening of that number. No refusal. */
 mastdock_place mastdock_opening_place(const uint8_t *file, size_t file_len, uint64_t i);
@@ -194,7 +217,9 @@ uint64_t mastdock_check_file(const uint8_t *file, size_t file_len, const uint8_t
 
 /* ---- The whole file written by budgets ---- */
 
-/* A file under writing: root, count, the number of the opening under way, from 1, and that opening. */
+/* A file under writing: root, count, the number of the opening under way, from 1, and that opening. All openings before that number
+ * are in the file. The whole file is done when number == count and opening.made == MASTDOCK_LABELS_ANEW(opening.depth,
+ * opening.memory); with the memory level equal to the depth that is so from the start. */
 typedef struct mastdock_writing {
     uint8_t root[32];
     uint64_t count;
@@ -221,8 +246,10 @@ mastdock_writing_started mastdock_writing_start(const uint8_t statement[32], con
                                                 uint8_t *file, size_t file_len);
 
 /* Makes anew exactly the smaller of the budget and the labels that remain for all openings, and puts those of the openings in
- * their places of the file; the next opening is begun when one is done. The file is done when 0 labels remain: a call with a
- * budget gives 0 labels. Refusals: 4, 3, 7. */
+ * their places of the file; the next opening is begun when one is done. The file is done when no label remains: all together there
+ * are count * MASTDOCK_LABELS_ANEW(depth, memory), and a call with a budget over 0 that is not refused and gives 0 labels says so.
+ * Refusals: 4 (the opening cannot be continued, count not 1..200, number not 1..count, or an opening that is done but not the last;
+ * no start and no call leaves such a writing), 3, 7 (the whole file must fit). */
 mastdock_writing_advanced mastdock_writing_advance(mastdock_writing writing, uint64_t budget, const uint8_t *store,
                                                    size_t store_len, uint8_t *file, size_t file_len);
 
@@ -237,14 +264,20 @@ typedef struct mastdock_planned {
  * Leaves may stand in any order and repeat. Refusals: 1, 8, 6, 16. */
 mastdock_planned mastdock_plan(uint64_t depth, const uint64_t *leaves, size_t leaves_len, uint64_t *list, size_t list_len);
 
-/* Where no pair of openings disagrees, all zero; else the first pair i < j, from 1, the smallest level, and both hash inputs. */
-typedef struct mastdock_compared {
-    uint64_t refusal;
+/* Two openings that disagree: the first pair i < j, from 1, the smallest level, and both hash inputs there. All zero where no pair
+ * does; i is 0 just then. The last six bytes are always 0. */
+typedef struct mastdock_clash {
     uint64_t i;
     uint64_t j;
     uint64_t level;
     uint8_t first[MASTDOCK_INPUT_SIZE];
     uint8_t second[MASTDOCK_INPUT_SIZE];
+    uint8_t zero[6];
+} mastdock_clash;
+
+typedef struct mastdock_compared {
+    uint64_t refusal;
+    mastdock_clash clash;
 } mastdock_compared;
 
 /* Compares openings of leaves, given one after the other in one piece; they need not be right. Two disagree at a shared inner node
@@ -257,7 +290,7 @@ mastdock_compared mastdock_compare(const uint8_t statement[32], uint64_t depth, 
 enum mastdock_drawing {
     MASTDOCK_NOT_DRAWN = 0, /* refused: the code as mastdock_check_file gives it */
     MASTDOCK_CHAIN = 1,     /* a chain: the count of its nodes */
-    MASTDOCK_CLASH = 2      /* a pair i < j of openings, from 1, that disagrees, the smallest level, and both inputs */
+    MASTDOCK_CLASH = 2      /* two openings that disagree */
 };
 
 /* The fields of the kind that it is; all others are 0. */
@@ -265,11 +298,7 @@ typedef struct mastdock_drawn {
     uint64_t kind;
     uint64_t code;
     uint64_t count;
-    uint64_t i;
-    uint64_t j;
-    uint64_t level;
-    uint8_t first[MASTDOCK_INPUT_SIZE];
-    uint8_t second[MASTDOCK_INPUT_SIZE];
+    mastdock_clash clash;
 } mastdock_drawn;
 
 /* Draws the chain of a file: checks it as mastdock_check_file does; then, if two of its openings disagree, names the first pair and
@@ -347,6 +376,11 @@ MASTDOCK_ASSERT(sizeof(mastdock_challenged) == 16);
 MASTDOCK_AT(mastdock_challenged, refusal, 0);
 MASTDOCK_AT(mastdock_challenged, leaf, 8);
 
+MASTDOCK_ASSERT(sizeof(mastdock_head) == 24);
+MASTDOCK_AT(mastdock_head, refusal, 0);
+MASTDOCK_AT(mastdock_head, depth, 8);
+MASTDOCK_AT(mastdock_head, count, 16);
+
 MASTDOCK_ASSERT(sizeof(mastdock_place) == 16);
 MASTDOCK_AT(mastdock_place, offset, 0);
 MASTDOCK_AT(mastdock_place, length, 8);
@@ -370,27 +404,28 @@ MASTDOCK_ASSERT(sizeof(mastdock_planned) == 16);
 MASTDOCK_AT(mastdock_planned, refusal, 0);
 MASTDOCK_AT(mastdock_planned, count, 8);
 
+MASTDOCK_ASSERT(sizeof(mastdock_clash) == 240);
+MASTDOCK_AT(mastdock_clash, i, 0);
+MASTDOCK_AT(mastdock_clash, j, 8);
+MASTDOCK_AT(mastdock_clash, level, 16);
+MASTDOCK_AT(mastdock_clash, first, 24);
+MASTDOCK_AT(mastdock_clash, second, 129);
+MASTDOCK_AT(mastdock_clash, zero, 234);
+
 MASTDOCK_ASSERT(sizeof(mastdock_compared) == 248);
 MASTDOCK_AT(mastdock_compared, refusal, 0);
-MASTDOCK_AT(mastdock_compared, i, 8);
-MASTDOCK_AT(mastdock_compared, j, 16);
-MASTDOCK_AT(mastdock_compared, level, 24);
-MASTDOCK_AT(mastdock_compared, first, 32);
-MASTDOCK_AT(mastdock_compared, second, 137);
+MASTDOCK_AT(mastdock_compared, clash, 8);
 
 MASTDOCK_ASSERT(sizeof(mastdock_drawn) == 264);
 MASTDOCK_AT(mastdock_drawn, kind, 0);
 MASTDOCK_AT(mastdock_drawn, code, 8);
 MASTDOCK_AT(mastdock_drawn, count, 16);
-MASTDOCK_AT(mastdock_drawn, i, 24);
-MASTDOCK_AT(mastdock_drawn, j, 32);
-MASTDOCK_AT(mastdock_drawn, level, 40);
-MASTDOCK_AT(mastdock_drawn, first, 48);
-MASTDOCK_AT(mastdock_drawn, second, 153);
+MASTDOCK_AT(mastdock_drawn, clash, 24);
 
 /* Document 01's table: T5, T8 and T9. */
 MASTDOCK_ASSERT(MASTDOCK_STORE_SIZE(0) == 32 && MASTDOCK_STORE_SIZE(10) == 65504);
 MASTDOCK_ASSERT(MASTDOCK_FILE_SIZE(1, 1) == 131 && MASTDOCK_FILE_SIZE(40, 200) == 262468);
+MASTDOCK_ASSERT(MASTDOCK_LABELS(2) == 7 && MASTDOCK_LABELS_ANEW(3, 3) == 0 && MASTDOCK_LABELS_ANEW(3, 1) == 6);
 
 #undef MASTDOCK_AT
 #undef MASTDOCK_ASSERT

@@ -25,6 +25,12 @@ pub struct Clash {
     pub second: [u8; 105],
 }
 
+/// A clash of the library's, none where no pair disagrees.
+fn found(clash: ffi::Clash) -> Option<Clash> {
+    let ffi::Clash { i, j, level, first, second, zero: _ } = clash;
+    (i != 0).then_some(Clash { i, j, level, first, second })
+}
+
 /// Compares openings of leaves, given one after the other in one piece; they need not be right. Holds a table of 512,000 bytes on
 /// the stack: its thread wants 0.6 MB. Refused with 1, 8, 6, 10, 13.
 pub fn compare(statement: &[u8; 32], depth: u64, leaves: &[u64], openings: &[u8]) -> Result<Option<Clash>, Refusal> {
@@ -33,8 +39,7 @@ pub fn compare(statement: &[u8; 32], depth: u64, leaves: &[u64], openings: &[u8]
         let (leaves_len, openings_len) = (leaves.len(), openings.len());
         ffi::mastdock_compare(statement, depth, leaves.as_ptr(), leaves_len, openings.as_ptr(), openings_len)
     };
-    let ffi::Compared { refusal, i, j, level, first, second } = compared;
-    answered(refusal, (i != 0).then_some(Clash { i, j, level, first, second }))
+    answered(compared.refusal, found(compared.clash))
 }
 
 /// What drawing found.
@@ -56,10 +61,8 @@ pub fn draw(file: &[u8], statement: &[u8; 32], depth: u64, count: u64, list: &mu
         ffi::mastdock_draw(file.as_ptr(), file.len(), statement, depth, count, list.as_mut_ptr(), list.len())
     };
     checked(drawn.code)?;
-    let ffi::Drawn { i, j, level, first, second, .. } = drawn;
-    match drawn.kind {
-        1 => Ok(Drawing::Chain(drawn.count as usize)),
-        2 => Ok(Drawing::Clash(Clash { i, j, level, first, second })),
-        kind => unreachable!("a drawing of kind {kind} that is not refused"),
-    }
+    Ok(match found(drawn.clash) {
+        Some(clash) => Drawing::Clash(clash),
+        None => Drawing::Chain(drawn.count as usize),
+    })
 }

@@ -1,5 +1,5 @@
-//! The calls as the static library exports them: the same as `include/mastdock.h`, which says what pointers owe. Nothing here is
-//! needed where the safe functions serve.
+//! The calls as the static library exports them: the same as `include/mastdock.h`, which says what pointers owe. A pointer may be
+//! null where the number of elements is 0. No struct has padding. Nothing here is needed where the safe functions serve.
 use crate::{Hash, Opening, Place, Run, Writing};
 
 #[repr(C)]
@@ -85,13 +85,29 @@ pub struct Planned {
 
 #[repr(C)]
 #[derive(Clone, Debug, PartialEq, Eq)]
-pub struct Compared {
+pub struct HeadRead {
     pub refusal: u64,
+    pub depth: u64,
+    pub count: u64,
+}
+
+/// Two openings that disagree; all zero where no pair does. The last six bytes are always 0.
+#[repr(C)]
+#[derive(Clone, Debug, PartialEq, Eq)]
+pub struct Clash {
     pub i: u64,
     pub j: u64,
     pub level: u64,
     pub first: [u8; 105],
     pub second: [u8; 105],
+    pub zero: [u8; 6],
+}
+
+#[repr(C)]
+#[derive(Clone, Debug, PartialEq, Eq)]
+pub struct Compared {
+    pub refusal: u64,
+    pub clash: Clash,
 }
 
 #[repr(C)]
@@ -100,11 +116,7 @@ pub struct Drawn {
     pub kind: u64,
     pub code: u64,
     pub count: u64,
-    pub i: u64,
-    pub j: u64,
-    pub level: u64,
-    pub first: [u8; 105],
-    pub second: [u8; 105],
+    pub clash: Clash,
 }
 
 extern "C" {
@@ -147,6 +159,7 @@ extern "C" {
         file: *mut u8,
         file_len: usize,
     ) -> u64;
+    pub fn mastdock_read_head(file: *const u8, file_len: usize) -> HeadRead;
     pub fn mastdock_opening_place(file: *const u8, file_len: usize, i: u64) -> Place;
     pub fn mastdock_check_opening(
         statement: *const [u8; 32],

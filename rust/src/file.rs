@@ -31,6 +31,24 @@ pub fn write_head(
     answered(refusal, ())
 }
 
+/// The numbers of a file's head.
+#[derive(Clone, Copy, Debug, PartialEq, Eq)]
+pub struct Head {
+    pub depth: u64,
+    /// How many openings the file has.
+    pub count: u64,
+}
+
+/// Reads depth and count out of a file's head, whose first bytes are enough; what follows them is not looked at. The statement is
+/// the 32 bytes from [`head_size`](crate::head_size) − 64 on, the root the 32 after it, and the file should be
+/// [`file_size`](crate::file_size) bytes long. Refused for the edition with 10, 11, 12, the depth with 10, 11, 1, the count with
+/// 10, 11, 8.
+pub fn read_head(file: &[u8]) -> Result<Head, Refusal> {
+    // SAFETY: pointer and length are a slice's.
+    let ffi::HeadRead { refusal, depth, count } = unsafe { ffi::mastdock_read_head(file.as_ptr(), file.len()) };
+    answered(refusal, Head { depth, count })
+}
+
 /// Where opening `i`, from 1, lies in a file: nowhere if a head number is refused, the length is not the layout's, or there is no
 /// opening of that number.
 pub fn opening_place(file: &[u8], i: u64) -> Place {

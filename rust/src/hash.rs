@@ -8,7 +8,8 @@ use crate::refusal::{answered, Refusal};
 pub struct Hash {
     /// The eight hash words.
     pub words: [u32; 8],
-    /// The bytes that wait for their block to fill.
+    /// The bytes that wait for their block to fill: the first `taken % 64`. When they fill a block they go into the words, and the
+    /// whole tail is zero again.
     pub tail: [u8; 64],
     /// How many bytes were taken in all.
     pub taken: u64,

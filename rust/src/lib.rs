@@ -50,7 +50,7 @@ mod sizes;
 mod writing;
 
 pub use chain::{compare, draw, plan, Clash, Drawing};
-pub use file::{challenge, check_file, check_opening, opening_part, opening_place, write_head, Place};
+pub use file::{challenge, check_file, check_opening, opening_part, opening_place, read_head, write_head, Head, Place};
 pub use hash::{digest, Hash};
 pub use opening::Opening;
 pub use refusal::{Refusal, Rejected};

@@ -1,9 +1,11 @@
 //! The openings of a whole file, written by budgets.
 use crate::ffi;
 use crate::refusal::{answered, Refusal};
+use crate::sizes::labels_anew;
 use crate::Opening;
 
-/// A file under writing. Every value of the fields is possible: one that cannot be continued is refused with 4.
+/// A file under writing. Every value of the fields is possible: one that cannot be continued is refused with 4, which no writing is
+/// that [`start`](Writing::start) and [`advance`](Writing::advance) made.
 #[repr(C)]
 #[derive(Clone, Debug, PartialEq, Eq)]
 pub struct Writing {
@@ -46,7 +48,9 @@ impl Writing {
     }
 
     /// Makes anew exactly the smaller of the budget and the labels that remain for all openings, gives that number, and puts the
-    /// labels of the openings in their places of the file. Refused with 4, 3, 7, which changes nothing.
+    /// labels of the openings in their places of the file. The file is done when no label remains: see
+    /// [`is_done`](Writing::is_done). Refused with 4, 3, 7, which changes nothing. 4: the opening cannot be continued, the count is
+    /// not 1..200, the number not 1..count, or the opening is done but not the last.
     pub fn advance(&mut self, budget: u64, store: &[u8], file: &mut [u8]) -> Result<u64, Refusal> {
         // SAFETY: pointers and lengths are those of slices; the file is borrowed alone; every state is allowed.
         let advanced = unsafe {
@@ -61,5 +65,9 @@ impl Writing {
         };
         *self = advanced.writing;
         answered(advanced.refusal, advanced.labels)
+    }
+    /// Whether the whole file is written: the last opening is under way and has no label left to make.
+    pub fn is_done(&self) -> bool {
+        self.number == self.count && labels_anew(self.opening.depth, self.opening.memory) == Some(self.opening.made)
     }
 }

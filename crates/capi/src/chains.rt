@@ -1,6 +1,7 @@
 // Chains: planned and drawn, and the comparison of openings.
 ghost use mathlib.Core.Path.{_≡_};
 ghost use lib.ListN.{length};
+ghost use Rattle.base.specs.Bytes.{zeros};
 ghost use Rattle.chain.specs.PlanRow.{planRow, plannedCount, plannedList};
 ghost use Rattle.compare.specs.Comparison.{compareRow, compared, firstInput, secondInput};
 ghost use Rattle.draw.specs.Drawing.{drawingAnswer, drawingOf, drawnList, firstDrawn, secondDrawn, clashPair};
@@ -32,34 +33,48 @@ pub extern "C" fn mastdock_plan(depth: u64, leaves: &[u64], list: &mut [u64]) ->
     }
 }
 
-// A pair in numbers.
-struct Numbers {
-    i: u64,
-    j: u64,
-    level: u64,
+// Two openings that disagree: the pair i < j, from 1, the smallest level, and both hash inputs there; all zero where no pair does.
+// `zero` is always 0: it names the bytes that would be padding.
+#[repr(C)]
+pub struct Clash {
+    pub i: u64,
+    pub j: u64,
+    pub level: u64,
+    pub first: [u8; 105],
+    pub second: [u8; 105],
+    pub zero: [u8; 6],
 }
 
-fn pair_numbers(pair: Pair) -> Numbers
+// A pair with its inputs.
+fn clash_of(pair: Pair, first: [u8; 105], second: [u8; 105]) -> Clash
     ensures { λ r. ⌜ (r .i ≡ firstOf pair) × ((r .j ≡ secondOf pair) × (r .level ≡ levelOf pair)) ⌝ }
+    ensures { λ r. ⌜ (r .first ≡ first) × ((r .second ≡ second) × (r .zero ≡ zeros 6)) ⌝ }
 {
+    let zero = [0u8; 6];
     match pair {
-        Pair::Agree => Numbers {
+        Pair::Agree => Clash {
             i: 0,
             j: 0,
             level: 0,
+            first,
+            second,
+            zero,
         },
-        Pair::Disagree(i, j, level) => Numbers { i, j, level },
+        Pair::Disagree(i, j, level) => Clash {
+            i,
+            j,
+            level,
+            first,
+            second,
+            zero,
+        },
     }
 }
 
 #[repr(C)]
 pub struct Compared {
     pub refusal: u64,
-    pub i: u64,
-    pub j: u64,
-    pub level: u64,
-    pub first: [u8; 105],
-    pub second: [u8; 105],
+    pub clash: Clash,
 }
 
 // The first pair of openings that disagrees, the smallest level and both inputs there; all zero where no pair does.
@@ -71,11 +86,12 @@ pub extern "C" fn mastdock_compare(
     openings: &[u8],
 ) -> Compared
     ensures { λ r. ⌜ r .refusal ≡ compareRow depth (now (leaves .entry)) (length (now (openings .entry))) ⌝ }
-    ensures { λ r. ⌜ r .i ≡ firstOf (compared (now (statement .entry)) depth (now (leaves .entry)) (now (openings .entry))) ⌝ }
-    ensures { λ r. ⌜ r .j ≡ secondOf (compared (now (statement .entry)) depth (now (leaves .entry)) (now (openings .entry))) ⌝ }
-    ensures { λ r. ⌜ r .level ≡ levelOf (compared (now (statement .entry)) depth (now (leaves .entry)) (now (openings .entry))) ⌝ }
-    ensures { λ r. ⌜ r .first ≡ firstInput (now (statement .entry)) depth (now (leaves .entry)) (now (openings .entry)) (compared (now (statement .entry)) depth (now (leaves .entry)) (now (openings .entry))) ⌝ }
-    ensures { λ r. ⌜ r .second ≡ secondInput (now (statement .entry)) depth (now (leaves .entry)) (now (openings .entry)) (compared (now (statement .entry)) depth (now (leaves .entry)) (now (openings .entry))) ⌝ }
+    ensures { λ r. ⌜ r .clash .i ≡ firstOf (compared (now (statement .entry)) depth (now (leaves .entry)) (now (openings .entry))) ⌝ }
+    ensures { λ r. ⌜ r .clash .j ≡ secondOf (compared (now (statement .entry)) depth (now (leaves .entry)) (now (openings .entry))) ⌝ }
+    ensures { λ r. ⌜ r .clash .level ≡ levelOf (compared (now (statement .entry)) depth (now (leaves .entry)) (now (openings .entry))) ⌝ }
+    ensures { λ r. ⌜ r .clash .first ≡ firstInput (now (statement .entry)) depth (now (leaves .entry)) (now (openings .entry)) (compared (now (statement .entry)) depth (now (leaves .entry)) (now (openings .entry))) ⌝ }
+    ensures { λ r. ⌜ r .clash .second ≡ secondInput (now (statement .entry)) depth (now (leaves .entry)) (now (openings .entry)) (compared (now (statement .entry)) depth (now (leaves .entry)) (now (openings .entry))) ⌝ }
+    ensures { λ r. ⌜ r .clash .zero ≡ zeros 6 ⌝ }
 {
     let c = compare::compare(*statement, depth, leaves, openings);
     let outcome = c.outcome;
@@ -83,56 +99,47 @@ pub extern "C" fn mastdock_compare(
     let first = c.first;
     let second = c.second;
     let refusal = outcome_number(outcome);
-    let n = pair_numbers(pair);
-    Compared {
-        refusal,
-        i: n.i,
-        j: n.j,
-        level: n.level,
-        first,
-        second,
-    }
+    let clash = clash_of(pair, first, second);
+    Compared { refusal, clash }
 }
 
-// A drawing in numbers.
+// A drawing in numbers, but for its clash.
 struct Parts {
     kind: u64,
     code: u64,
     count: u64,
-    i: u64,
-    j: u64,
-    level: u64,
 }
 
 fn drawing_numbers(drawing: Drawing) -> Parts
     ensures { λ r. ⌜ (r .kind ≡ kindOf (drawingAnswer drawing)) × ((r .code ≡ refusalOf (drawingAnswer drawing)) × (r .count ≡ countOf (drawingAnswer drawing))) ⌝ }
-    ensures { λ r. ⌜ (r .i ≡ firstOf (clashPair (drawingAnswer drawing))) × ((r .j ≡ secondOf (clashPair (drawingAnswer drawing))) × (r .level ≡ levelOf (clashPair (drawingAnswer drawing)))) ⌝ }
 {
     match drawing {
         Drawing::NotDrawn(why, opening) => Parts {
             kind: 0,
             code: refusal::code(Check::Rejected(why, opening)),
             count: 0,
-            i: 0,
-            j: 0,
-            level: 0,
         },
         Drawing::Chain(count) => Parts {
             kind: 1,
             code: 0,
             count,
-            i: 0,
-            j: 0,
-            level: 0,
         },
-        Drawing::Clash(i, j, level) => Parts {
+        Drawing::Clash(_, _, _) => Parts {
             kind: 2,
             code: 0,
             count: 0,
-            i,
-            j,
-            level,
         },
+    }
+}
+
+// The pair of a clash.
+fn clash_pair(drawing: Drawing) -> Pair
+    ensures { λ r. ⌜ r ≡ clashPair (drawingAnswer drawing) ⌝ }
+{
+    match drawing {
+        Drawing::NotDrawn(_, _) => Pair::Agree,
+        Drawing::Chain(_) => Pair::Agree,
+        Drawing::Clash(i, j, level) => Pair::Disagree(i, j, level),
     }
 }
 
@@ -141,11 +148,7 @@ pub struct Drawn {
     pub kind: u64,
     pub code: u64,
     pub count: u64,
-    pub i: u64,
-    pub j: u64,
-    pub level: u64,
-    pub first: [u8; 105],
-    pub second: [u8; 105],
+    pub clash: Clash,
 }
 
 // The chain of a proof, or the first clash of two of its openings, or the refusal.
@@ -160,11 +163,12 @@ pub extern "C" fn mastdock_draw(
     ensures { λ r. ⌜ r .kind ≡ kindOf (drawingOf (now (file .entry)) (now (statement .entry)) depth count (length (now (list .entry)))) ⌝ }
     ensures { λ r. ⌜ r .code ≡ refusalOf (drawingOf (now (file .entry)) (now (statement .entry)) depth count (length (now (list .entry)))) ⌝ }
     ensures { λ r. ⌜ r .count ≡ countOf (drawingOf (now (file .entry)) (now (statement .entry)) depth count (length (now (list .entry)))) ⌝ }
-    ensures { λ r. ⌜ r .i ≡ firstOf (clashPair (drawingOf (now (file .entry)) (now (statement .entry)) depth count (length (now (list .entry))))) ⌝ }
-    ensures { λ r. ⌜ r .j ≡ secondOf (clashPair (drawingOf (now (file .entry)) (now (statement .entry)) depth count (length (now (list .entry))))) ⌝ }
-    ensures { λ r. ⌜ r .level ≡ levelOf (clashPair (drawingOf (now (file .entry)) (now (statement .entry)) depth count (length (now (list .entry))))) ⌝ }
-    ensures { λ r. ⌜ r .first ≡ firstDrawn (now (file .entry)) (now (statement .entry)) depth count (length (now (list .entry))) ⌝ }
-    ensures { λ r. ⌜ r .second ≡ secondDrawn (now (file .entry)) (now (statement .entry)) depth count (length (now (list .entry))) ⌝ }
+    ensures { λ r. ⌜ r .clash .i ≡ firstOf (clashPair (drawingOf (now (file .entry)) (now (statement .entry)) depth count (length (now (list .entry))))) ⌝ }
+    ensures { λ r. ⌜ r .clash .j ≡ secondOf (clashPair (drawingOf (now (file .entry)) (now (statement .entry)) depth count (length (now (list .entry))))) ⌝ }
+    ensures { λ r. ⌜ r .clash .level ≡ levelOf (clashPair (drawingOf (now (file .entry)) (now (statement .entry)) depth count (length (now (list .entry))))) ⌝ }
+    ensures { λ r. ⌜ r .clash .first ≡ firstDrawn (now (file .entry)) (now (statement .entry)) depth count (length (now (list .entry))) ⌝ }
+    ensures { λ r. ⌜ r .clash .second ≡ secondDrawn (now (file .entry)) (now (statement .entry)) depth count (length (now (list .entry))) ⌝ }
+    ensures { λ r. ⌜ r .clash .zero ≡ zeros 6 ⌝ }
     ensures { λ _. ⌜ now (list .exit) ≡ drawnList (now (file .entry)) (now (statement .entry)) depth count (now (list .entry)) ⌝ }
 {
     let d = draw::draw(file, *statement, depth, count, list);
@@ -172,14 +176,12 @@ pub extern "C" fn mastdock_draw(
     let first = d.first;
     let second = d.second;
     let n = drawing_numbers(drawing);
+    let pair = clash_pair(drawing);
+    let clash = clash_of(pair, first, second);
     Drawn {
         kind: n.kind,
         code: n.code,
         count: n.count,
-        i: n.i,
-        j: n.j,
-        level: n.level,
-        first,
-        second,
+        clash,
     }
 }

@@ -4,8 +4,10 @@ ghost use lib.ListN.{length};
 ghost use Rattle.verify.specs.OpeningCheck.{openingRow};
 ghost use Rattle.proof.specs.Challenge.{challengeRow, challenged};
 ghost use Rattle.proof.specs.Layout.{headRow, headWritten};
-ghost use Rattle.proof.specs.Head.{headOf, partStart, partLength};
+ghost use Rattle.proof.specs.Head.{headAnswer, headOf, partStart, partLength};
 ghost use Rattle.proof.specs.FileCheck.{fileCheck};
+ghost use Rattle.capi.specs.Answers.{headRefusal, headDepth, headCount};
+use proof::HeadNumbers;
 use proof::Place;
 use refusal::outcome_number;
 
@@ -49,6 +51,42 @@ pub extern "C" fn mastdock_write_head(
 {
     let outcome = proof::write_head(*statement, *root, depth, count, file);
     outcome_number(outcome)
+}
+
+#[repr(C)]
+pub struct HeadRead {
+    pub refusal: u64,
+    pub depth: u64,
+    pub count: u64,
+}
+
+// The head's numbers, or the refusal beside 0 and 0.
+fn head_read(numbers: HeadNumbers) -> HeadRead
+    ensures { λ r. ⌜ (r .refusal ≡ headRefusal (headAnswer numbers)) × ((r .depth ≡ headDepth (headAnswer numbers)) × (r .count ≡ headCount (headAnswer numbers))) ⌝ }
+{
+    match numbers {
+        HeadNumbers::Numbers(depth, count, _) => HeadRead {
+            refusal: 0,
+            depth,
+            count,
+        },
+        HeadNumbers::NotRead(why) => HeadRead {
+            refusal: refusal::number(why),
+            depth: 0,
+            count: 0,
+        },
+    }
+}
+
+// Reads depth and count out of a file's head.
+#[no_mangle]
+pub extern "C" fn mastdock_read_head(file: &[u8]) -> HeadRead
+    ensures { λ r. ⌜ r .refusal ≡ headRefusal (headOf (now (file .entry))) ⌝ }
+    ensures { λ r. ⌜ r .depth ≡ headDepth (headOf (now (file .entry))) ⌝ }
+    ensures { λ r. ⌜ r .count ≡ headCount (headOf (now (file .entry))) ⌝ }
+{
+    let numbers = proof::read_head(file);
+    head_read(numbers)
 }
 
 // Where opening i, from 1, lies in a file; 0 and 0 where there is none.

@@ -6,3 +6,38 @@ mod hashes; // hashes.rt: SHA-256
 mod openings; // openings.rt: openings
 mod runs; // runs.rt: runs
 mod writings; // writings.rt: whole files by budgets
+
+pub use chains::Clash;
+pub use chains::Compared;
+pub use chains::Drawn;
+pub use chains::Planned;
+pub use chains::mastdock_compare;
+pub use chains::mastdock_draw;
+pub use chains::mastdock_plan;
+pub use files::Challenged;
+pub use files::HeadRead;
+pub use files::mastdock_challenge;
+pub use files::mastdock_check_file;
+pub use files::mastdock_check_opening;
+pub use files::mastdock_opening_place;
+pub use files::mastdock_read_head;
+pub use files::mastdock_write_head;
+pub use hashes::HashDigest;
+pub use hashes::HashFinished;
+pub use hashes::HashUpdated;
+pub use hashes::mastdock_digest;
+pub use hashes::mastdock_hash_finish;
+pub use hashes::mastdock_hash_new;
+pub use hashes::mastdock_hash_update;
+pub use openings::OpeningAdvanced;
+pub use openings::OpeningStarted;
+pub use openings::mastdock_opening_advance;
+pub use openings::mastdock_opening_start;
+pub use runs::RunAdvanced;
+pub use runs::RunStarted;
+pub use runs::mastdock_run_advance;
+pub use runs::mastdock_run_start;
+pub use writings::WritingAdvanced;
+pub use writings::WritingStarted;
+pub use writings::mastdock_writing_advance;
+pub use writings::mastdock_writing_start;

@@ -47,6 +47,19 @@ fn clash(clash: mastdock::Clash) -> Clash {
     Clash { i, j, level, first: first.to_vec(), second: second.to_vec() }
 }
 
+/// All fields of a clash; all zero where there is none.
+fn all_of_clash(clash: Option<Clash>) -> ffi::Clash {
+    let none = Clash { i: 0, j: 0, level: 0, first: vec![0; 105], second: vec![0; 105] };
+    let Clash { i, j, level, first, second } = clash.unwrap_or(none);
+    ffi::Clash { i, j, level, first: first.try_into().unwrap(), second: second.try_into().unwrap(), zero: [0; 6] }
+}
+
+/// The bytes of an answer, as memcmp sees them.
+fn bytes_of<A>(answer: &A) -> &[u8] {
+    // SAFETY: the struct has no padding, so all of its bytes are written.
+    unsafe { std::slice::from_raw_parts((answer as *const A).cast(), std::mem::size_of::<A>()) }
+}
+
 /// Openings of a tree, or of any bytes, with few leaves so that many ways are shared; some are changed.
 pub fn comparisons(random: &mut Random) -> u64 {
     let any = random.once_in(4);
@@ -81,7 +94,12 @@ pub fn comparisons(random: &mut Random) -> u64 {
     assert_eq!(numbered("compare", answer), expected);
     lent_leaves.is_now(&leaves);
     lent_bytes.is_now(&bytes);
-    1
+    // SAFETY: pointers and lengths are those of a reference and slices.
+    let compared =
+        unsafe { ffi::mastdock_compare(&statement, n, leaves.as_ptr(), leaves.len(), bytes.as_ptr(), bytes.len()) };
+    let (refusal, found) = expected.map_or_else(|refusal| (refusal, None), |found| (0, found));
+    assert_eq!(bytes_of(&compared), bytes_of(&ffi::Compared { refusal, clash: all_of_clash(found) }));
+    2
 }
 
 /// A drawing of the library as the model's.
@@ -95,14 +113,12 @@ fn drawing(answer: Result<Drawing, Rejected>) -> Drawn {
 
 /// All numbers of an answer: those of its kind, and 0 for the others.
 fn all_numbers(drawn: &Drawn) -> ffi::Drawn {
-    let none = ffi::Drawn { kind: 0, code: 0, count: 0, i: 0, j: 0, level: 0, first: [0; 105], second: [0; 105] };
+    let clash = all_of_clash(None);
+    let none = ffi::Drawn { kind: 0, code: 0, count: 0, clash };
     match drawn.clone() {
         Drawn::Refused(refusal, opening) => ffi::Drawn { code: 256 * refusal + opening, ..none },
         Drawn::Chain(count) => ffi::Drawn { kind: 1, count, ..none },
-        Drawn::Clash(Clash { i, j, level, first, second }) => {
-            let (first, second) = (first.try_into().unwrap(), second.try_into().unwrap());
-            ffi::Drawn { kind: 2, i, j, level, first, second, ..none }
-        }
+        Drawn::Clash(clash) => ffi::Drawn { kind: 2, clash: all_of_clash(Some(clash)), ..none },
     }
 }
 
@@ -127,7 +143,7 @@ pub fn drawings(random: &mut Random) -> u64 {
             let (file, file_len, list_len) = (bytes.as_ptr(), bytes.len(), again.len());
             ffi::mastdock_draw(file, file_len, &statement, n, t, again.as_mut_ptr(), list_len)
         };
-        assert_eq!(drawn, all_numbers(&expected));
+        assert_eq!(bytes_of(&drawn), bytes_of(&all_numbers(&expected)));
         see("draw", drawn.code / 256);
     }
     2 * CHANGES

@@ -1,13 +1,14 @@
 use super::opening::leaf_of;
 use super::{numbered, see};
 use crate::lent::Lent;
-use crate::model::file::{challenge, check, check_opening, code, file_size, groups, head, inputs, leaf, opening_place};
+use crate::model::file::{challenge, check, check_opening, code, file_size, groups, head, inputs, leaf};
+use crate::model::file::{opening_place, read_head};
 use crate::model::opening::opening_size;
 use crate::model::sha256::digest;
 use crate::model::tree::Labels;
 use crate::model::{file, label_at, Label};
 use crate::random::Random;
-use mastdock::Rejected;
+use mastdock::{Head, Rejected};
 
 pub fn challenges(random: &mut Random) -> u64 {
     let (statement, root) = (random.array(), random.array());
@@ -52,6 +53,10 @@ pub fn places(random: &mut Random) -> u64 {
     let mut bytes = numbers(random, n, t);
     let rest = random.near(64 + t as usize * opening_size(n));
     bytes.extend(random.bytes(rest));
+    let mut lent = Lent::bytes(random, &bytes);
+    let head = mastdock::read_head(lent.get()).map(|Head { depth, count }| (depth, count));
+    assert_eq!(numbered("read head", head), read_head(&bytes).map(|(depth, count, _)| (depth, count)));
+    lent.is_now(&bytes);
     let numbers = [0, 1, t / 2, t, t + 1, u64::MAX, random.below(201)];
     for i in numbers {
         let mut lent = Lent::bytes(random, &bytes);
@@ -61,7 +66,7 @@ pub fn places(random: &mut Random) -> u64 {
         assert_eq!(mastdock::opening_part(&bytes, i), &bytes[offset..offset + length]);
         lent.is_now(&bytes);
     }
-    2 * numbers.len() as u64
+    2 * numbers.len() as u64 + 1
 }
 
 /// A right opening of a leaf at any depth, and its root: siblings are random, and the root is what they give.

@@ -69,11 +69,13 @@ pub fn whole(random: &mut Random) -> u64 {
     let mut left = t * nodes_anew(n, m);
     let mut calls = 0;
     while left > 0 {
+        assert!(!writing.is_done());
         let budget = random.below(most);
         advance_both(random, &mut writing, budget, &store, &mut file);
         left -= budget.min(left);
         calls += 1;
     }
+    assert!(writing.is_done());
     let done = writing.clone();
     advance_both(random, &mut writing, 7, &store, &mut file);
     assert_eq!(writing, done);

@@ -14,19 +14,19 @@ code-requires c κs = search needs
 enum-known-drawing-2 : tie.Need-enum-known-drawing-2
 enum-known-drawing-2 c = search needs
 
-enum-known-drawing-3 : tie.Need-enum-known-drawing-3
-enum-known-drawing-3 c = search needs
+enum-told : tie.Need-enum-told
+enum-told c = search needs
 
 returns : tie.Need-returns
 returns c =
     let k = same-numbers _ _ (ap drawingAnswer (sym (c .before .before .drawing .given .1))) in
-    ((k .0 .0, (c .code .ensures ∙ k .0 .1 .0, k .0 .1 .1)), k .1)
+    (k .0, (c .code .ensures ∙ k .1 .0, k .1 .1))
 
 returns-2 : tie.Need-returns-2
 returns-2 c = same-numbers _ _ (ap drawingAnswer (sym (c .before .drawing2 .given .1)))
 
 returns-3 : tie.Need-returns-3
-returns-3 c = same-numbers _ _ (ap drawingAnswer (sym (c .before .drawing3 .given .1)))
+returns-3 c = same-numbers _ _ (ap drawingAnswer (sym (c .enum-told .given .1)))
 
 pub drawing-numbers-spec : {M : Type 1} → statement M
 drawing-numbers-spec =
@@ -35,7 +35,7 @@ drawing-numbers-spec =
     enum-known-drawing
     code-requires
     enum-known-drawing-2
-    enum-known-drawing-3
+    enum-told
     returns
     returns-2
     returns-3)

@@ -1,6 +1,6 @@
 use mathlib.Core.Path.{ap, _∙_}
+use Rattle.capi.proofs.Numbers.{same-pair}
 use borrow.Author.Needs.{needs}
-use Rattle.capi.specs.Answers.{firstOf, secondOf, levelOf}
 use Rattle.capi.proofs.chains.mastdock_compare.Statement.{statement}
 use Rattle.capi.proofs.chains.mastdock_compare.Tie as tie
 
@@ -10,18 +10,24 @@ compare-requires c κs = search needs
 outcome-number-requires : tie.Need-outcome-number-requires
 outcome-number-requires c κs = search needs
 
-pair-numbers-requires : tie.Need-pair-numbers-requires
-pair-numbers-requires c κs = search needs
+clash-of-requires : tie.Need-clash-of-requires
+clash-of-requires c κs = search needs
 
 returns : tie.Need-returns
 returns c =
     let e = c .before .before .before .before .compare .ensures in
-    let pair = e .1 .0 in
-    let numbers = c .pair-numbers .ensures in (
+    let p = same-pair _ _ (e .1 .0) in
+    let s = c .clash-of .ensures in (
       c .before .outcome-number .ensures ∙ e .0,
-      (numbers .0 ∙ ap firstOf pair, (numbers .1 .0 ∙ ap secondOf pair, (numbers .1 .1 ∙ ap levelOf pair, e .1 .1))),
+      (
+        s .0 .0 ∙ p .0,
+        (
+          s .0 .1 .0 ∙ p .1 .0,
+          (s .0 .1 .1 ∙ p .1 .1, (s .1 .0 ∙ e .1 .1 .0, (s .1 .1 .0 ∙ e .1 .1 .1, s .1 .1 .1))),
+        ),
+      ),
     )
 
 pub mastdock-compare-spec : {M : Type 1} → statement M
 mastdock-compare-spec =
-    tie.close (tie.spec compare-requires outcome-number-requires pair-numbers-requires returns)
+    tie.close (tie.spec compare-requires outcome-number-requires clash-of-requires returns)

@@ -1,0 +1,15 @@
+use Rattle.exported.proofs.Whole.{compared, clash}
+use borrow.Author.Needs.{needs}
+use Rattle.exported.proofs.compare.Statement.{statement}
+use Rattle.exported.proofs.compare.Tie as tie
+
+mastdock-compare-requires : tie.Need-mastdock-compare-requires
+mastdock-compare-requires c κs = search needs
+
+returns : tie.Need-returns
+returns c =
+    let e = c .mastdock-compare .ensures in
+    compared _ (e .0) (clash _ (e .1 .0) (e .1 .1 .0) (e .1 .1 .1 .0) (e .1 .1 .1 .1 .0) (e .1 .1 .1 .1 .1 .0) (e .1 .1 .1 .1 .1 .1))
+
+pub compare-spec : {M : Type 1} → statement M
+compare-spec = tie.close (tie.spec mastdock-compare-requires returns)

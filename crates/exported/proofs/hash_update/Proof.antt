@@ -1,0 +1,15 @@
+use Rattle.exported.proofs.Whole.{hash-updated}
+use borrow.Author.Needs.{needs}
+use Rattle.exported.proofs.hash_update.Statement.{statement}
+use Rattle.exported.proofs.hash_update.Tie as tie
+
+mastdock-hash-update-requires : tie.Need-mastdock-hash-update-requires
+mastdock-hash-update-requires c κs = search needs
+
+returns : tie.Need-returns
+returns c =
+    let e = c .mastdock-hash-update .ensures in
+    hash-updated _ (e .0) (e .1)
+
+pub hash-update-spec : {M : Type 1} → statement M
+hash-update-spec = tie.close (tie.spec mastdock-hash-update-requires returns)

@@ -1,0 +1,15 @@
+use Rattle.exported.proofs.Whole.{head-read}
+use borrow.Author.Needs.{needs}
+use Rattle.exported.proofs.read_head.Statement.{statement}
+use Rattle.exported.proofs.read_head.Tie as tie
+
+mastdock-read-head-requires : tie.Need-mastdock-read-head-requires
+mastdock-read-head-requires c κs = search needs
+
+returns : tie.Need-returns
+returns c =
+    let e = c .mastdock-read-head .ensures in
+    head-read _ (e .0) (e .1 .0) (e .1 .1)
+
+pub read-head-spec : {M : Type 1} → statement M
+read-head-spec = tie.close (tie.spec mastdock-read-head-requires returns)

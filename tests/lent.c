@@ -1,0 +1,117 @@
+/* What include/mastdock.h says of lent memory and of answers: a null pointer where the number is 0, for every call that takes a
+   pointer with a number, and answers without padding. The refusals are document 01's for memory of no bytes. Prints nothing. */
+#include "mastdock.h"
+#include <stdio.h>
+#include <stdlib.h>
+#include <string.h>
+
+static void expect(int line, uint64_t found, uint64_t wanted) {
+    if (found == wanted)
+        return;
+    fprintf(stderr, "tests/lent.c:%d: %llu, not %llu\n", line, (unsigned long long)found, (unsigned long long)wanted);
+    exit(1);
+}
+#define EXPECT(found, wanted) expect(__LINE__, (found), (wanted))
+
+static int all_zero(const void *bytes, size_t size) {
+    const uint8_t *at = bytes;
+    for (size_t i = 0; i < size; i++)
+        if (at[i])
+            return 0;
+    return 1;
+}
+
+/* Fills the stack below with other bytes, so that an answer with padding would show them. */
+static void fill_stack(void) {
+    volatile uint8_t bytes[4096];
+    for (size_t i = 0; i < sizeof bytes; i++)
+        bytes[i] = 0xa5;
+}
+
+static const uint8_t ZERO[32];
+
+/* A null hash portion and a null message are of no bytes. */
+static void null_hashes(void) {
+    mastdock_hash hash = mastdock_hash_new();
+    mastdock_hash_updated updated = mastdock_hash_update(hash, NULL, 0);
+    EXPECT(updated.refusal, 0);
+    EXPECT((uint64_t)memcmp(&updated.hash, &hash, sizeof hash), 0);
+    mastdock_digested digested = mastdock_digest(NULL, 0);
+    mastdock_hash_finished finished = mastdock_hash_finish(hash);
+    EXPECT(digested.refusal, 0);
+    EXPECT((uint64_t)memcmp(digested.digest, finished.digest, 32), 0);
+}
+
+/* No store, output or file of no bytes is enough. */
+static void null_states(void) {
+    uint8_t store[MASTDOCK_STORE_SIZE(1)] = {0}, out[MASTDOCK_OPENING_SIZE(1)] = {0};
+    mastdock_run_started run = mastdock_run_start(ZERO, 1, 1, store, sizeof store);
+    mastdock_opening_started opening = mastdock_opening_start(ZERO, 1, 1, 0, store, sizeof store, out, sizeof out);
+    uint8_t file[MASTDOCK_FILE_SIZE(1, 1)] = {0};
+    mastdock_writing_started writing = mastdock_writing_start(ZERO, ZERO, 1, 1, 1, store, sizeof store, file, sizeof file);
+    EXPECT(run.refusal + opening.refusal + writing.refusal, 0);
+    EXPECT(mastdock_run_start(ZERO, 1, 0, NULL, 0).refusal, MASTDOCK_SHORT_STORE);
+    EXPECT(mastdock_run_advance(run.run, 1, NULL, 0).refusal, MASTDOCK_SHORT_STORE);
+    EXPECT(mastdock_opening_start(ZERO, 1, 1, 0, NULL, 0, NULL, 0).refusal, MASTDOCK_SHORT_STORE);
+    EXPECT(mastdock_opening_start(ZERO, 1, 1, 0, store, sizeof store, NULL, 0).refusal, MASTDOCK_SHORT_OUTPUT);
+    EXPECT(mastdock_opening_advance(opening.opening, 1, NULL, 0, NULL, 0).refusal, MASTDOCK_SHORT_STORE);
+    EXPECT(mastdock_opening_advance(opening.opening, 1, store, sizeof store, NULL, 0).refusal, MASTDOCK_SHORT_OUTPUT);
+    EXPECT(mastdock_writing_start(ZERO, ZERO, 1, 1, 1, NULL, 0, NULL, 0).refusal, MASTDOCK_SHORT_STORE);
+    EXPECT(mastdock_writing_start(ZERO, ZERO, 1, 1, 1, store, sizeof store, NULL, 0).refusal, MASTDOCK_SHORT_OUTPUT);
+    EXPECT(mastdock_writing_advance(writing.writing, 1, NULL, 0, NULL, 0).refusal, MASTDOCK_SHORT_STORE);
+    EXPECT(mastdock_writing_advance(writing.writing, 1, store, sizeof store, NULL, 0).refusal, MASTDOCK_SHORT_OUTPUT);
+}
+
+/* A file, an opening, leaves and a list of no elements. */
+static void null_files(void) {
+    const uint64_t leaf = 0;
+    uint64_t list[2];
+    mastdock_place place = mastdock_opening_place(NULL, 0, 1);
+    EXPECT(place.offset + place.length, 0);
+    EXPECT(mastdock_write_head(ZERO, ZERO, 1, 1, NULL, 0), MASTDOCK_SHORT_OUTPUT);
+    EXPECT(mastdock_read_head(NULL, 0).refusal, MASTDOCK_BYTES_END);
+    EXPECT(mastdock_check_opening(ZERO, ZERO, 1, 0, NULL, 0), MASTDOCK_BYTES_END);
+    EXPECT(mastdock_check_file(NULL, 0, ZERO, 1, 1), 256 * MASTDOCK_BYTES_END);
+    EXPECT(mastdock_plan(1, NULL, 0, list, 2).refusal, MASTDOCK_COUNT);
+    EXPECT(mastdock_plan(1, NULL, 0, NULL, 0).refusal, MASTDOCK_COUNT);
+    EXPECT(mastdock_plan(1, &leaf, 1, NULL, 0).refusal, MASTDOCK_SHORT_LIST);
+    EXPECT(mastdock_compare(ZERO, 1, NULL, 0, NULL, 0).refusal, MASTDOCK_COUNT);
+    EXPECT(mastdock_compare(ZERO, 1, &leaf, 1, NULL, 0).refusal, MASTDOCK_BYTES_END);
+    EXPECT(mastdock_draw(NULL, 0, ZERO, 1, 1, NULL, 0).code, 256 * MASTDOCK_BYTES_END);
+}
+
+/* An answer that is all zero is so in every byte, and two openings that disagree fill every field of a clash. */
+static void answers(void) {
+    uint8_t openings[2 * MASTDOCK_OPENING_SIZE(1)] = {0};
+    const uint64_t leaves[2] = {0, 0};
+    mastdock_compared compared;
+    mastdock_drawn drawn;
+    memset(&compared, 0xa5, sizeof compared);
+    fill_stack();
+    compared = mastdock_compare(ZERO, 1, leaves, 2, openings, sizeof openings);
+    EXPECT((uint64_t)all_zero(&compared, sizeof compared), 1);
+    openings[sizeof openings - 1] = 1;
+    fill_stack();
+    compared = mastdock_compare(ZERO, 1, leaves, 2, openings, sizeof openings);
+    EXPECT(compared.refusal, 0);
+    EXPECT(compared.clash.i, 1);
+    EXPECT(compared.clash.j, 2);
+    EXPECT(compared.clash.level, 0);
+    EXPECT((uint64_t)memcmp(compared.clash.first, compared.clash.second, 104), 0);
+    EXPECT(compared.clash.first[104], 0);
+    EXPECT(compared.clash.second[104], 1);
+    EXPECT((uint64_t)all_zero(compared.clash.zero, sizeof compared.clash.zero), 1);
+    memset(&drawn, 0xa5, sizeof drawn);
+    fill_stack();
+    drawn = mastdock_draw(NULL, 0, ZERO, 1, 1, NULL, 0);
+    drawn.code = 0;
+    EXPECT((uint64_t)all_zero(&drawn, sizeof drawn), 1);
+}
+
+int main(void) {
+    null_hashes();
+    null_states();
+    null_files();
+    answers();
+    return 0;
+}

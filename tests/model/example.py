@@ -1,0 +1,42 @@
+"""The worked example of docs/FORMAT.md: the proof of a report of four bytes at depth 2 with two challenges."""
+import mastdock as md
+from mastdock import sha
+from outputs import tree
+
+FENCE = "```"
+
+
+def kept(page):
+    """The example's lines of the page: the block that begins with its first line."""
+    lines = list(page)
+    start = next(i for i, line in enumerate(lines) if line.startswith("report "))
+    end = next(i for i in range(start, len(lines)) if lines[i].startswith(FENCE))
+    return lines[start:end]
+
+
+def example():
+    n, t, report = 2, 2, b"hull"
+    labels = tree(sha(report), n)
+    statement, root = labels.statement, labels.root
+    text = f"report {report.hex()}\nstatement {statement.hex()}\n"
+    for level, position in md.labelling_order(n):
+        text += f"label {level} {position} {labels.labels[level, position].hex()}\n"
+    for level, position in ((2, 0), (2, 3), (1, 1)):
+        above = [labels.labels[node] for node in md.parents(n, level, position)]
+        text += f"input {level} {position} {md.hash_input(statement, level, position, above).hex()}\n"
+    leaves = md.challenge_leaves(n, statement, root, t)
+    for i, leaf in enumerate(leaves, 1):
+        text += f"challenge {i} {sha(statement + b'challenge' + root + i.to_bytes(4, 'big')).hex()} leaf {leaf}\n"
+    file = labels.file(t)
+    text += f"file {len(file)} bytes {sha(file).hex()}\nnumbers {file[:3].hex()}\n"
+    for i, leaf in enumerate(leaves, 1):
+        part = md.opening_part(file, i)
+        for at, what in enumerate(["leaf", *(f"sibling on level {level}" for level in range(n, 0, -1))]):
+            text += f"opening {i} {what} {part[32 * at : 32 * at + 32].hex()}\n"
+    text += f"check {md.check_code(file, statement, n, t)}\n"
+    for other in (67, 99):
+        changed = file[:other] + bytes([file[other] ^ 1]) + file[other + 1 :]
+        text += f"byte {other} changed, check {md.check_code(changed, statement, n, t)}\n"
+    text += f"chain {' '.join(map(str, md.chain(n, leaves)))}\n"
+    text += f"store of memory level 1 {labels.store(1).hex()}\n"
+    return text

@@ -1,0 +1,524 @@
+"""A model of document 01 in plain Python, written from the document's text (docs/FORMAT.md says the same in our words). SHA-256 is
+hashlib's. Nothing of it comes from the proved code; it is slow and simple."""
+import hashlib
+
+MAX_DEPTH, MAX_MEMORY, MAX_COUNT, PLACES = 40, 20, 200, 41
+ZERO = bytes(32)
+
+
+def sha(data):
+    return hashlib.sha256(data).digest()
+
+
+# The tree
+
+
+def left_siblings(n, leaf):
+    """Left siblings of nodes on a leaf's way to the root, itself included, smallest level first."""
+    way = [(level, leaf >> (n - level)) for level in range(1, n + 1)]
+    return [(level, position - 1) for level, position in way if position % 2 == 1]
+
+
+def parents(n, level, position):
+    if level == n:
+        return left_siblings(n, position)
+    return [(level + 1, 2 * position), (level + 1, 2 * position + 1)]
+
+
+def hash_input(statement, level, position, labels):
+    return statement + bytes([level]) + position.to_bytes(8, "big") + b"".join(labels)
+
+
+def labelling_order(n, level=0, position=0):
+    """A left subtree, then the right, then the node above."""
+    if level < n:
+        yield from labelling_order(n, level + 1, 2 * position)
+        yield from labelling_order(n, level + 1, 2 * position + 1)
+    yield level, position
+
+
+def node_at(height, level, position, k):
+    """The k-th node, from 0, in the labelling order of the subtree of this height."""
+    while True:
+        half = (1 << height) - 1  # nodes of the left subtree
+        if k == 2 * half:
+            return level, position
+        height, level, position = height - 1, level + 1, 2 * position
+        if k >= half:
+            position, k = position + 1, k - half
+
+
+def held_before(height, k):
+    """How many of the first k labels of a subtree are held: each whose parent node in the tree is not yet labelled."""
+    held = 0
+    while k and height >= 0:
+        half = (1 << height) - 1
+        if k == 2 * half + 1:
+            return held + 1
+        if k == 2 * half:
+            return held + 2
+        if k >= half:
+            held, k = held + 1, k - half
+        height -= 1
+    return held
+
+
+class Tree:
+    """All labels of a tree, by the definition."""
+
+    def __init__(self, statement, n):
+        self.statement, self.n, self.labels = statement, n, {}
+        for level, position in labelling_order(n):
+            above = [self.labels[node] for node in parents(n, level, position)]
+            self.labels[level, position] = sha(hash_input(statement, level, position, above))
+        self.root = self.labels[0, 0]
+
+    def store(self, m):
+        return b"".join(self.labels[level, p] for level in range(m + 1) for p in range(1 << level))
+
+    def opening(self, leaf):
+        siblings = [self.labels[level, (leaf >> (self.n - level)) ^ 1] for level in range(self.n, 0, -1)]
+        return self.labels[self.n, leaf] + b"".join(siblings)
+
+    def file(self, t):
+        leaves = challenge_leaves(self.n, self.statement, self.root, t)
+        return head(self.statement, self.root, self.n, t) + b"".join(map(self.opening, leaves))
+
+
+# Sizes
+
+
+def store_size(m):
+    return 32 * (2 ** (m + 1) - 1)
+
+
+def opening_size(n):
+    return 32 * (n + 1)
+
+
+def nodes_anew(n, m):
+    return 2 ** (n - m + 1) - 2
+
+
+def file_size(n, t):
+    return len(head(ZERO, ZERO, n, t)) + t * opening_size(n)
+
+
+# The checks, by place: each row gives the first number whose condition holds, or 0
+
+
+def row(*checks):
+    for number, condition in checks:
+        if condition():
+            return number
+    return 0
+
+
+def bad_depth(n):
+    return not 1 <= n <= MAX_DEPTH
+
+
+def bad_memory(n, m):
+    return m > min(n, MAX_MEMORY)
+
+
+def bad_count(t):
+    return not 1 <= t <= MAX_COUNT
+
+
+def start_row(n, m, store):
+    return row((1, lambda: bad_depth(n)), (2, lambda: bad_memory(n, m)), (3, lambda: store < store_size(m)))
+
+
+def open_row(n, m, leaf, store, out):
+    return start_row(n, m, store) or row((6, lambda: leaf >= 2**n), (7, lambda: out < opening_size(n)))
+
+
+def write_row(n, m, t, store, file):
+    return start_row(n, m, store) or row((8, lambda: bad_count(t)), (7, lambda: file < file_size(n, t)))
+
+
+def head_row(n, t, file):
+    return row((1, lambda: bad_depth(n)), (8, lambda: bad_count(t)), (7, lambda: file < file_size(n, t)))
+
+
+def challenge_row(n, i):
+    return row((1, lambda: bad_depth(n)), (8, lambda: bad_count(i)))
+
+
+# Runs, openings and writings in lent memory; store, output and file are bytearrays
+
+
+def slot(level, position):
+    return 32 * (2**level - 1 + position)
+
+
+class Subtree:
+    """Labels made in order within a subtree, with the held ones: what runs and openings share."""
+
+    def label(self, top, height, above):
+        """The label of the next node below or at the top, whose left siblings above the subtree have these labels."""
+        level, position = node_at(height, *top, self.made)
+        h = held_before(height, self.made)
+        places = [self.held[32 * i : 32 * i + 32] for i in range(PLACES)]
+        taken = above + places[:h] if level == self.n else places[h - 2 : h]
+        label = sha(hash_input(self.statement, level, position, taken))
+        if level < self.n:
+            places[h - 2 : h] = [label, ZERO]
+        else:
+            places[h] = label
+        self.held = b"".join(places)
+        self.made += 1
+        return level, position, label
+
+
+class Run(Subtree):
+    def __init__(self, statement=ZERO, n=0, m=0, made=0, held=bytes(32 * PLACES)):
+        self.statement, self.n, self.m, self.made, self.held = statement, n, m, made, held
+
+    def bytes(self):
+        return self.statement + b"".join(x.to_bytes(8, "big") for x in (self.n, self.m, self.made)) + self.held
+
+    def continue_row(self, store):
+        bad = bad_depth(self.n) or bad_memory(self.n, self.m) or self.made > 2 ** (self.n + 1) - 1
+        return row((4, lambda: bad), (3, lambda: store < store_size(self.m)))
+
+    def advance(self, budget, store):
+        """The refusal, and the labels made."""
+        refusal = self.continue_row(len(store))
+        if refusal:
+            return refusal, 0
+        labels = min(budget, 2 ** (self.n + 1) - 1 - self.made)
+        for _ in range(labels):
+            level, position, label = self.label((0, 0), self.n, [])
+            if level <= self.m:
+                store[slot(level, position) : slot(level, position) + 32] = label
+        return 0, labels
+
+
+def start_run(statement, n, m, store):
+    refusal = start_row(n, m, store)
+    return refusal, Run() if refusal else Run(statement, n, m)
+
+
+class Opening(Subtree):
+    def __init__(self, statement=ZERO, n=0, m=0, leaf=0, made=0, held=bytes(32 * PLACES)):
+        self.statement, self.n, self.m, self.leaf, self.made, self.held = statement, n, m, leaf, made, held
+
+    def impossible(self):
+        n, m = self.n, self.m
+        return bad_depth(n) or bad_memory(n, m) or self.made > nodes_anew(n, m) or self.leaf >= 2**n
+
+    def remaining(self):
+        return nodes_anew(self.n, self.m) - self.made
+
+    def copy(self, store, out, at=0):
+        """What levels 1 to m of the store hold of the opening, put in its places."""
+        n = self.n
+        for level in range(1, self.m + 1):
+            position = self.leaf >> (n - level)
+            from_store = [(n - level + 1, position ^ 1)] + ([(0, position)] if level == n else [])
+            for place, p in from_store:
+                out[at + 32 * place : at + 32 * place + 32] = store[slot(level, p) : slot(level, p) + 32]
+
+    def step(self, store, out, at=0):
+        n, m, ancestor = self.n, self.m, self.leaf >> (self.n - self.m)
+        above = [bytes(store[slot(*node) : slot(*node) + 32]) for node in left_siblings(m, ancestor)]
+        level, position, label = self.label((m, ancestor), n - m, above)
+        own = self.leaf >> (n - level)
+        if level == n and position == own:
+            out[at : at + 32] = label
+        elif position == own ^ 1:
+            out[at + 32 * (n - level + 1) : at + 32 * (n - level + 2)] = label
+
+    def advance(self, budget, store, out):
+        refusal = row(
+            (4, self.impossible), (3, lambda: len(store) < store_size(self.m)), (7, lambda: len(out) < opening_size(self.n))
+        )
+        if refusal:
+            return refusal, 0
+        labels = min(budget, self.remaining())
+        for _ in range(labels):
+            self.step(store, out)
+        return 0, labels
+
+
+def start_opening(statement, n, m, leaf, store, out):
+    refusal = open_row(n, m, leaf, len(store), len(out))
+    if refusal:
+        return refusal, Opening()
+    opening = Opening(statement, n, m, leaf)
+    opening.copy(store, out)
+    return 0, opening
+
+
+class Writing:
+    def __init__(self, root=ZERO, count=0, number=0, opening=None):
+        self.root, self.count, self.number, self.opening = root, count, number, opening or Opening()
+
+    def place(self):
+        o = self.opening
+        return len(head(ZERO, ZERO, o.n, self.count)) + (self.number - 1) * opening_size(o.n)
+
+    def begin(self, number, store, file):
+        """Begins an opening, and the next ones where nothing is to be labelled anew."""
+        o = self.opening
+        while True:
+            self.number = number
+            leaf = challenge_leaf(o.n, o.statement, self.root, number)
+            self.opening = Opening(o.statement, o.n, o.m, leaf)
+            self.opening.copy(store, file, self.place())
+            if self.opening.remaining() or number == self.count:
+                return
+            number += 1
+
+    def impossible(self):
+        o = self.opening
+        if o.impossible() or bad_count(self.count) or not 1 <= self.number <= self.count:
+            return True
+        return o.remaining() == 0 and self.number < self.count
+
+    def advance(self, budget, store, file):
+        o = self.opening
+        refusal = row(
+            (4, self.impossible), (3, lambda: len(store) < store_size(o.m)), (7, lambda: len(file) < file_size(o.n, self.count))
+        )
+        if refusal:
+            return refusal, 0
+        labels = 0
+        while labels < budget and self.opening.remaining():
+            self.opening.step(store, file, self.place())
+            labels += 1
+            if not self.opening.remaining() and self.number < self.count:
+                self.begin(self.number + 1, store, file)
+        return 0, labels
+
+
+def start_writing(statement, root, n, m, t, store, file):
+    refusal = write_row(n, m, t, len(store), len(file))
+    if refusal:
+        return refusal, Writing()
+    front = head(statement, root, n, t)
+    file[: len(front)] = front
+    writing = Writing(root, t, 1, Opening(statement, n, m))
+    writing.begin(1, store, file)
+    return 0, writing
+
+
+# Challenges and the file
+
+
+def challenge_leaf(n, statement, root, i):
+    result = sha(statement + b"challenge" + root + i.to_bytes(4, "big"))
+    return int.from_bytes(result, "big") >> (256 - n)
+
+
+def challenge_leaves(n, statement, root, t):
+    return [challenge_leaf(n, statement, root, i) for i in range(1, t + 1)]
+
+
+def groups(x):
+    """Seven-bit groups, low group first, top bit set where another follows."""
+    return bytes([x]) if x < 128 else bytes([x % 128 + 128]) + groups(x // 128)
+
+
+def head(statement, root, n, t):
+    return groups(1) + groups(n) + groups(t) + statement + root
+
+
+class Refused(Exception):
+    """A refusal with the opening it was found in, from 1, or 0 outside openings."""
+
+    def __init__(self, number, opening=0):
+        super().__init__(number, opening)
+        self.number, self.opening = number, opening
+
+    def code(self):
+        return 256 * self.number + self.opening
+
+
+def read_number(data, at):
+    """A number in at most two groups, and the place after it."""
+    if at >= len(data):
+        raise Refused(10)
+    if data[at] < 128:
+        return data[at], at + 1
+    if at + 1 >= len(data):
+        raise Refused(10)
+    if data[at + 1] == 0 or data[at + 1] > 127:
+        raise Refused(11)
+    return data[at] - 128 + 128 * data[at + 1], at + 2
+
+
+def read_head(data):
+    """Depth, count and where the numbers end."""
+    edition, at = read_number(data, 0)
+    if edition != 1:
+        raise Refused(12)
+    n, at = read_number(data, at)
+    if bad_depth(n):
+        raise Refused(1)
+    t, at = read_number(data, at)
+    if bad_count(t):
+        raise Refused(8)
+    return n, t, at
+
+
+def opening_part(data, i):
+    """Opening i, from 1; empty if there is none."""
+    try:
+        n, t, at = read_head(data)
+    except Refused:
+        return b""
+    if len(data) != at + 64 + t * opening_size(n) or not 1 <= i <= t:
+        return b""
+    start = at + 64 + (i - 1) * opening_size(n)
+    return data[start : start + opening_size(n)]
+
+
+def inputs(statement, n, leaf, opening):
+    """The hash input that an opening gives at each node on its leaf's way, by level from n to 0."""
+    place = lambda i: opening[32 * i : 32 * i + 32]
+    given = {level: place(n - level + 1) for level in range(1, n + 1)}
+    result = {n: hash_input(statement, n, leaf, [given[level] for level, _ in left_siblings(n, leaf)])}
+    label = place(0)
+    for level in range(n - 1, -1, -1):
+        right = (leaf >> (n - level - 1)) % 2 == 1
+        children = [given[level + 1], label] if right else [label, given[level + 1]]
+        result[level] = hash_input(statement, level, leaf >> (n - level), children)
+        label = sha(result[level])
+    return result
+
+
+def opening_right(statement, n, leaf, root, opening):
+    given = inputs(statement, n, leaf, opening)
+    return row((14, lambda: sha(given[n]) != opening[:32]), (15, lambda: sha(given[0]) != root))
+
+
+def check_opening(statement, n, leaf, root, opening):
+    size = len(opening)
+    return row(
+        (1, lambda: bad_depth(n)),
+        (6, lambda: leaf >= 2**n),
+        (10, lambda: size < opening_size(n)),
+        (13, lambda: size > opening_size(n)),
+    ) or opening_right(statement, n, leaf, root, opening)
+
+
+def check_file(data, statement, n, t):
+    """Root, leaves and openings of an accepted file."""
+    depth, count, at = read_head(data)
+    size = at + 64 + count * opening_size(depth)
+    refusal = row(
+        (10, lambda: len(data) < size),
+        (13, lambda: len(data) > size),
+        (9, lambda: data[at : at + 32] != statement or depth != n or count != t),
+    )
+    if refusal:
+        raise Refused(refusal)
+    root = data[at + 32 : at + 64]
+    leaves = challenge_leaves(n, statement, root, t)
+    openings = [opening_part(data, i) for i in range(1, t + 1)]
+    for i, (leaf, opening) in enumerate(zip(leaves, openings), 1):
+        refusal = opening_right(statement, n, leaf, root, opening)
+        if refusal:
+            raise Refused(refusal, i)
+    return leaves, openings
+
+
+def check_code(data, statement, n, t):
+    try:
+        check_file(data, statement, n, t)
+    except Refused as refused:
+        return refused.code()
+    return 0
+
+
+# Chains
+
+
+def chain(n, leaves):
+    """The nodes on the leaves' ways to the root, in labelling order, each once, as 2^level + position."""
+    nodes = {(level, leaf >> (n - level)) for leaf in leaves for level in range(n + 1)}
+    # A node comes after all below it: order by the last leaf of its subtree, then the deeper first.
+    order = sorted(nodes, key=lambda node: (((node[1] + 1) << (n - node[0])) - 1, -node[0]))
+    return [2**level + position for level, position in order]
+
+
+def plan_row(n, leaves, places=None):
+    refusal = row(
+        (1, lambda: bad_depth(n)), (8, lambda: bad_count(len(leaves))), (6, lambda: any(leaf >= 2**n for leaf in leaves))
+    )
+    if refusal or places is None:
+        return refusal
+    return row((16, lambda: places < len(chain(n, leaves))))
+
+
+def plan(n, leaves, places):
+    """The refusal, the count and the list afterwards."""
+    refusal = plan_row(n, leaves, len(places))
+    if refusal:
+        return refusal, 0, places
+    nodes = chain(n, leaves)
+    return 0, len(nodes), nodes + places[len(nodes) :]
+
+
+def first_clash(statement, n, leaves, openings):
+    """The first pair i < j that disagrees, by i, then j, with the smallest level and both inputs; None if there is none."""
+    given = [inputs(statement, n, leaf, opening) for leaf, opening in zip(leaves, openings)]
+    for i in range(len(leaves)):
+        for j in range(i + 1, len(leaves)):
+            for level in range(n):
+                if leaves[i] >> (n - level) != leaves[j] >> (n - level):
+                    break
+                if given[i][level][41:] != given[j][level][41:]:
+                    return i + 1, j + 1, level, given[i][level], given[j][level]
+    return None
+
+
+def compare(statement, n, leaves, data):
+    """The refusal, and the clash or None."""
+    refusal = plan_row(n, leaves)
+    size = opening_size(n) if not refusal else 0
+    refusal = refusal or row((10, lambda: len(data) < len(leaves) * size), (13, lambda: len(data) > len(leaves) * size))
+    if refusal:
+        return refusal, None
+    return 0, first_clash(statement, n, leaves, [data[i * size : (i + 1) * size] for i in range(len(leaves))])
+
+
+def draw(data, statement, n, t, places):
+    """('chain', count, list) or ('clash', clash, list); raises Refused."""
+    leaves, openings = check_file(data, statement, n, t)
+    clash = first_clash(statement, n, leaves, openings)
+    if clash:
+        return "clash", clash, places
+    nodes = chain(n, leaves)
+    if len(places) < len(nodes):
+        raise Refused(16)
+    return "chain", len(nodes), nodes + places[len(nodes) :]
+
+
+# The planning program
+
+
+def chain_text(n, leaves):
+    nodes = chain(n, leaves)
+    lines = [f"depth {n} leaves {len(set(leaves))} chain {len(nodes)}"]
+    for node in nodes:
+        level = node.bit_length() - 1
+        lines.append(f"{level} {node - 2**level}")
+    return "".join(line + "\n" for line in lines)
+
+
+def decimal(word):
+    """A number's value; of one with more than 20 digits only that it is over 2^64 - 1."""
+    digits = word.lstrip(b"0")
+    return 2**64 if len(digits) > 20 else int(digits or b"0")
+
+
+def planning(data):
+    words = data.replace(b"\n", b" ").split(b" ")
+    numbers = [decimal(word) for word in words if word.isdigit()]
+    bad = len(data) > 65536 or any(byte not in b"0123456789 \n" for byte in data) or not numbers or max(numbers) >= 2**64
+    refusal = 17 if bad else plan_row(numbers[0], numbers[1:])
+    return f"refused {refusal}\n" if refusal else chain_text(numbers[0], numbers[1:])

@@ -1,0 +1,373 @@
+"""What each program of the gate must print, made by the model. A generator gives the whole text; its inputs are those that the
+program's source names, or the crate's stdin."""
+from functools import cache
+from pathlib import Path
+
+import fips
+import mastdock as md
+from mastdock import sha
+
+ROOT = Path(__file__).resolve().parents[2]
+BIG = 2**64 - 1
+tree = cache(md.Tree)
+
+
+def crate(name):
+    return ROOT / "crates" / name
+
+
+def lines(name):
+    """The lines of a crate's standard input that are no comment, as fields."""
+    text = (crate(name) / "stdin").read_text()
+    return [line.split(" ") for line in text.split("\n") if line and not line.startswith("#")]
+
+
+def report(field):
+    return b"" if field == "-" else bytes.fromhex(field)
+
+
+def flag(same):
+    return " same" if same else " changed"
+
+
+def places_digest(places):
+    return sha(b"".join(place.to_bytes(8, "big") for place in places)).hex()
+
+
+# sha256_vectors
+
+
+def sha256_vectors():
+    named = [
+        ("the empty message", b""),
+        ("abc", b"abc"),
+        ("448 bits", b"abcdbcdecdefdefgefghfghighijhijkijkljklmklmnlmnomnopnopq"),
+        ("896 bits", b"".join(bytes(range(c, c + 8)) for c in range(97, 111))),
+        ("one million letters a", b"a" * 1000000),
+    ]
+    for length in [*range(131), 183, 184, 185, 247, 248, 249, 1321]:
+        named.append((str(length), bytes((7 * i + length) % 256 for i in range(length))))
+    text = ""
+    for name, message in named:
+        digest = sha(message).hex()
+        text += f"{name}\n one portion {digest}\n cut {digest}\n one call {digest}\n"
+    limit = fips.LIMIT
+    for taken, part in [(limit - 3, b"abc"), (limit - 2, b"abc"), (limit, b""), (limit, b"a"), (limit + 1, b""), (BIG, b"abc")]:
+        state = fips.State(taken=taken)
+        refusal = state.update(part)
+        end, digest = state.finish()
+        text += f"{taken} portion {refusal} taken {state.taken} end {end} {digest.hex()}\n"
+    return text
+
+
+# run_vectors, run_edge_vectors
+
+RUNS = """1 0 0|2 1 0|3 3 3|4 3 3|5 1 0|6 3 0|7 6 6|8 0 7|9 4 3|10 9 1|11 5 0|12 0 0|13 10 8|14 0 14|15 12 6|16 13 0"""
+
+
+def run_lines(statement, n, m):
+    labels = tree(statement, n)
+    held = labels.root + bytes(1280)
+    end = f" made {2 ** (n + 1) - 1} root {labels.root.hex()} held {sha(held).hex()} store {sha(labels.store(m)).hex()} behind 90\n"
+    return f"depth {n} memory {m}\n" + "".join(f"budget {budget}{end}" for budget in (1000000, 1000, 1))
+
+
+def run_vectors():
+    text = ""
+    for entry in RUNS.split("|"):
+        n, *levels = map(int, entry.split())
+        for words, m in zip((b"", b"hull %d" % n), levels):
+            text += "".join(run_lines(sha(words), n, level) for level in (m, 0, min(n, 14)))
+    return text
+
+
+RUN_EDGES = [
+    (0, 0, 0, 32), (1, 0, 0, 32), (40, 0, 0, 32), (41, 0, 0, 32), (BIG, 0, 0, 32), (3, 3, 0, 480), (3, 4, 0, 992), (40, 20, 0, 32),
+    (40, 21, 0, 32), (14, 14, 0, 1048544), (14, 14, 0, 1048543), (3, 1, 0, 96), (3, 1, 0, 95), (3, 1, 14, 96), (3, 1, 15, 96),
+    (3, 1, 15, 95), (3, 1, 16, 96), (3, 1, 16, 95), (3, 1, BIG, 96), (41, 42, BIG, 0),
+]
+
+
+def run_edge_vectors():
+    text = ""
+    for n, m, made, size in RUN_EDGES:
+        store = bytearray([90] * size)
+        before = sha(store)
+        refusal, run = md.start_run(bytes([7] * 32), n, m, size)
+        text += f"n {n} m {m} made {made} store {size}: start {refusal} run {sha(run.bytes()).hex()} store {before.hex()} same"
+        run = md.Run(bytes([7] * 32), n, m, made, bytes([9] * 1312))
+        old = run.bytes()
+        refusal, labels = run.advance(1, store)
+        text += f" continue {refusal} labels {labels} run {sha(run.bytes()).hex()}{flag(run.bytes() == old)}"
+        text += f" store {sha(store).hex()}{flag(sha(store) == before)}\n"
+    return text
+
+
+# opening_vectors, opening_check_vectors
+
+
+def opened(labels, m, leaf, size):
+    """An opening over bytes that held something else: by the machine, which must give the definition's."""
+    out = bytearray([90] * size)
+    store = bytearray(labels.store(m))
+    refusal, opening = md.start_opening(labels.statement, labels.n, m, leaf, store, out)
+    refusal, made = opening.advance(BIG, store, out)
+    assert out[: md.opening_size(labels.n)] == labels.opening(leaf) and made == md.nodes_anew(labels.n, m)
+    return bytes(out), made
+
+
+OPENING_EDGES = [
+    (0, 0, 0, 0, 32, 64), (41, 0, 0, 0, 32, 1313), (40, 0, 2**40 - 1, 0, 32, 1312), (40, 0, 2**40, 0, 32, 1312),
+    (40, 0, 0, 0, 32, 1311), (3, 3, 7, 0, 480, 128), (3, 4, 7, 0, 992, 128), (3, 3, 7, 1, 480, 128), (3, 1, 7, 0, 95, 128),
+    (3, 1, 8, 0, 96, 128), (3, 1, 8, 0, 96, 127), (3, 1, 7, 0, 96, 127), (3, 1, 7, 5, 96, 128), (3, 1, 7, 6, 96, 128),
+    (3, 1, 7, 7, 96, 128), (3, 1, 7, 7, 95, 127), (BIG, BIG, BIG, BIG, 0, 0),
+]
+
+
+def opening_vectors():
+    text = ""
+    for n in range(1, 7):
+        labels = tree(sha(b"openings"), n)
+        for m in range(n + 1):
+            made = [opened(labels, m, leaf, 1313) for leaf in range(2**n)]
+            digest = sha(b"".join(out + count.to_bytes(8, "big") for out, count in made)).hex()
+            text += f"depth {n} memory {m} {digest} {digest} {digest}\n"
+    for n, m, leaf, made, store_len, out_len in OPENING_EDGES:
+        store, out = bytearray([1] * store_len), bytearray([2] * out_len)
+        refusal, _ = md.start_opening(bytes([7] * 32), n, m, leaf, store, out)
+        text += f"{n} {m} {leaf} {made} {store_len} {out_len}: start {refusal}{flag(out == bytes([2] * out_len))}"
+        out = bytearray([2] * out_len)
+        opening = md.Opening(bytes([7] * 32), n, m, leaf, made, bytes([9] * 1312))
+        refusal, labels = opening.advance(1, store, out)
+        text += f" continue {refusal} labels {labels}{flag(out == bytes([2] * out_len))}\n"
+    return text
+
+
+def flipped(data, at, mask):
+    return data[:at] + bytes([data[at] ^ mask]) + data[at + 1 :]
+
+
+def opening_check_vectors():
+    text = ""
+    for n in range(1, 7):
+        labels = tree(sha(b"openings"), n)
+        statement, root, size = labels.statement, labels.root, md.opening_size(n)
+        for m in range(n + 1):
+            text += f"depth {n} memory {m}\n"
+            for leaf in range(2**n):
+                out, _ = opened(labels, m, leaf, 1313)
+                tries = [(leaf, root, out[:size]), (leaf, root, out[: size - 1]), (leaf, root, out[: size + 1])]
+                tries += [(leaf ^ 1, root, out[:size]), (leaf, statement, out[:size])]
+                answers = [md.check_opening(statement, n, l, r, o) for l, r, o in tries]
+                changed = [md.check_opening(statement, n, leaf, root, flipped(out, at, 4)[:size]) for at in range(5, size, 33)]
+                text += f"leaf {leaf} {' '.join(map(str, answers))} changed {' '.join(map(str, changed))}\n"
+    for field, n, t, _ in lines("opening_check_vectors"):
+        labels = tree(sha(report(field)), int(n))
+        digest = sha(labels.file(int(t))[len(md.head(md.ZERO, md.ZERO, int(n), int(t))) :]).hex()
+        for m in range(int(n) + 1):
+            text += f"file depth {n} count {t} memory {m} {digest} {digest} {digest}\n"
+    return text
+
+
+# file_vectors, file_edge_vectors
+
+
+def written(labels, m, t, budget):
+    """A file written by budgets over bytes that held something else: calls, labels and bytes."""
+    file, store, calls, made = bytearray([90] * 1024), bytearray(labels.store(m)), 0, 0
+    refusal, writing = md.start_writing(labels.statement, labels.root, labels.n, m, t, store, file)
+    while (step := writing.advance(budget, store, file))[1]:
+        calls, made = calls + 1, made + step[1]
+    assert file[: md.file_size(labels.n, t)] == labels.file(t)
+    return refusal, calls, made, bytes(file)
+
+
+def file_vectors():
+    text = ""
+    for field, depth, count, file in lines("file_vectors"):
+        labels, n, t, file = tree(sha(report(field)), int(depth)), int(depth), int(count), bytes.fromhex(file)
+        for m in (0, n // 2, n):
+            text += f"file {n} {t} {m}"
+            for budget in (1, 7, BIG):
+                refusal, calls, made, out = written(labels, m, t, budget)
+                code = md.check_code(out[: len(file)], labels.statement, n, t)
+                text += f" start {refusal} {calls} {made} {sha(out).hex()} {code}"
+            text += "\n"
+        for i in [0, BIG, *range(t, 0, -1), t + 1]:
+            part = md.opening_part(file, i)
+            text += f"part {i} {len(part)} {sha(part).hex()}\n"
+    return text
+
+
+FILE_EDGES = [
+    (0, 0, 1, 1, 0, 0, 32, 131), (41, 0, 1, 1, 0, 0, 32, 1024), (BIG, BIG, 0, 0, 0, 0, 0, 0), (3, 4, 1, 1, 0, 0, 992, 1024),
+    (3, 3, 1, 1, 7, 0, 479, 1024), (3, 3, 1, 1, 7, 0, 480, 194), (3, 3, 1, 1, 7, 0, 480, 195), (3, 3, 0, 1, 7, 0, 480, 1024),
+    (3, 3, 201, 1, 7, 0, 480, 1024), (3, 3, 0, 1, 7, 0, 479, 0), (3, 3, 0, 1, 7, 0, 480, 0), (40, 0, 1, 1, 0, 0, 32, 1024),
+    (1, 0, 1, 1, 0, 0, 32, 131), (1, 0, 1, 1, 0, 0, 32, 130), (1, 0, 1, 1, 0, 0, 31, 130), (3, 1, 2, 1, 7, 0, 96, 323),
+    (3, 1, 2, 2, 7, 0, 96, 323), (3, 1, 2, 3, 7, 0, 96, 323), (3, 1, 2, 0, 7, 0, 96, 323), (3, 1, 2, 2, 8, 0, 96, 323),
+    (3, 1, 2, 2, 7, 6, 96, 323), (3, 1, 2, 2, 7, 7, 96, 323), (3, 1, 2, 2, 7, 7, 95, 322), (3, 1, 2, 2, 7, 6, 95, 322),
+    (3, 1, 2, 2, 7, 6, 96, 322), (3, 1, 2, BIG, 7, 0, 96, 323), (3, 1, BIG, 1, 7, 0, 96, 323), (3, 1, 2, 1, BIG, 0, 96, 323),
+    (3, 1, 2, 1, 7, BIG, 96, 323),
+]
+
+
+def file_edge_vectors():
+    text = ""
+    for n, m, t, number, leaf, made, store_len, file_len in FILE_EDGES:
+        store, file = bytearray([1] * store_len), bytearray([2] * file_len)
+        refusal, _ = md.start_writing(bytes([7] * 32), bytes([8] * 32), n, m, t, store, file)
+        text += f"edge {n} {m} {t} {number} {leaf} {made} {store_len} {file_len}: start {refusal}"
+        text += flag(file == bytes([2] * file_len))
+        file = bytearray([2] * file_len)
+        opening = md.Opening(bytes([7] * 32), n, m, leaf, made, bytes([9] * 1312))
+        writing = md.Writing(bytes([8] * 32), t, number, opening)
+        refusal, labels = writing.advance(1, store, file)
+        o = writing.opening
+        text += f" continue {refusal} labels {labels}{flag(file == bytes([2] * file_len))}"
+        text += f" {writing.count} {writing.number} {o.n} {o.m} {o.leaf} {o.made}"
+        text += "".join(" " + sha(part).hex() for part in (writing.root, o.statement, o.held)) + "\n"
+    return text
+
+
+# check_vectors
+
+
+def check_vectors():
+    text = ""
+    vectors = lines("check_vectors")
+    for file, statement, n, t, *_ in vectors:
+        text += f"vector {n} {t} {md.check_code(report(file), bytes.fromhex(statement), int(n), int(t))}\n"
+    file, statement = report(vectors[0][0])[:131], bytes.fromhex(vectors[0][1])
+    code = lambda data: md.check_code(data, statement, 1, 1)
+    text += "lengths " + " ".join(str(code(data)) for data in (file, b"", file[:130], file + b"\0")) + "\n"
+    for at in range(131):
+        text += "flipped " + " ".join(str(code(flipped(file, at, 1 << bit))) for bit in range(8)) + "\n"
+    for n in (0, 1, 2, 39, 40, 41, BIG):
+        for i in (0, 1, 2, 199, 200, 201, 2**32 + 1, BIG):
+            refusal = md.challenge_row(n, i)
+            leaf = 0 if refusal else md.challenge_leaf(n, sha(b"challenged"), sha(b"root"), i)
+            text += f"challenge {n} {i} {refusal} {leaf}\n"
+    heads = [(0, 1, 262469), (0, 0, 0), (41, 1, 262469), (1, 0, 131), (1, 0, 0), (1, 201, 262469), (BIG, BIG, 0), (40, BIG, 262469)]
+    heads += [(1, 1, 131), (1, 1, 130), (1, 1, 132), (40, 200, 262468), (40, 200, 262467), (40, 200, 262469)]
+    heads += [(1, 127, 8195), (1, 127, 8194), (1, 128, 8260), (1, 128, 8259)]
+    for n, t, size in heads:
+        out = bytearray([90] * size)
+        refusal = md.head_row(n, t, size)
+        if not refusal:
+            front = md.head(sha(b"headed"), sha(b"root"), n, t)
+            out[: len(front)] = front
+        text += f"head {n} {t} {size} {refusal} {sha(out).hex()}\n"
+    return text
+
+
+# chain_vectors, compare_vectors
+
+
+def drawn(name, file, statement, n, t, places):
+    """A line of the drawing's answer: inputs are all zero where there is no clash."""
+    first = second = bytes(105)
+    try:
+        kind, found, after = md.draw(file, statement, n, t, places)
+        answer = f"chain {found}" if kind == "chain" else f"clash {found[0]} {found[1]} {found[2]}"
+        if kind == "clash":
+            first, second = found[3:]
+    except md.Refused as refused:
+        answer, after = f"refused {refused.number} {refused.opening}", places
+    return f"{name} {answer} {sha(first).hex()} {sha(second).hex()} {places_digest(after)}\n"
+
+
+def chain_vectors():
+    text = ""
+    for field, n, t, size, _, count, _ in lines("chain_vectors"):
+        labels, n, t, size, count = tree(sha(report(field)), int(n)), int(n), int(t), int(size), int(count)
+        file, statement = labels.file(t), labels.statement
+        assert len(file) == size
+        leaves = md.challenge_leaves(n, statement, labels.root, t)
+        level = f"vector 90\nfile {size} {sha(file).hex()} {md.check_code(file, statement, n, t)}\n"
+        for name, places in [("just enough", count), ("more", 1064), ("one short", count - 1), ("none", 0)]:
+            level += drawn(name, file, statement, n, t, [9] * places)
+        level += drawn("not wanted", file, statement, n, 1, [9] * 1064)
+        if size > 5000:
+            level += drawn("changed", flipped(file, 5000, 16), statement, n, t, [9] * 1064)
+        refusal, planned, after = md.plan(n, leaves, [9] * count)
+        text += 2 * (level + f"planned {refusal} {planned} {places_digest(after)}\n")
+    return text
+
+
+def compared(name, n, leaves, data):
+    refusal, clash = md.compare(sha(b"compared"), n, leaves, data)
+    pair = "agree" if clash is None else "clash {} {} {}".format(*clash[:3])
+    first, second = (bytes(105), bytes(105)) if clash is None else clash[3:]
+    return f"{name} {refusal} {pair} {sha(first).hex()} {sha(second).hex()}\n"
+
+
+COMPARED = [
+    ("one opening", [5], []), ("one opening, changed", [5], [40, 100]), ("two leaves", [0, 4], []),
+    ("a leaf repeated", [5, 5, 5], []), ("all leaves", [7, 2, 1, 0, 6, 3, 4, 5], []), ("at the root", [0, 4], [230]),
+    ("in the middle", [0, 2], [200]), ("above the leaf", [0, 1], [165]), ("a leaf's label", [0, 1], [128]),
+    ("in the first", [6, 3], [0]), ("in both", [6, 3], [10, 150]), ("in both alike", [6, 6], [10, 138]),
+    ("the third", [0, 1, 4, 5], [300]), ("the fourth", [0, 1, 4, 5], [511]), ("second and fourth", [0, 1, 4, 5], [140, 400]),
+    ("the first of all", [7, 2, 1, 0, 6, 3, 4, 5], [5]), ("the last of all", [7, 2, 1, 0, 6, 3, 4, 5], [1023]),
+    ("the last two", [7, 2, 1, 0, 6, 3, 4, 5], [1023, 780]), ("repeated, root", [5, 5], [255]), ("repeated, middle", [5, 5], [223]),
+    ("repeated, above the leaf", [5, 5], [160]), ("repeated, leaf", [5, 5], [128]), ("repeated, apart", [5, 2, 7, 5], [420]),
+]
+COMPARE_EDGES = [
+    (3, 8, 0, 1024), (3, 8, 0, 1023), (3, 7, 0, 1024), (3, 8, 8, 1023), (3, 0, 8, 0), (3, 0, 8, 1024), (0, 0, 8, 1024),
+    (41, 1, 0, 1024), (2, 3, 3, 288), (2, 4, 3, 384), (2, 5, 3, 480), (1, 2, 0, 128), (BIG, 8, BIG, 1024),
+    (40, 1, 2**40 - 1, 1024), (40, 1, 2**40, 1024),
+]
+
+
+def compare_vectors():
+    labels, text = tree(sha(b"compared"), 3), ""
+    for name, leaves, changes in COMPARED:
+        data = b"".join(map(labels.opening, leaves))
+        for at in changes:
+            data = flipped(data, at, 1)
+        text += compared(name, 3, leaves, data)
+    eight = b"".join(map(labels.opening, range(8)))
+    for n, count, leaf, size in COMPARE_EDGES:
+        text += compared(f"edge {n} {count} {leaf} {size}", n, [leaf, *range(1, 8)][:count], eight[:size])
+    text += compared("201 leaves", 3, [0] * 201, b"") + compared("200 leaves", 3, [0] * 200, b"")
+    pattern = bytes((7 + 31 * i) % 256 for i in range(2624))
+    for leaves in [(0, 2**40 - 1), (733007751850, 733007751851), (733007751850, 733007751850)]:
+        text += compared("deep", 40, list(leaves), pattern)
+    return text
+
+
+# plan, plan_vectors
+
+
+def plan(name="plan"):
+    """The planning program's answer to a crate's standard input."""
+    return md.planning((crate(name) / "stdin").read_bytes())
+
+
+def plan_vectors():
+    inputs = [b"2 3 0 3", b"2 0", b"4 0 1 2 3 8 9 13 14 15", b"1 0 1\n", b"3\n7\n\n7 0", b"40 0 1099511627775", b"", b" \n", b"x", b"2"]
+    inputs += [b"0 0", b"41 0", b"2 4", b"2 18446744073709551615", b"2 18446744073709551616", b"2\t1"]
+    inputs += [b"002 003 0000000000000000000000003", b"2 " + b"1 " * 200, b"2 " + b"1 " * 201, b"41 " + b"1 " * 201]
+    inputs += [b"2 " + b"1 " * 200 + b"9"]
+    inputs += [b" " * 65533 + b"1 0", b" " * 65533 + b"1 0 "]
+    return "".join(map(md.planning, inputs))
+
+
+# examples/seal_and_check
+
+
+def seal_and_check():
+    labels = tree(sha(b"big 14 21"), 14)
+    statement, n, t = labels.statement, 14, 21
+    file = labels.file(t)
+    leaves = md.challenge_leaves(n, statement, labels.root, t)
+    nodes = md.chain(n, leaves)
+    at = len(md.head(md.ZERO, md.ZERO, n, t)) + 4 * md.opening_size(n)
+    damaged = flipped(file, at, 1)
+    code = md.check_code(damaged, statement, n, t)
+    alone = md.check_opening(statement, n, leaves[4], labels.root, md.opening_part(damaged, 5))
+    depth, count, _ = md.read_head(file)
+    return (
+        f"statement {statement.hex()}\nroot {labels.root.hex()}\nfile {sha(file).hex()}\nhead depth {depth} count {count}\n"
+        f"check {md.check_code(file, statement, n, t)}\nchain {len(nodes)} nodes, last {nodes[-1]}\n"
+        f"damaged: check {code}, opening {alone}\n"
+    )
