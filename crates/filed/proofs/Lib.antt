@@ -4,3 +4,4 @@ pub mod Filing
 pub mod Rows
 pub mod Calls
 pub mod Finished
+pub mod Idle

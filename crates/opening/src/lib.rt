@@ -95,7 +95,8 @@ impl Opening {
         let outcome = may_continue(self, store.len(), out.len());
         match outcome {
             Outcome::Done => {
-                let labels = smaller(budget, nodes_anew(self.depth, self.memory) - self.made);
+                let left = nodes_anew(self.depth, self.memory) - self.made;
+                let labels = smaller(budget, left);
                 let opening = label_many(self, labels, store, out);
                 Advanced {
                     outcome,

@@ -9,3 +9,4 @@ pub mod Anew
 pub mod OpeningRun
 pub mod OpeningCalls
 pub mod Finished
+pub mod Idle

@@ -88,7 +88,8 @@ impl Run {
         let outcome = may_continue(self, store.len());
         match outcome {
             Outcome::Done => {
-                let labels = smaller(budget, nodes(self.depth) - self.made);
+                let left = nodes(self.depth) - self.made;
+                let labels = smaller(budget, left);
                 let run = label_many(self, labels, store);
                 Advanced {
                     outcome,

@@ -28,7 +28,7 @@ pub siblings-left : (l p : ℕ) → leftSiblings (l + 1) (2 * p) ≡ leftSibling
 unfolding leftSiblings
 siblings-left l p =
     let half : 2 * p / 2 ≡ p = omega arith in
-    rw (add-one, is-even (2 * p) (omega arith), half, append-nil)
+    rw (add-one, is-even (2 * p) (omega arith), half) (cc (append-nil (leftSiblings l p)))
 
 pub siblings-right : (l p : ℕ) → leftSiblings (l + 1) (2 * p + 1) ≡ leftSiblings l p ++ node (l + 1) (2 * p) ∷ []
 unfolding leftSiblings

@@ -54,8 +54,8 @@ ready c = continue-ready _ _ _ (done c)
 nodes-anew-requires : tie.Need-nodes-anew-requires
 nodes-anew-requires c κs = let r = ready c .0 .possible in (r .deep, r .above)
 
-sub-smaller : tie.Need-sub-smaller
-sub-smaller c = omega (arith, c .before .nodes-anew .ensures, ready (c .before .before) .1)
+sub-left : tie.Need-sub-left
+sub-left c = omega (arith, c .before .nodes-anew .ensures, ready (c .before .before) .1)
 
 smaller-requires : tie.Need-smaller-requires
 smaller-requires c κs = search needs
@@ -95,7 +95,7 @@ advance-spec =
     may-continue-requires
     enum-told
     nodes-anew-requires
-    sub-smaller
+    sub-left
     smaller-requires
     label-many-requires
     enum-told-2

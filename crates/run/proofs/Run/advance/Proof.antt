@@ -22,8 +22,8 @@ whole c = may-go-on (c .before .before .before .before .args .self) (length (c .
 nodes-requires : tie.Need-nodes-requires
 nodes-requires c κs = whole c .possible .depth
 
-sub-smaller : tie.Need-sub-smaller
-sub-smaller c = omega (arith, c .before .nodes .ensures, whole (c .before .before) .possible .made-few)
+sub-left : tie.Need-sub-left
+sub-left c = omega (arith, c .before .nodes .ensures, whole (c .before .before) .possible .made-few)
 
 smaller-requires : tie.Need-smaller-requires
 smaller-requires c κs = search needs
@@ -60,7 +60,7 @@ advance-spec =
     may-continue-requires
     enum-told
     nodes-requires
-    sub-smaller
+    sub-left
     smaller-requires
     label-many-requires
     enum-told-2
