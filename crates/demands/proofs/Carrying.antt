@@ -5,8 +5,6 @@ use native.Mathlib.Omega.{arith}
 use mathlib.Core.List.{List}
 use lib.ListN.{length}
 use Rattle.base.specs.Choice.{pick}
-use Rattle.refusal.specs.declared.Outcome.{Outcome}
-use Rattle.refusal.specs.declared.Outcome.the-variants.{Done}
 use Rattle.refusal.specs.Row.{isDone}
 use Rattle.tree.specs.Walk.{nodesIn}
 use Rattle.run.specs.Rows.{continueRow}
@@ -20,8 +18,8 @@ use Rattle.demands.specs.Demand1.{CarriedOut, startedRun, InBounds, Labe
 
 -- over the states that calls go through
 module _
-    {S : Type 0} (row : S → Outcome) (labels : S → ℕ → ℕ) (call : S → ℕ → S) (start : S) (all : ℕ) (at : ℕ → S) (begins : start ≡ at 0)
-    (done : (k : ℕ) → k ≤ all → row (at k) ≡ Done) (moves : (k b : ℕ) → k ≤ all → call (at k) b ≡ at (k + min b (all - k)))
+    {S : Type 0} (row : S → ℕ) (labels : S → ℕ → ℕ) (call : S → ℕ → S) (start : S) (all : ℕ) (at : ℕ → S) (begins : start ≡ at 0)
+    (done : (k : ℕ) → k ≤ all → row (at k) ≡ 0) (moves : (k b : ℕ) → k ≤ all → call (at k) b ≡ at (k + min b (all - k)))
     (reports : (k b : ℕ) → k ≤ all → labels (at k) b ≡ min b (all - k)) where
   reach : (budgets : List ℕ) → afterCalls call start budgets ≡ at (min (total budgets) all)
   reach budgets =
@@ -41,8 +39,8 @@ module _
 
 -- over steps: a call takes the smaller of its budget and what is left, and none where it is refused
 module _
-    {S : Type 0} (row : S → Outcome) (left : S → ℕ) (steps : ℕ → S → S) (adds : (j k : ℕ) (s : S) → steps j (steps k s) ≡ steps (k + j) s)
-    (start : S) (all : ℕ) (begins : start ≡ steps 0 start) (done : (k : ℕ) → k ≤ all → row (steps k start) ≡ Done)
+    {S : Type 0} (row : S → ℕ) (left : S → ℕ) (steps : ℕ → S → S) (adds : (j k : ℕ) (s : S) → steps j (steps k s) ≡ steps (k + j) s)
+    (start : S) (all : ℕ) (begins : start ≡ steps 0 start) (done : (k : ℕ) → k ≤ all → row (steps k start) ≡ 0)
     (lefts : (k : ℕ) → k ≤ all → left (steps k start) ≡ all - k) where
   abbrev labelled : S → ℕ → ℕ
   labelled s b = pick (isDone (row s)) (min b (left s)) 0

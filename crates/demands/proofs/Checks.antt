@@ -11,13 +11,10 @@ use borrow.Author.Tests.{leb-true, leb-false}
 use Rattle.base.specs.Choice.{pick, both}
 use Rattle.base.specs.Bytes.{zeros}
 use Rattle.base.specs.Limits.{maxHashed}
-use Rattle.refusal.specs.declared.Refusal.{Refusal}
-use Rattle.refusal.specs.declared.Refusal.the-variants.{Depth, MemoryLevel, ShortStore, State, TooManyBytes, LeafPosition, ShortOutput, Count, BytesEnd, BytesLeft, LeafLabel, Root, ShortList}
-use Rattle.refusal.specs.declared.Outcome.the-variants.{Done, Refused}
-use Rattle.refusal.specs.Number.{outcomeNumber}
 use Rattle.refusal.specs.Row.{outside, either}
+use Rattle.refusal.proofs.RowLaws.{some-refused}
 use Rattle.sha256.specs.declared.Hash.{Hash}
-use Rattle.sha256.specs.Portions.{newHash, tooMany, updateOutcome, updateState, finishOutcome, finishDigest, digestOutcome, digestAnswer}
+use Rattle.sha256.specs.Portions.{newHash, tooMany, updateRow, updateState, finishRow, finishDigest, digestRow, digestAnswer}
 use Rattle.tree.specs.Walk.{nodesIn}
 use Rattle.tree.specs.Store.{storeSize}
 use Rattle.tree.specs.Openings.{LeafRight, RootRight}
@@ -43,10 +40,10 @@ use Rattle.demands.proofs.Decisions.{Decides, decides-outside, decides-
 
 -- ---- conditions that stand in several rows
 abbrev pub depth : ℕ → Decided
-depth n = record { test = outside 1 40 n; condition = Outside 1 40 n; decides = decides-outside 1 40 n; refusal = Depth }
+depth n = record { test = outside 1 40 n; condition = Outside 1 40 n; decides = decides-outside 1 40 n; number = 1 }
 
 abbrev memory : ℕ → ℕ → Decided
-memory n m = record { test = memoryOver n m; condition = min n 20 < m; decides = decides-lt (min n 20) m; refusal = MemoryLevel }
+memory n m = record { test = memoryOver n m; condition = min n 20 < m; decides = decides-lt (min n 20) m; number = 2 }
 
 abbrev room : ℕ → ℕ → Decided
 room m store =
@@ -54,22 +51,22 @@ room m store =
       test = ltb store (storeSize m);
       condition = store < 32 * (2 ^ (m + 1) - 1);
       decides = decides-lt store (storeSize m);
-      refusal = ShortStore;
+      number = 3;
     }
 
 abbrev position : ℕ → ℕ → Decided
-position n leaf = record { test = leb (2 ^ n) leaf; condition = 2 ^ n ≤ leaf; decides = decides-le (2 ^ n) leaf; refusal = LeafPosition }
+position n leaf = record { test = leb (2 ^ n) leaf; condition = 2 ^ n ≤ leaf; decides = decides-le (2 ^ n) leaf; number = 6 }
 
 abbrev output : ℕ → ℕ → Decided
 output n out =
-    record { test = ltb out (openingSize n); condition = out < 32 * (n + 1); decides = decides-lt out (openingSize n); refusal = ShortOutput }
+    record { test = ltb out (openingSize n); condition = out < 32 * (n + 1); decides = decides-lt out (openingSize n); number = 7 }
 
 abbrev wholeFile : ℕ → ℕ → ℕ → Decided
 wholeFile n t out =
-    record { test = ltb out (fileSize n t); condition = out < fileSize n t; decides = decides-lt out (fileSize n t); refusal = ShortOutput }
+    record { test = ltb out (fileSize n t); condition = out < fileSize n t; decides = decides-lt out (fileSize n t); number = 7 }
 
 abbrev pub count : ℕ → Decided
-count t = record { test = outside 1 200 t; condition = Outside 1 200 t; decides = decides-outside 1 200 t; refusal = Count }
+count t = record { test = outside 1 200 t; condition = Outside 1 200 t; decides = decides-outside 1 200 t; number = 8 }
 
 decides-impossible : (n m made all : ℕ) → Decides (impossible n m made all) (Impossible n m made all)
 decides-impossible n m made all =
@@ -79,7 +76,7 @@ decides-impossible n m made all =
 pub starting-run : (statement : List ℕ) (n m store : ℕ) → StartingRun statement n m store
 unfolding startRow runs.started
 starting-run statement n m store =
-    record { answer = is-first (depth n ∷ memory n m ∷ room m store ∷ []); refused = λ r e. rw e }
+    record { answer = is-first (depth n ∷ memory n m ∷ room m store ∷ []); refused = λ e. rw (some-refused _ e) }
 
 pub continuing-run : (run : Run) (store : List ℕ) (budget : ℕ) → ContinuingRun run store budget
 unfolding continueRow nodesIn runs.labelsIn runs.advanced runs.steps
@@ -91,12 +88,12 @@ continuing-run run store budget =
             test = impossible (run .depth) (run .memory) (run .made) (nodesIn (run .depth));
             condition = Impossible (run .depth) (run .memory) (run .made) (2 ^ (run .depth + 1) - 1);
             decides = decides-impossible (run .depth) (run .memory) (run .made) (nodesIn (run .depth));
-            refusal = State;
+            number = 4;
           }
           ∷ room (run .memory) (length store)
           ∷ []
           );
-      refused = λ r e. (rw e, rw e);
+      refused = λ e. let no = some-refused _ e in (rw no, rw no);
     }
 
 -- ---- openings
@@ -105,7 +102,7 @@ unfolding openRow openings.started openings.startedOut
 starting-opening statement n m leaf store out =
     record {
       answer = is-first (depth n ∷ memory n m ∷ room m (length store) ∷ position n leaf ∷ output n (length out) ∷ []);
-      refused = λ r e. (rw e, rw e);
+      refused = λ e. let no = some-refused _ e in (rw no, rw no);
     }
 
 pub continuing-opening : (o : Opening) (store out : List ℕ) (budget : ℕ) → ContinuingOpening o store out budget
@@ -119,13 +116,13 @@ continuing-opening o store out budget =
             test = either (impossible (o .depth) (o .memory) (o .made) all) (leb (2 ^ (o .depth)) (o .leaf));
             condition = Impossible (o .depth) (o .memory) (o .made) all ⊎ (2 ^ (o .depth) ≤ o .leaf);
             decides = decides-either (decides-impossible (o .depth) (o .memory) (o .made) all) (decides-le (2 ^ (o .depth)) (o .leaf));
-            refusal = State;
+            number = 4;
           }
           ∷ room (o .memory) (length store)
           ∷ output (o .depth) (length out)
           ∷ []
           );
-      refused = λ r e. (rw e, rw e);
+      refused = λ e. let no = some-refused _ e in (rw no, rw no);
     }
 
 pub one-opening : (statement : List ℕ) (n leaf : ℕ) (root bytes : List ℕ) → OneOpening statement n leaf root bytes
@@ -138,25 +135,25 @@ one-opening statement n leaf root bytes =
       test = ltb (length bytes) (openingSize n);
       condition = length bytes < 32 * (n + 1);
       decides = decides-lt (length bytes) (openingSize n);
-      refusal = BytesEnd;
+      number = 10;
     }
     ∷ record {
       test = ltb (openingSize n) (length bytes);
       condition = 32 * (n + 1) < length bytes;
       decides = decides-lt (openingSize n) (length bytes);
-      refusal = BytesLeft;
+      number = 13;
     }
     ∷ record {
       test = leafWrong (stampRule statement) n leaf bytes;
       condition = LeafRight (stampRule statement) n leaf (givenBy bytes) → ⊥;
       decides = decides-differ _ _;
-      refusal = LeafLabel;
+      number = 14;
     }
     ∷ record {
       test = rootWrong (stampRule statement) n leaf bytes root;
       condition = RootRight (stampRule statement) n leaf (givenBy bytes) root → ⊥;
       decides = decides-differ _ _;
-      refusal = Root;
+      number = 15;
     }
     ∷ []
     )
@@ -164,12 +161,12 @@ one-opening statement n leaf root bytes =
 -- ---- challenges and the head
 pub a-challenge : (n : ℕ) (statement root : List ℕ) (i : ℕ) → AChallenge n statement root i
 unfolding challengeRow challenged
-a-challenge n statement root i = record { answer = is-first (depth n ∷ count i ∷ []); refused = λ r e. rw e }
+a-challenge n statement root i = record { answer = is-first (depth n ∷ count i ∷ []); refused = λ e. rw (some-refused _ e) }
 
 pub writing-head : (statement root : List ℕ) (n t : ℕ) (out : List ℕ) → WritingHead statement root n t out
 unfolding headRow headWritten
 writing-head statement root n t out =
-    record { answer = is-first (depth n ∷ count t ∷ wholeFile n t (length out) ∷ []); refused = λ r e. rw e }
+    record { answer = is-first (depth n ∷ count t ∷ wholeFile n t (length out) ∷ []); refused = λ e. rw (some-refused _ e) }
 
 -- ---- files by budgets
 pub starting-file : (statement root : List ℕ) (n m t : ℕ) (store file : List ℕ) → StartingFile statement root n m t store file
@@ -177,7 +174,7 @@ unfolding writeRow writings.started
 starting-file statement root n m t store file =
     record {
       answer = is-first (depth n ∷ memory n m ∷ room m (length store) ∷ count t ∷ wholeFile n t (length file) ∷ []);
-      refused = λ r e. rw e;
+      refused = λ e. rw (some-refused _ e);
     }
 
 pub continuing-file : (w : Writing) (store file : List ℕ) (budget : ℕ) → ContinuingFile w store file budget
@@ -202,13 +199,13 @@ continuing-file w store file budget =
                 (decides-le (2 ^ (o .depth)) (o .leaf))
                 (decides-either (decides-outside 1 200 (w .count))
                 (decides-either (decides-outside 1 (w .count) (w .number)) (decides-both (decides-eq (o .made) all) (decides-lt (w .number) (w .count))))));
-            refusal = State;
+            number = 4;
           }
           ∷ room (o .memory) (length store)
           ∷ wholeFile (o .depth) (w .count) (length file)
           ∷ []
           );
-      refused = λ r e. (rw e, rw e);
+      refused = λ e. let no = some-refused _ e in (rw no, rw no);
     }
 
 -- ---- planning
@@ -223,10 +220,10 @@ someLeaf n leaves =
       test = not (every (isLeaf n) leaves);
       condition = (i : ℕ) × (i < length leaves) × (2 ^ n ≤ getD leaves i 0);
       decides = decides-some (isLeaf n) (λ leaf. 2 ^ n ≤ leaf) (decides-leaf n) leaves;
-      refusal = LeafPosition;
+      number = 6;
     }
 
-pub planning-row : (n : ℕ) (leaves : List ℕ) (list : ℕ) → IsFirst (planningChain n leaves list) (outcomeNumber (planRow n leaves list))
+pub planning-row : (n : ℕ) (leaves : List ℕ) (list : ℕ) → IsFirst (planningChain n leaves list) (planRow n leaves list)
 unfolding planRow
 planning-row n leaves list =
     is-first
@@ -237,14 +234,14 @@ planning-row n leaves list =
       test = ltb list (length (chain n leaves));
       condition = list < length (chain n leaves);
       decides = decides-lt list (length (chain n leaves));
-      refusal = ShortList;
+      number = 16;
     }
     ∷ []
     )
 
 pub planning-chain : (n : ℕ) (leaves list : List ℕ) → PlanningChain n leaves list
 unfolding plannedCount plannedList
-planning-chain n leaves list = record { answer = planning-row n leaves (length list); refused = λ r e. (rw e, rw e) }
+planning-chain n leaves list = record { answer = planning-row n leaves (length list); refused = λ e. let no = some-refused _ e in (rw no, rw no) }
 
 -- ---- hashing, which has one condition
 over : ℕ → ℕ → Decided
@@ -257,34 +254,34 @@ over taken more =
             yes = λ e. omega (arith, leb-true (maxHashed + 1) (taken + more) e);
             no = λ e above. omega (arith, leb-false (maxHashed + 1) (taken + more) e);
           };
-      refusal = TooManyBytes;
+      number = 5;
     }
 
 -- what stands beside the one refusal
-beside-refused {ℓ} : {A : Type ℓ} (t : Bool) (r′ r : Refusal) (x y : A) → pick t (Refused r′) Done ≡ Refused r → pick t x y ≡ x
-beside-refused true r′ r x y e = refl
-beside-refused false r′ r x y e = absurd (let no : _≡_ {A = ℕ} 0 1 = cc in omega arith)
+beside-refused {ℓ} : {A : Type ℓ} (t : Bool) (number : ℕ) (x y : A) → 1 ≤ pick t number 0 → pick t x y ≡ x
+beside-refused true number x y some = refl
+beside-refused false number x y some = absurd (omega arith)
 
 pub hashing-portion : (s : Hash) (part : List ℕ) → HashingPortion s part
-unfolding updateOutcome updateState over
+unfolding updateRow updateState over
 hashing-portion s part =
     record {
       answer = is-first (over (s .taken) (length part) ∷ []);
-      refused = λ r e. beside-refused (tooMany s (length part)) TooManyBytes r s _ e;
+      refused = λ some. beside-refused (tooMany s (length part)) 5 s _ some;
     }
 
 pub hashing-end : (s : Hash) → HashingEnd s
-unfolding finishOutcome finishDigest over
+unfolding finishRow finishDigest over
 hashing-end s =
     record {
       answer = is-first (over (s .taken) 0 ∷ []);
-      refused = λ r e. beside-refused (tooMany s 0) TooManyBytes r (zeros 32) _ e;
+      refused = λ some. beside-refused (tooMany s 0) 5 (zeros 32) _ some;
     }
 
 pub hashing-whole : (message : List ℕ) → HashingWhole message
-unfolding digestOutcome digestAnswer over
+unfolding digestRow digestAnswer over
 hashing-whole message =
     record {
       answer = is-first (over 0 (length message) ∷ []);
-      refused = λ r e. beside-refused (tooMany newHash (length message)) TooManyBytes r (zeros 32) _ e;
+      refused = λ some. beside-refused (tooMany newHash (length message)) 5 (zeros 32) _ some;
     }

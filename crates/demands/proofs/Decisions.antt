@@ -5,59 +5,49 @@ use Prim.Native.Nat.{ℕ, zero, suc, _≤_, _<_}
 use native.Mathlib.Omega.{arith}
 use mathlib.Core.Bool.{Bool, true, false, not}
 use mathlib.Core.List.{List, [], _∷_, _++_}
-use lib.Dec.{ltb, leb, eqb, lit≤}
+use lib.Dec.{ltb, leb, eqb}
 use lib.ListN.{length, getD}
 use borrow.Author.Tests.{ltb-true, ltb-false, leb-true, leb-false, eqb-true, eqb-false, not-true, not-false}
 use Rattle.base.specs.Choice.{pick, both}
 use Rattle.base.specs.Lists.{sameBytes}
 use Rattle.base.proofs.ChoiceLaws.{both-first, both-second, true-false}
 use Rattle.base.proofs.ListsLaws.{tells-bytes, test-false}
-use Rattle.refusal.specs.declared.Refusal.{Refusal}
-use Rattle.refusal.specs.declared.Refusal.the-variants.{Depth, MemoryLevel, ShortStore, State, TooManyBytes, LeafPosition, ShortOutput, Count, NotWanted, BytesEnd, NotShortest, Edition, BytesLeft, LeafLabel, Root, ShortList, Input}
-use Rattle.refusal.specs.declared.Outcome.{Outcome}
-use Rattle.refusal.specs.declared.Outcome.the-variants.{Done, Refused}
-use Rattle.refusal.specs.Number.{numberOf, outcomeNumber}
 use Rattle.refusal.specs.Row.{firstOf, outside, either}
-use Rattle.refusal.proofs.RowLaws.{NoneHolds, none-holds}
+use Rattle.refusal.proofs.RowLaws.{NoneHolds, numbered, none-holds, row-passed}
 use Rattle.ways.specs.Planning.{every}
 use Rattle.demands.specs.Rows.{Row, IsFirst, Outside}
 
 -- ---- rows as tests
--- some test of a row holds with this refusal, and none before it
-pub record FirstHolds (row : List (Bool × Refusal)) (r : Refusal) : Type 0 where
-  pub before : List (Bool × Refusal)
-  pub after : List (Bool × Refusal)
-  pub whole : row ≡ before ++ (true, r) ∷ after
+-- some test of a row holds with this number, and none before it
+pub record FirstHolds (row : List (Bool × ℕ)) (number : ℕ) : Type 0 where
+  pub before : List (Bool × ℕ)
+  pub after : List (Bool × ℕ)
+  pub whole : row ≡ before ++ (true, number) ∷ after
   pub none : NoneHolds before
 
 first-by :
-    (t : Bool) (r′ r : Refusal) (row : List (Bool × Refusal)) → (firstOf row ≡ Refused r → FirstHolds row r)
-    → pick t (Refused r′) (firstOf row) ≡ Refused r → FirstHolds ((t, r′) ∷ row) r
-first-by true r′ r row ih e = let same : r′ ≡ r = cc in record { before = []; after = row; whole = rw same; none = tt }
-first-by false r′ r row ih e =
-    let first : FirstHolds row r = ih e in
-    record { before = (false, r′) ∷ first .before; after = first .after; whole = rw (first .whole); none = (refl, first .none) }
+    (t : Bool) (here number : ℕ) (row : List (Bool × ℕ)) → (firstOf row ≡ number → FirstHolds row number)
+    → pick t here (firstOf row) ≡ number → FirstHolds ((t, here) ∷ row) number
+first-by true here number row ih e = record { before = []; after = row; whole = rw e; none = tt }
+first-by false here number row ih e =
+    let first : FirstHolds row number = ih e in
+    record { before = (false, here) ∷ first .before; after = first .after; whole = rw (first .whole); none = (refl, first .none) }
 
-first-holds : (row : List (Bool × Refusal)) (r : Refusal) → firstOf row ≡ Refused r → FirstHolds row r
-first-holds [] r e = absurd (let no : _≡_ {A = ℕ} 0 1 = cc in omega arith)
-first-holds (check ∷ row) r e = first-by (check .0) (check .1) r row (first-holds row r) e
+first-holds : (row : List (Bool × ℕ)) (number : ℕ) → 1 ≤ number → firstOf row ≡ number → FirstHolds row number
+first-holds [] number some e = absurd (omega arith)
+first-holds (check ∷ row) number some e = first-by (check .0) (check .1) number row (first-holds row number some) e
 
-none-done : (row : List (Bool × Refusal)) → NoneHolds row → firstOf row ≡ Done
+none-done : (row : List (Bool × ℕ)) → NoneHolds row → firstOf row ≡ 0
 none-done [] none = refl
 none-done (check ∷ row) none = rw (none .0) (none-done row (none .1))
 
-first-after :
-    (before after : List (Bool × Refusal)) (r : Refusal) → NoneHolds before → firstOf (before ++ (true, r) ∷ after) ≡ Refused r
-first-after [] after r none = refl
-first-after (check ∷ before) after r none = rw (none .0) (first-after before after r (none .1))
-
 -- 'Each is given just when its condition holds and no earlier one did.'
-pub refused-exactly : (row : List (Bool × Refusal)) (r : Refusal) → firstOf row ≡ Refused r ↔ FirstHolds row r
-refused-exactly row r =
-    (first-holds row r, λ first. rw (first .whole) (first-after (first .before) (first .after) r (first .none)))
+pub refused-exactly : (row : List (Bool × ℕ)) (number : ℕ) → 1 ≤ number → firstOf row ≡ number ↔ FirstHolds row number
+refused-exactly row number some =
+    (first-holds row number some, λ first. rw (first .whole) (row-passed (first .before) ((true, number) ∷ first .after) (first .none)))
 
-pub done-exactly : (row : List (Bool × Refusal)) → firstOf row ≡ Done ↔ NoneHolds row
-done-exactly row = (none-holds row, none-done row)
+pub done-exactly : (row : List (Bool × ℕ)) → numbered row ≡ true → firstOf row ≡ 0 ↔ NoneHolds row
+done-exactly row n = (none-holds row n, none-done row)
 
 -- ---- tests that decide conditions
 pub record Decides (test : Bool) (condition : Type 0) : Type 0 where
@@ -154,25 +144,25 @@ pub record Decided : Type 1 where
   pub test : Bool
   pub condition : Type 0
   pub decides : Decides test condition
-  pub refusal : Refusal
+  pub number : ℕ
 
-abbrev pub tests : List Decided → List (Bool × Refusal)
+abbrev pub tests : List Decided → List (Bool × ℕ)
 tests [] = []
-tests (c ∷ cs) = (c .test, c .refusal) ∷ tests cs
+tests (c ∷ cs) = (c .test, c .number) ∷ tests cs
 
 abbrev pub conditions : List Decided → Row
 conditions [] = []
-conditions (c ∷ cs) = (c .condition, numberOf (c .refusal)) ∷ conditions cs
+conditions (c ∷ cs) = (c .condition, c .number) ∷ conditions cs
 
 first-step :
-    (t : Bool) (P : Type 0) (r : Refusal) (row : Row) (next : Outcome) → Decides t P → IsFirst row (outcomeNumber next)
-    → IsFirst ((P, numberOf r) ∷ row) (outcomeNumber (pick t (Refused r) next))
-first-step true P r row next d rest = inl (d .yes refl, refl)
-first-step false P r row next d rest = inr (d .no refl, rest)
+    (t : Bool) (P : Type 0) (number : ℕ) (row : Row) (next : ℕ) → Decides t P → IsFirst row next
+    → IsFirst ((P, number) ∷ row) (pick t number next)
+first-step true P number row next d rest = inl (d .yes refl, refl)
+first-step false P number row next d rest = inr (d .no refl, rest)
 
-pub is-first : (cs : List Decided) → IsFirst (conditions cs) (outcomeNumber (firstOf (tests cs)))
+pub is-first : (cs : List Decided) → IsFirst (conditions cs) (firstOf (tests cs))
 is-first [] = refl
-is-first (c ∷ cs) = first-step (c .test) (c .condition) (c .refusal) (conditions cs) (firstOf (tests cs)) (c .decides) (is-first cs)
+is-first (c ∷ cs) = first-step (c .test) (c .condition) (c .number) (conditions cs) (firstOf (tests cs)) (c .decides) (is-first cs)
 
 -- a row gives one answer
 pub one-answer : (row : Row) (a b : ℕ) → IsFirst row a → IsFirst row b → a ≡ b
@@ -181,23 +171,3 @@ one-answer (check ∷ row) a b (inl p) (inl q) = p .1 ∙ sym (q .1)
 one-answer (check ∷ row) a b (inl p) (inr q) = absurd (q .0 (p .0))
 one-answer (check ∷ row) a b (inr p) (inl q) = absurd (p .0 (q .0))
 one-answer (check ∷ row) a b (inr p) (inr q) = one-answer row a b (p .1) (q .1)
-
--- ---- no number is 0
-pub number-positive : (r : Refusal) → 1 ≤ numberOf r
-number-positive Depth = lit≤ tt
-number-positive MemoryLevel = lit≤ tt
-number-positive ShortStore = lit≤ tt
-number-positive State = lit≤ tt
-number-positive TooManyBytes = lit≤ tt
-number-positive LeafPosition = lit≤ tt
-number-positive ShortOutput = lit≤ tt
-number-positive Count = lit≤ tt
-number-positive NotWanted = lit≤ tt
-number-positive BytesEnd = lit≤ tt
-number-positive NotShortest = lit≤ tt
-number-positive Edition = lit≤ tt
-number-positive BytesLeft = lit≤ tt
-number-positive LeafLabel = lit≤ tt
-number-positive Root = lit≤ tt
-number-positive ShortList = lit≤ tt
-number-positive Input = lit≤ tt

@@ -7,9 +7,8 @@ use lib.ListN.{length, drop}
 use lib.Seq.{take-at, drop-at}
 use borrow.Author.Tests.{lt-leb}
 use Rattle.base.specs.Limits.{maxHashed}
-use Rattle.refusal.specs.declared.Outcome.the-variants.{Done}
 use Rattle.sha256.specs.Digest.{digest}
-use Rattle.sha256.specs.Portions.{digestOutcome, digestAnswer}
+use Rattle.sha256.specs.Portions.{digestRow, digestAnswer}
 use Rattle.sha256.proofs.Portions.{in-portions}
 use Rattle.tree.specs.Walk.{nodesIn}
 use Rattle.tree.specs.Labels.{inputHead, documentInput}
@@ -40,8 +39,8 @@ use Rattle.demands.specs.Demand2.{StatementIs, LabelsAre, runFrom, RunLa
 use Rattle.demands.proofs.Carrying.{startable, run-started}
 
 -- ---- statement
-at-once : (m : List ℕ) → length m ≤ maxHashed → (digestOutcome m ≡ Done) × (digestAnswer m ≡ digest m)
-unfolding digestOutcome digestAnswer
+at-once : (m : List ℕ) → length m ≤ maxHashed → (digestRow m ≡ 0) × (digestAnswer m ≡ digest m)
+unfolding digestRow digestAnswer
 at-once m small =
     let fits = lt-leb (maxHashed + 1) (0 + length m) (omega arith) in
     (rw fits, rw fits)

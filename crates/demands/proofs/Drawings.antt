@@ -6,20 +6,13 @@ use native.Mathlib.Omega.{arith}
 use mathlib.Core.List.{List, [], _∷_, _++_}
 use lib.Dec.{lit≤}
 use lib.ListN.{length, getD}
-use Rattle.refusal.specs.declared.Refusal.{Refusal}
-use Rattle.refusal.specs.declared.Refusal.the-variants.{ShortList}
-use Rattle.refusal.specs.declared.Check.the-variants.{Rejected}
-use Rattle.refusal.specs.Number.{codeOf}
 use Rattle.proof.specs.FileCheck.{fileCheck}
-use Rattle.draw.specs.declared.Drawing.{Drawing}
-use Rattle.draw.specs.declared.Drawing.the-variants.{NotDrawn, Chain, Clash}
-use Rattle.draw.specs.Drawing.{drawingOf}
+use Rattle.draw.specs.Drawing.{DrawingAnswer, notDrawn, drawnChain, drawnClash, drawingOf}
 use Rattle.drawn.specs.Demand3.{IsAccepted, NoneDisagree, chainLength, ListShort}
 use Rattle.drawn.proofs.Openings.{some-none}
 use Rattle.drawn.proofs.Demand3.{chain-exactly, clash-exactly, refused-exactly, refused-untouched}
 use Rattle.demands.specs.Rows.{Row, IsFirst, behind, foundIn, fileOpenings, aFile, drawingChain}
 use Rattle.demands.specs.Demand1.{drawingNumber, DrawingChain}
-use Rattle.demands.proofs.Decisions.{number-positive}
 use Rattle.demands.proofs.Files.{a-file}
 
 -- ---- a row behind another
@@ -62,29 +55,22 @@ module _ (bytes statement : List ℕ) (n t : ℕ) (small : (j : ℕ) → getD by
       passes-first (aFile bytes statement n t) (foundIn 0 ((Short, 16) ∷ [])) answer (file-positive bytes statement n t)
       (rw accepted at (a-file bytes statement n t)) first
 
-  refused-by-file :
-      (r : Refusal) (i : ℕ) → fileCheck bytes statement n t ≡ Rejected r i
-      → IsFirst (drawingChain bytes statement n t (length list)) (codeOf (Rejected r i))
-  refused-by-file r i refused =
-      stays-first (aFile bytes statement n t) (foundIn 0 ((Short, 16) ∷ [])) (codeOf (Rejected r i)) (omega (arith, number-positive r))
-      (rw refused at (a-file bytes statement n t))
-
-  short-code : (r : Refusal) (i : ℕ) → r ≡ ShortList → i ≡ 0 → codeOf (Rejected r i) ≡ 256 * 16 + 0
-  short-code r i e f = rw (e, f)
+  refused-by-file : (code : ℕ) → fileCheck bytes statement n t ≡ code → 1 ≤ code → IsFirst (drawingChain bytes statement n t (length list)) code
+  refused-by-file code refused some =
+      stays-first (aFile bytes statement n t) (foundIn 0 ((Short, 16) ∷ [])) code some (rw refused at (a-file bytes statement n t))
 
   answer-by :
-      (d : Drawing) → drawingOf bytes statement n t (length list) ≡ d
+      (d : DrawingAnswer) → drawingOf bytes statement n t (length list) ≡ d
       → IsFirst (drawingChain bytes statement n t (length list)) (drawingNumber d)
-  answer-by (NotDrawn r i) e =
+  answer-by (notDrawn code) e =
       ⊎-elim
-      (refused-by-file r i)
-      (λ (s : ListShort bytes statement n t (length list) r i).
-      behind-file (s .accepted) (codeOf (Rejected r i)) (inl ((s .agree, s .short), short-code r i (s .refusal) (s .outside))))
-      (refused-exactly bytes statement n t small (length list) r i .0 e)
-  answer-by (Chain count) e =
+      (λ file. refused-by-file code (file .0) (file .1))
+      (λ (s : ListShort bytes statement n t (length list) code). behind-file (s .accepted) code (inl ((s .agree, s .short), s .refusal)))
+      (refused-exactly bytes statement n t small (length list) code .0 e)
+  answer-by (drawnChain count) e =
       let drawn = chain-exactly bytes statement n t small (length list) .0 (count, e) in
       behind-file (drawn .0) 0 (inr (λ s. omega (arith, s .1, drawn .2), refl))
-  answer-by (Clash i j l) e =
+  answer-by (drawnClash i j l) e =
       let drawn = clash-exactly bytes statement n t small (length list) .0 (i, j, l, e) in
       behind-file (drawn .0) 0 (inr (λ s. some-none bytes statement n t (drawn .1) (s .0), refl))
 
@@ -92,5 +78,5 @@ module _ (bytes statement : List ℕ) (n t : ℕ) (small : (j : ℕ) → getD by
   drawing-chain =
       record {
         answer = answer-by (drawingOf bytes statement n t (length list)) refl;
-        refused = λ r i e. refused-untouched bytes statement n t list r i e;
+        refused = λ code e. refused-untouched bytes statement n t list code e;
       }

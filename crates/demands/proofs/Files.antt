@@ -1,32 +1,22 @@
 -- Document 01's rows 'File' and 'Drawing a chain', in one number: 256 × refusal + opening.
 use mathlib.Core.Path.{_≡_, refl, _∙_}
 use mathlib.Core.Logic.{_⊎_, inl, inr, ⊎-elim}
-use Prim.Native.Nat.{ℕ, zero, suc, _+_, _*_, _%_, _≤_, _<_}
+use Prim.Native.Nat.{ℕ, zero, suc, _+_, _*_, _%_, _^_, _≤_, _<_}
 use native.Mathlib.Omega.{arith}
 use mathlib.Core.Bool.{Bool, true, false, not}
 use mathlib.Core.List.{List, [], _∷_, _++_}
 use lib.Dec.{ltb, eqb}
 use lib.ListN.{length}
-use borrow.Author.Tests.{lt-ltb, le-ltb, eqb-true, eq-eqb, ne-eqb}
+use borrow.Author.Tests.{lt-ltb, le-ltb, lt-leb, eqb-true, eq-eqb, ne-eqb}
 use Rattle.base.specs.Choice.{pick, both}
 use Rattle.base.specs.Lists.{sameBytes}
 use Rattle.base.proofs.ChoiceLaws.{both-first, both-second, both-false, true-false}
 use Rattle.base.proofs.ListsLaws.{tells-bytes, test-same}
-use Rattle.refusal.specs.declared.Refusal.{Refusal}
-use Rattle.refusal.specs.declared.Refusal.the-variants.{Depth, Count, NotWanted, BytesEnd, NotShortest, Edition, BytesLeft, LeafLabel, Root}
-use Rattle.refusal.specs.declared.Outcome.the-variants.{Done, Refused}
-use Rattle.refusal.specs.declared.Check.{Check}
-use Rattle.refusal.specs.declared.Check.the-variants.{Rejected}
-use Rattle.refusal.specs.Number.{numberOf, codeOf}
 use Rattle.refusal.specs.Row.{outside}
-use Rattle.groups.specs.declared.Number.{Number}
-use Rattle.groups.specs.declared.Number.the-variants as numbers
-use Rattle.groups.specs.Reading.{ended, readFrom, readAt}
+use Rattle.groups.specs.Reading.{Answer, value, refused, ended, readFrom, readAt}
 use Rattle.groups.proofs.Steps.{read-none, read-end, read-last, read-more, lt-or-le}
 use Rattle.verify.specs.OpeningCheck.{rightRow}
-use Rattle.proof.specs.declared.HeadNumbers.{HeadNumbers}
-use Rattle.proof.specs.declared.HeadNumbers.the-variants.{Numbers, NotRead}
-use Rattle.proof.specs.Head.{checked, headOf, lengthFrom, statementAt}
+use Rattle.proof.specs.Head.{HeadAnswer, numbers, notRead, checked, headOf, lengthFrom, statementAt}
 use Rattle.proof.specs.HeadSteps.{countFrom, depthFrom}
 use Rattle.proof.specs.FileCheck as files
 use Rattle.proof.specs.FileCheck.{opened, openingsFrom, wanted, fileCheck}
@@ -36,20 +26,21 @@ use Rattle.demands.proofs.Decisions.{Decides, decides-not, decides-eq, 
 
 -- ---- a number of at most two bytes
 module _ (bytes : List ℕ) (at : ℕ) where
-  read-ends : length bytes ≤ at → readAt bytes at 2 ≡ numbers.Refused BytesEnd
+  read-ends : length bytes ≤ at → readAt bytes at 2 ≡ refused 10
   unfolding readAt
   read-ends short = read-end bytes at 0 0 2 1 refl short
 
   module _ (here : at < length bytes) where
-    read-one : byteAt bytes at < 128 → readAt bytes at 2 ≡ numbers.Value (valueAt bytes at) (record { at = behind bytes at })
+    read-one : byteAt bytes at < 128 → readAt bytes at 2 ≡ value (valueAt bytes at) (behind bytes at)
     unfolding readAt valueAt behind ended
     read-one last =
-        let value : 0 + byteAt bytes at % 128 * 1 ≡ byteAt bytes at = omega arith in
+        let is : 0 + byteAt bytes at % 128 * 1 ≡ byteAt bytes at = omega arith in
         rw (
           read-last bytes at 0 0 2 1 (byteAt bytes at) 1 refl here refl refl last,
-          value,
+          is,
           lt-ltb (byteAt bytes at) 128 last,
           both-false (eqb (byteAt bytes at) 0),
+          lt-leb (2 ^ 64) (byteAt bytes at) (omega arith),
         )
 
     module _ (more : 128 ≤ byteAt bytes at) where
@@ -60,17 +51,17 @@ module _ (bytes : List ℕ) (at : ℕ) where
       unfolding readAt
       read-second = read-more bytes at 0 0 2 1 (byteAt bytes at) 1 refl here refl refl more
 
-      read-ends-second : length bytes ≤ at + 1 → readAt bytes at 2 ≡ numbers.Refused BytesEnd
+      read-ends-second : length bytes ≤ at + 1 → readAt bytes at 2 ≡ refused 10
       read-ends-second short = read-second ∙ read-end bytes (at + 1) 1 low 1 0 refl short
 
       module _ (there : at + 1 < length bytes) where
-        read-third : 128 ≤ byteAt bytes (at + 1) → readAt bytes at 2 ≡ numbers.Refused NotShortest
+        read-third : 128 ≤ byteAt bytes (at + 1) → readAt bytes at 2 ≡ refused 11
         read-third high =
             read-second
             ∙ read-more bytes (at + 1) 1 low 1 0 (byteAt bytes (at + 1)) 128 refl there refl refl high
             ∙ read-none bytes (at + 1 + 1) 2 _ 0 refl
 
-        read-zero : byteAt bytes (at + 1) ≡ 0 → readAt bytes at 2 ≡ numbers.Refused NotShortest
+        read-zero : byteAt bytes (at + 1) ≡ 0 → readAt bytes at 2 ≡ refused 11
         unfolding ended
         read-zero none =
             read-second
@@ -79,14 +70,21 @@ module _ (bytes : List ℕ) (at : ℕ) where
 
         read-two :
             (byteAt bytes (at + 1) ≡ 0 → ⊥) → byteAt bytes (at + 1) < 128
-            → readAt bytes at 2 ≡ numbers.Value (valueAt bytes at) (record { at = behind bytes at })
+            → readAt bytes at 2 ≡ value (valueAt bytes at) (behind bytes at)
         unfolding valueAt behind ended
         read-two some last =
-            let value : low + byteAt bytes (at + 1) % 128 * 128 ≡ byteAt bytes at % 128 + 128 * byteAt bytes (at + 1) = omega arith in
+            let is : low + byteAt bytes (at + 1) % 128 * 128 ≡ byteAt bytes at % 128 + 128 * byteAt bytes (at + 1) = omega arith in
             let end : at + 1 + 1 ≡ at + 2 = omega arith in
+            let fits : byteAt bytes at % 128 + 128 * byteAt bytes (at + 1) < 2 ^ 64 = omega arith in
             read-second
             ∙ read-last bytes (at + 1) 1 low 1 0 (byteAt bytes (at + 1)) 128 refl there refl refl last
-            ∙ rw (ne-eqb (byteAt bytes (at + 1)) 0 some, value, end, le-ltb (byteAt bytes at) 128 more)
+            ∙ rw (
+              ne-eqb (byteAt bytes (at + 1)) 0 some,
+              is,
+              end,
+              lt-leb (2 ^ 64) (byteAt bytes at % 128 + 128 * byteAt bytes (at + 1)) fits,
+              le-ltb (byteAt bytes at) 128 more,
+            )
 
 -- the number's conditions, each number marked as in an answer, then those that follow
 abbrev numberRow : (ℕ → ℕ) → List ℕ → ℕ → Row → Row
@@ -97,32 +95,31 @@ numberRow mark bytes at row =
 
 -- the number, then the condition on its value
 module _
-    (mark : ℕ → ℕ) (answer : HeadNumbers → ℕ) (refusals : (r : Refusal) → answer (NotRead r) ≡ mark (numberOf r)) (bad : ℕ → Bool)
-    (Bad : ℕ → Type 0) (decides : (x : ℕ) → Decides (bad x) (Bad x)) (refusal : Refusal) (next : ℕ → ℕ → HeadNumbers) where
-  refused-answer :
-      (number : Number) (r : Refusal) → number ≡ numbers.Refused r → answer (checked number bad refusal next) ≡ mark (numberOf r)
+    (mark : ℕ → ℕ) (answer : HeadAnswer → ℕ) (refusals : (number : ℕ) → answer (notRead number) ≡ mark number) (bad : ℕ → Bool)
+    (Bad : ℕ → Type 0) (decides : (x : ℕ) → Decides (bad x) (Bad x)) (refusal : ℕ) (next : ℕ → ℕ → HeadAnswer) where
+  refused-answer : (number : Answer) (r : ℕ) → number ≡ refused r → answer (checked number bad refusal next) ≡ mark r
   refused-answer number r e = rw e (refusals r)
 
   value-by :
       (x end : ℕ) (row : Row) (t : Bool) → Decides t (Bad x) → IsFirst row (answer (next x end))
-      → IsFirst ((Bad x, mark (numberOf refusal)) ∷ row) (answer (pick t (NotRead refusal) (next x end)))
+      → IsFirst ((Bad x, mark refusal) ∷ row) (answer (pick t (notRead refusal) (next x end)))
   value-by x end row true d rest = inl (d .yes refl, refusals refusal)
   value-by x end row false d rest = inr (d .no refl, rest)
 
   value-first :
-      (number : Number) (x end : ℕ) (row : Row) → number ≡ numbers.Value x (record { at = end }) → IsFirst row (answer (next x end))
-      → IsFirst ((Bad x, mark (numberOf refusal)) ∷ row) (answer (checked number bad refusal next))
+      (number : Answer) (x end : ℕ) (row : Row) → number ≡ value x end → IsFirst row (answer (next x end))
+      → IsFirst ((Bad x, mark refusal) ∷ row) (answer (checked number bad refusal next))
   value-first number x end row e rest = rw e (value-by x end row (bad x) (decides x) rest)
 
   module _ (bytes : List ℕ) (at : ℕ) (row : Row) (rest : IsFirst row (answer (next (valueAt bytes at) (behind bytes at)))) where
     abbrev NumberFirst : Type 0
     NumberFirst =
-        IsFirst (numberRow mark bytes at ((Bad (valueAt bytes at), mark (numberOf refusal)) ∷ row))
+        IsFirst (numberRow mark bytes at ((Bad (valueAt bytes at), mark refusal) ∷ row))
         (answer (checked (readAt bytes at 2) bad refusal next))
 
     -- bytes end, in the first or the second
     first-ends : length bytes ≤ at → NumberFirst
-    first-ends short = inl (inl short, refused-answer (readAt bytes at 2) BytesEnd (read-ends bytes at short))
+    first-ends short = inl (inl short, refused-answer (readAt bytes at 2) 10 (read-ends bytes at short))
 
     module _ (here : at < length bytes) where
       first-last : byteAt bytes at < 128 → NumberFirst
@@ -134,7 +131,7 @@ module _
 
       module _ (more : 128 ≤ byteAt bytes at) where
         second-ends : length bytes ≤ at + 1 → NumberFirst
-        second-ends short = inl (inr (more, short), refused-answer (readAt bytes at 2) BytesEnd (read-ends-second bytes at here more short))
+        second-ends short = inl (inr (more, short), refused-answer (readAt bytes at 2) 10 (read-ends-second bytes at here more short))
 
         module _ (there : at + 1 < length bytes) where
           enough : (length bytes ≤ at) ⊎ ((128 ≤ byteAt bytes at) × (length bytes ≤ at + 1)) → ⊥
@@ -142,11 +139,11 @@ module _
 
           second-high : 128 ≤ byteAt bytes (at + 1) → NumberFirst
           second-high high =
-              inr (enough, inl ((more, inr high), refused-answer (readAt bytes at 2) NotShortest (read-third bytes at here more there high)))
+              inr (enough, inl ((more, inr high), refused-answer (readAt bytes at 2) 11 (read-third bytes at here more there high)))
 
           second-zero : byteAt bytes (at + 1) ≡ 0 → NumberFirst
           second-zero none =
-              inr (enough, inl ((more, inl none), refused-answer (readAt bytes at 2) NotShortest (read-zero bytes at here more there none)))
+              inr (enough, inl ((more, inl none), refused-answer (readAt bytes at 2) 11 (read-zero bytes at here more there none)))
 
           second-last : 0 < byteAt bytes (at + 1) → byteAt bytes (at + 1) < 128 → NumberFirst
           second-last some last =
@@ -178,32 +175,31 @@ module _
 -- conditions in front of a row, and their tests in front of a check
 abbrev conditionsThen : List Decided → Row → Row
 conditionsThen [] row = row
-conditionsThen (c ∷ cs) row = (c .condition, 256 * numberOf (c .refusal) + 0) ∷ conditionsThen cs row
+conditionsThen (c ∷ cs) row = (c .condition, 256 * c .number + 0) ∷ conditionsThen cs row
 
-abbrev testsThen : List Decided → Check → Check
+abbrev testsThen : List Decided → ℕ → ℕ
 testsThen [] next = next
-testsThen (c ∷ cs) next = pick (c .test) (Rejected (c .refusal) 0) (testsThen cs next)
+testsThen (c ∷ cs) next = pick (c .test) (256 * c .number + 0) (testsThen cs next)
 
 check-step :
-    (t : Bool) (P : Type 0) (r : Refusal) (row : Row) (next : Check) → Decides t P → IsFirst row (codeOf next)
-    → IsFirst ((P, 256 * numberOf r + 0) ∷ row) (codeOf (pick t (Rejected r 0) next))
-check-step true P r row next d rest = inl (d .yes refl, refl)
-check-step false P r row next d rest = inr (d .no refl, rest)
+    (t : Bool) (P : Type 0) (code : ℕ) (row : Row) (next : ℕ) → Decides t P → IsFirst row next
+    → IsFirst ((P, code) ∷ row) (pick t code next)
+check-step true P code row next d rest = inl (d .yes refl, refl)
+check-step false P code row next d rest = inr (d .no refl, rest)
 
-checks-first :
-    (cs : List Decided) (row : Row) (next : Check) → IsFirst row (codeOf next) → IsFirst (conditionsThen cs row) (codeOf (testsThen cs next))
+checks-first : (cs : List Decided) (row : Row) (next : ℕ) → IsFirst row next → IsFirst (conditionsThen cs row) (testsThen cs next)
 checks-first [] row next rest = rest
 checks-first (c ∷ cs) row next rest =
-    check-step (c .test) (c .condition) (c .refusal) (conditionsThen cs row) (testsThen cs next) (c .decides) (checks-first cs row next rest)
+    check-step (c .test) (c .condition) (256 * c .number + 0) (conditionsThen cs row) (testsThen cs next) (c .decides) (checks-first cs row next rest)
 
 opened-step :
-    (a b : Bool) (P Q : Type 0) (i : ℕ) (row : Row) (next : Check) → Decides a P → Decides b Q → IsFirst row (codeOf next)
-    → IsFirst ((P, 256 * 14 + i) ∷ (Q, 256 * 15 + i) ∷ row) (codeOf (opened (pick a (Refused LeafLabel) (pick b (Refused Root) Done)) i next))
+    (a b : Bool) (P Q : Type 0) (i : ℕ) (row : Row) (next : ℕ) → Decides a P → Decides b Q → IsFirst row next
+    → IsFirst ((P, 256 * 14 + i) ∷ (Q, 256 * 15 + i) ∷ row) (opened (pick a 14 (pick b 15 0)) i next)
 opened-step true b P Q i row next p q rest = inl (p .yes refl, refl)
 opened-step false true P Q i row next p q rest = inr (p .no refl, inl (q .yes refl, refl))
 opened-step false false P Q i row next p q rest = inr (p .no refl, inr (q .no refl, rest))
 
-openings-first : (bytes : List ℕ) (n at i left : ℕ) → IsFirst (fileOpenings bytes n at i left) (codeOf (openingsFrom bytes n at i left))
+openings-first : (bytes : List ℕ) (n at i left : ℕ) → IsFirst (fileOpenings bytes n at i left) (openingsFrom bytes n at i left)
 unfolding fileOpenings openingsFrom rightRow
 openings-first bytes n at i zero = refl
 openings-first bytes n at i (suc left) =
@@ -232,8 +228,8 @@ decides-wanted s n′ t′ statement n t =
 
 -- ---- the head's numbers, and what follows them, for any answer
 module _
-    (mark : ℕ → ℕ) (answer : HeadNumbers → ℕ) (refusals : (r : Refusal) → answer (NotRead r) ≡ mark (numberOf r)) (bytes : List ℕ)
-    (later : ℕ → ℕ → ℕ → Row) (rest : (n t at : ℕ) → IsFirst (later n t at) (answer (Numbers n t (record { at = at })))) where
+    (mark : ℕ → ℕ) (answer : HeadAnswer → ℕ) (refusals : (number : ℕ) → answer (notRead number) ≡ mark number) (bytes : List ℕ)
+    (later : ℕ → ℕ → ℕ → Row) (rest : (n t at : ℕ) → IsFirst (later n t at) (answer (numbers n t at))) where
   abbrev countRow : ℕ → ℕ → Row
   countRow n at =
       numberRow mark bytes at ((Outside 1 200 (valueAt bytes at), mark 8) ∷ later n (valueAt bytes at) (behind bytes at))
@@ -244,20 +240,20 @@ module _
   count-first : (n at : ℕ) → IsFirst (countRow n at) (answer (countFrom bytes n at))
   unfolding countFrom
   count-first n at =
-      number-first mark answer refusals (outside 1 200) (Outside 1 200) (decides-outside 1 200) Count (λ t at. Numbers n t (record { at = at }))
+      number-first mark answer refusals (outside 1 200) (Outside 1 200) (decides-outside 1 200) 8 (λ t at. numbers n t at)
       bytes at (later n (valueAt bytes at) (behind bytes at)) (rest n (valueAt bytes at) (behind bytes at))
 
   depth-first : (at : ℕ) → IsFirst (depthRow at) (answer (depthFrom bytes at))
   unfolding depthFrom
   depth-first at =
-      number-first mark answer refusals (outside 1 40) (Outside 1 40) (decides-outside 1 40) Depth (countFrom bytes) bytes at
+      number-first mark answer refusals (outside 1 40) (Outside 1 40) (decides-outside 1 40) 1 (countFrom bytes) bytes at
       (countRow (valueAt bytes at) (behind bytes at)) (count-first (valueAt bytes at) (behind bytes at))
 
   head-first :
       IsFirst (numberRow mark bytes 0 ((valueAt bytes 0 ≡ 1 → ⊥, mark 12) ∷ depthRow (behind bytes 0))) (answer (headOf bytes))
   unfolding headOf depthFrom countFrom
   head-first =
-      number-first mark answer refusals (λ e. not (eqb e 1)) (λ e. e ≡ 1 → ⊥) (λ e. decides-not (decides-eq e 1)) Edition
+      number-first mark answer refusals (λ e. not (eqb e 1)) (λ e. e ≡ 1 → ⊥) (λ e. decides-not (decides-eq e 1)) 12
       (λ e at. depthFrom bytes at) bytes 0 (depthRow (behind bytes 0)) (depth-first (behind bytes 0))
 
 pub a-head : (bytes : List ℕ) → AHead bytes
@@ -268,17 +264,17 @@ module _ (bytes statement : List ℕ) (n t : ℕ) where
   rest-first :
       (n′ t′ at : ℕ)
       → IsFirst (foundIn 0 (fileRest bytes statement n t n′ t′ at) ++ fileOpenings bytes n′ at 1 t′)
-      (codeOf (files.fileRest bytes statement n t (Numbers n′ t′ (record { at = at }))))
+      (files.fileRest bytes statement n t (numbers n′ t′ at))
   rest-first n′ t′ at =
       let size : ℕ = lengthFrom n′ t′ at in
       checks-first
-      (record { test = ltb (length bytes) size; condition = length bytes < size; decides = decides-lt (length bytes) size; refusal = BytesEnd }
-      ∷ record { test = ltb size (length bytes); condition = size < length bytes; decides = decides-lt size (length bytes); refusal = BytesLeft }
+      (record { test = ltb (length bytes) size; condition = length bytes < size; decides = decides-lt (length bytes) size; number = 10 }
+      ∷ record { test = ltb size (length bytes); condition = size < length bytes; decides = decides-lt size (length bytes); number = 13 }
       ∷ record {
         test = not (wanted (statementAt bytes at) n′ t′ statement n t);
         condition = AsWanted (statementAt bytes at) n′ t′ statement n t → ⊥;
         decides = decides-not (decides-wanted (statementAt bytes at) n′ t′ statement n t);
-        refusal = NotWanted;
+        number = 9;
       }
       ∷ []
       )
@@ -289,5 +285,5 @@ module _ (bytes statement : List ℕ) (n t : ℕ) where
   pub a-file : AFile bytes statement n t
   unfolding aFile fileCheck
   a-file =
-      head-first (λ k. 256 * k + 0) (λ h. codeOf (files.fileRest bytes statement n t h)) (λ r. refl) bytes
+      head-first (λ k. 256 * k + 0) (λ h. files.fileRest bytes statement n t h) (λ r. refl) bytes
       (λ n′ t′ at. foundIn 0 (fileRest bytes statement n t n′ t′ at) ++ fileOpenings bytes n′ at 1 t′) rest-first

@@ -13,7 +13,6 @@ use borrow.Author.Tests.{eqb-true}
 use Rattle.base.specs.Choice.{pick}
 use Rattle.base.specs.Bytes.{zeros, written}
 use Rattle.base.proofs.Copying.{length-written}
-use Rattle.refusal.specs.declared.Outcome.the-variants.{Done}
 use Rattle.tree.specs.Nodes.{Node, node, sameNode, InTree}
 use Rattle.tree.specs.Store.{slot, storeSize}
 use Rattle.tree.specs.Walk.{nodesIn}
@@ -141,7 +140,7 @@ module _
   steps-at (suc k) small =
       opening-more statement n m leaf (length out) store k (steps store k start) (omega (arith, bounds .memory)) fits small (steps-at k (omega arith))
 
-  goes-on : (k : ℕ) → k ≤ nodesAnew n m → reopenRow (steps store k start .opening) (length store) (length (steps store k start .out)) ≡ Done
+  goes-on : (k : ℕ) → k ≤ nodesAnew n m → reopenRow (steps store k start .opening) (length store) (length (steps store k start .out)) ≡ 0
   goes-on k small =
       let at : OpeningAt statement n m leaf (length out) k (steps store k start) = steps-at k small in
       rw (at .is, at .length)

@@ -1,21 +1,15 @@
 -- The planning program's input, and calls for which document 01 has no row.
 use mathlib.Core.Path.{_≡_, refl}
-use mathlib.Core.Logic.{_⊎_, inl, inr, ⊎-elim}
+use mathlib.Core.Logic.{inl, inr}
 use Prim.Native.Nat.{ℕ, _+_, _*_, _^_, _≤_, _<_}
 use native.Mathlib.Omega.{arith}
 use mathlib.Core.Bool.{Bool, true, false, not}
 use mathlib.Core.List.{List, [], _∷_}
-use lib.Dec.{ltb, leb}
+use lib.Dec.{ltb}
 use lib.ListN.{length, getD, drop}
-use borrow.Author.Tests.{le-leb, lt-leb}
-use Rattle.refusal.specs.declared.Refusal.{Refusal}
-use Rattle.refusal.specs.declared.Refusal.the-variants.{BytesEnd, BytesLeft}
-use Rattle.refusal.specs.declared.Outcome.{Outcome}
-use Rattle.refusal.specs.declared.Outcome.the-variants.{Done, Refused}
-use Rattle.refusal.specs.Number.{outcomeNumber}
+use Rattle.refusal.proofs.RowLaws.{some-refused}
 use Rattle.groups.specs.Groups.{groupsOf}
-use Rattle.groups.proofs.Steps.{lt-or-le}
-use Rattle.groups.specs.Writing.{fits, putAt, outputAfter}
+use Rattle.groups.specs.Writing.{putRow, putCount, outputAfter}
 use Rattle.opening.specs.Rows.{openingSize}
 use Rattle.chain.specs.PlanRow.{planRow}
 use Rattle.planning.specs.Input as input
@@ -24,7 +18,7 @@ use Rattle.planning.specs.Output.{places, answerText, planText, refusedText, pr
 use Rattle.compare.specs.Comparison.{compareRow, compared}
 use Rattle.demands.specs.Rows.{OtherByte, Unreadable}
 use Rattle.demands.specs.Demand1.{PlanningProgram, Comparing, WritingNumber}
-use Rattle.demands.proofs.Decisions.{Decides, decides-lt, decides-eq, decides-between, decides-not, decides-under, decides-either, decides-some, is-first, number-positive}
+use Rattle.demands.proofs.Decisions.{Decides, decides-lt, decides-eq, decides-between, decides-not, decides-under, decides-either, decides-some, is-first}
 use Rattle.demands.proofs.Checks.{depth, count, someLeaf, planning-row}
 
 -- ---- comparing
@@ -42,35 +36,37 @@ comparing-openings statement n leaves openings =
             test = ltb (length openings) size;
             condition = length openings < size;
             decides = decides-lt (length openings) size;
-            refusal = BytesEnd;
+            number = 10;
           }
           ∷ record {
             test = ltb size (length openings);
             condition = size < length openings;
             decides = decides-lt size (length openings);
-            refusal = BytesLeft;
+            number = 13;
           }
           ∷ []
           );
-      refused = λ r e. rw e;
+      refused = λ some. rw (some-refused _ some);
     }
 
 -- ---- a number written
 pub writing-number : (out : List ℕ) (at x : ℕ) → WritingNumber out at x
-unfolding putAt outputAfter fits
+unfolding putRow putCount outputAfter
 writing-number out at x =
     let need : ℕ = at + length (groupsOf x) in
-    ⊎-elim
-    (λ short.
-    let f : leb need (length out) ≡ false = lt-leb need (length out) short in
-    record { answer = rw f (inl (short, refl)); refused = λ r e. (rw f, rw f) })
-    (λ room.
-    let f : leb need (length out) ≡ true = le-leb need (length out) room in
-    record { answer = rw f (inr (λ short. omega arith, refl)); refused = λ r e. absurd (done-not-refused r (rw f at e)) })
-    (lt-or-le (length out) need)
-  where
-    done-not-refused : (r : Refusal) → Done ≡ Refused r → ⊥
-    done-not-refused r e = let no : _≡_ {A = ℕ} 0 1 = cc in omega arith
+    record {
+      answer =
+          is-first
+          (record {
+            test = ltb (length out) need;
+            condition = length out < need;
+            decides = decides-lt (length out) need;
+            number = 7;
+          }
+          ∷ []
+          );
+      refused = λ some. let no = some-refused _ some in (rw no, rw no);
+    }
 
 -- ---- the planning program
 decides-byte : (b : ℕ) → Decides (not (readable b)) (OtherByte b)
@@ -83,15 +79,6 @@ decides-unreadable bytes =
     (decides-either (decides-some readable OtherByte decides-byte bytes)
     (decides-either (decides-eq (length (numbers bytes)) 0)
     (decides-some input.fits (λ x. 2 ^ 64 ≤ x) (λ x. decides-under x (2 ^ 64)) (numbers bytes))))
-
-module _ (n : ℕ) (leaves : List ℕ) where
-  refused-text : (o : Outcome) → 1 ≤ outcomeNumber o → answerText n leaves o ≡ refusedText (outcomeNumber o)
-  refused-text Done some = absurd (omega arith)
-  refused-text (Refused r) some = refl
-
-  done-text : (o : Outcome) → outcomeNumber o ≡ 0 → answerText n leaves o ≡ answerText n leaves Done
-  done-text Done none = refl
-  done-text (Refused r) none = absurd (omega (arith, number-positive r))
 
 program-by : (bytes : List ℕ) (t : Bool) → unreadable bytes ≡ t → PlanningProgram bytes
 unfolding printed planText
@@ -106,10 +93,10 @@ program-by bytes false e =
     let n : ℕ = getD (numbers bytes) 0 0 in
     let leaves : List ℕ = drop 1 (numbers bytes) in
     record {
-      number = outcomeNumber (planRow n leaves places);
+      number = planRow n leaves places;
       answer = inr (decides-unreadable bytes .no e, planning-row n leaves places);
-      refused = λ some. rw e (refused-text n leaves (planRow n leaves places) some);
-      done = λ none. rw e (done-text n leaves (planRow n leaves places) none);
+      refused = λ some. rw (e, some-refused (planRow n leaves places) some);
+      done = λ none. rw (e, none);
     }
 
 pub planning-program : (input : List ℕ) → PlanningProgram input

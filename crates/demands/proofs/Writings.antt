@@ -12,7 +12,6 @@ use borrow.Author.Tests.{eq-eqb, ne-eqb, lt-ltb, le-ltb}
 use Rattle.base.specs.Bytes.{zeros, written}
 use Rattle.base.proofs.ChoiceLaws.{both-false}
 use Rattle.base.proofs.Copying.{length-written}
-use Rattle.refusal.specs.declared.Outcome.the-variants.{Done}
 use Rattle.groups.proofs.Steps.{lt-or-le}
 use Rattle.run.specs.Steps.{heldSize}
 use Rattle.opening.specs.declared.Opening.{Opening}
@@ -230,7 +229,7 @@ module _
       reached-more statement root n m t (length file) store bounds fits k (steps store k start) small (steps-reached k (omega arith))
 
   goes-on :
-      (k : ℕ) → k ≤ t * nodesAnew n m → rewriteRow (steps store k start .writing) (length store) (length (steps store k start .file)) ≡ Done
+      (k : ℕ) → k ≤ t * nodesAnew n m → rewriteRow (steps store k start .writing) (length store) (length (steps store k start .file)) ≡ 0
   goes-on k small =
       let r = steps-reached k small in
       rw (r .at .is, r .at .length)

@@ -4,14 +4,9 @@ use Prim.Native.Nat.{ℕ, _+_, _-_, _*_, _^_, _≤_, _<_, min}
 use mathlib.Core.List.{List, _++_}
 use lib.ListN.{length, getD, drop}
 use Rattle.base.specs.Bytes.{zeros}
-use Rattle.refusal.specs.declared.Refusal.{Refusal}
-use Rattle.refusal.specs.declared.Outcome.{Outcome}
-use Rattle.refusal.specs.declared.Outcome.the-variants.{Done, Refused}
-use Rattle.refusal.specs.declared.Check.the-variants.{Rejected}
-use Rattle.refusal.specs.Number.{numberOf, outcomeNumber, codeOf}
 use Rattle.sha256.specs.declared.Hash.{Hash}
-use Rattle.sha256.specs.Portions.{updateOutcome, updateState, finishOutcome, finishDigest, digestOutcome, digestAnswer}
-use Rattle.groups.specs.Writing.{putAt, outputAfter}
+use Rattle.sha256.specs.Portions.{updateRow, updateState, finishRow, finishDigest, digestRow, digestAnswer}
+use Rattle.groups.specs.Writing.{putRow, putCount, outputAfter}
 use Rattle.run.specs.declared.Run.{Run}
 use Rattle.run.specs.Rows.{startRow, continueRow}
 use Rattle.run.specs.Steps as runs
@@ -23,11 +18,10 @@ use Rattle.opening.specs.Steps.{Open, noOpening}
 use Rattle.opening.specs.Possible.{openOf}
 use Rattle.reached.specs.Calls.{total, afterCalls, labelsOver}
 use Rattle.verify.specs.OpeningCheck.{openingRow}
-use Rattle.proof.specs.declared.HeadNumbers.{HeadNumbers}
-use Rattle.proof.specs.declared.HeadNumbers.the-variants.{Numbers, NotRead}
 use Rattle.proof.specs.Challenge.{challengeRow, challenged}
 use Rattle.proof.specs.Layout.{fileSize, headRow, headWritten}
-use Rattle.proof.specs.Head.{headOf}
+use Rattle.proof.specs.Head as read
+use Rattle.proof.specs.Head.{HeadAnswer, notRead, headOf}
 use Rattle.proof.specs.FileCheck.{fileCheck}
 use Rattle.writing.specs.declared.Writing.{Writing}
 use Rattle.writing.specs.Rows.{writeRow, rewriteRow}
@@ -40,17 +34,15 @@ use Rattle.planning.specs.Input.{numbers}
 use Rattle.planning.specs.Output.{refusedText, headText, nodesText, printed}
 use Rattle.compare.specs.declared.Pair.the-variants.{Agree}
 use Rattle.compare.specs.Comparison.{compareRow, compared}
-use Rattle.draw.specs.declared.Drawing.{Drawing}
-use Rattle.draw.specs.declared.Drawing.the-variants.{NotDrawn, Chain, Clash}
-use Rattle.draw.specs.Drawing.{drawingOf, drawnList, firstDrawn, secondDrawn}
+use Rattle.draw.specs.Drawing.{DrawingAnswer, notDrawn, drawnChain, drawnClash, drawingOf, drawnList, firstDrawn, secondDrawn}
 use Rattle.demands.specs.Rows.{IsFirst, hashing, startingRun, continuingRun, startingOpening, continuingOpening, aChallenge, writingHead, oneOpening, aHead, aFile, planningChain, drawingChain, planningProgram, comparing, writingNumber, startingFile, continuingFile}
 
 -- ---- 'Labelling, opening and writing can be carried to their end for every depth 1..40, memory level 0..min(depth, 20) ..'
 
 -- Calls with any budgets, one after the other: none is refused, together they make the budgets' sum of labels, up to `all`, and the
 -- next makes the smaller of its budget and what remains.
-pub record CarriedOut {S : Type 0} (row : S → Outcome) (labels : S → ℕ → ℕ) (call : S → ℕ → S) (start : S) (all : ℕ) : Type 0 where
-  pub notRefused : (budgets : List ℕ) → row (afterCalls call start budgets) ≡ Done
+pub record CarriedOut {S : Type 0} (row : S → ℕ) (labels : S → ℕ → ℕ) (call : S → ℕ → S) (start : S) (all : ℕ) : Type 0 where
+  pub notRefused : (budgets : List ℕ) → row (afterCalls call start budgets) ≡ 0
   pub made : (budgets : List ℕ) → labelsOver call labels start budgets ≡ min (total budgets) all
   pub next : (budgets : List ℕ) (budget : ℕ) → labels (afterCalls call start budgets) budget ≡ min budget (all - min (total budgets) all)
 
@@ -73,13 +65,13 @@ pub record InBounds (n m store : ℕ) : Type 0 where
 
 -- the run labels all 2^(n+1) − 1 nodes
 pub record LabellingEnds (statement : List ℕ) (n m : ℕ) (store : List ℕ) : Type 0 where
-  pub starts : startRow n m (length store) ≡ Done
+  pub starts : startRow n m (length store) ≡ 0
   pub ends :
       CarriedOut (λ s. continueRow (s .run) (length (s .store))) runs.labelsIn runs.advanced (startedRun statement n m store) (2 ^ (n + 1) - 1)
 
 -- the opening labels the 2^(n−m+1) − 2 nodes strictly below the leaf's ancestor on level m, whatever the store holds
 pub record OpeningEnds (statement : List ℕ) (n m leaf : ℕ) (store out : List ℕ) : Type 0 where
-  pub starts : openRow n m leaf (length store) (length out) ≡ Done
+  pub starts : openRow n m leaf (length store) (length out) ≡ 0
   pub ends :
       CarriedOut (λ s. reopenRow (s .opening) (length store) (length (s .out))) (openings.labelsIn store) (openings.advanced store)
       (startedOpening statement n m leaf store out)
@@ -87,7 +79,7 @@ pub record OpeningEnds (statement : List ℕ) (n m leaf : ℕ) (store out : List
 
 -- '.. 1..200 challenges': the file labels these of each of its t openings, whatever the store and the root are
 pub record WritingEnds (statement root : List ℕ) (n m t : ℕ) (store file : List ℕ) : Type 0 where
-  pub starts : writeRow n m t (length store) (length file) ≡ Done
+  pub starts : writeRow n m t (length store) (length file) ≡ 0
   pub ends :
       CarriedOut (λ s. rewriteRow (s .writing) (length store) (length (s .file))) (writings.labelsIn store) (writings.advanced store)
       (startedFile statement root n m t store file)
@@ -98,83 +90,83 @@ pub record WritingEnds (statement root : List ℕ) (n m t : ℕ) (store file : L
 
 -- 'A refused hash state is handed back unchanged.'
 pub record HashingPortion (s : Hash) (part : List ℕ) : Type 0 where
-  pub answer : IsFirst (hashing (s .taken) (length part)) (outcomeNumber (updateOutcome s part))
-  pub refused : (r : Refusal) → updateOutcome s part ≡ Refused r → updateState s part ≡ s
+  pub answer : IsFirst (hashing (s .taken) (length part)) (updateRow s part)
+  pub refused : 1 ≤ updateRow s part → updateState s part ≡ s
 
 pub record HashingEnd (s : Hash) : Type 0 where
-  pub answer : IsFirst (hashing (s .taken) 0) (outcomeNumber (finishOutcome s))
-  pub refused : (r : Refusal) → finishOutcome s ≡ Refused r → finishDigest s ≡ zeros 32
+  pub answer : IsFirst (hashing (s .taken) 0) (finishRow s)
+  pub refused : 1 ≤ finishRow s → finishDigest s ≡ zeros 32
 
 pub record HashingWhole (message : List ℕ) : Type 0 where
-  pub answer : IsFirst (hashing 0 (length message)) (outcomeNumber (digestOutcome message))
-  pub refused : (r : Refusal) → digestOutcome message ≡ Refused r → digestAnswer message ≡ zeros 32
+  pub answer : IsFirst (hashing 0 (length message)) (digestRow message)
+  pub refused : 1 ≤ digestRow message → digestAnswer message ≡ zeros 32
 
 -- 'a refused start gives the number alone'; starting a run lends nothing to write to
 pub record StartingRun (statement : List ℕ) (n m store : ℕ) : Type 0 where
-  pub answer : IsFirst (startingRun n m store) (outcomeNumber (startRow n m store))
-  pub refused : (r : Refusal) → startRow n m store ≡ Refused r → runs.started statement n m store ≡ noRun
+  pub answer : IsFirst (startingRun n m store) (startRow n m store)
+  pub refused : 1 ≤ startRow n m store → runs.started statement n m store ≡ noRun
 
 -- 'A refused run is handed back unchanged, with 0 labels'
 pub record ContinuingRun (run : Run) (store : List ℕ) (budget : ℕ) : Type 0 where
-  pub answer : IsFirst (continuingRun run (length store)) (outcomeNumber (continueRow run (length store)))
+  pub answer : IsFirst (continuingRun run (length store)) (continueRow run (length store))
   pub refused :
-      (r : Refusal) → continueRow run (length store) ≡ Refused r
+      1 ≤ continueRow run (length store)
       → (runs.labelsIn (stamped run store) budget ≡ 0) × (runs.advanced (stamped run store) budget ≡ stamped run store)
 
 pub record StartingOpening (statement : List ℕ) (n m leaf : ℕ) (store out : List ℕ) : Type 0 where
   pub answer :
-      IsFirst (startingOpening n m leaf (length store) (length out)) (outcomeNumber (openRow n m leaf (length store) (length out)))
+      IsFirst (startingOpening n m leaf (length store) (length out)) (openRow n m leaf (length store) (length out))
   pub refused :
-      (r : Refusal) → openRow n m leaf (length store) (length out) ≡ Refused r
+      1 ≤ openRow n m leaf (length store) (length out)
       → (openings.started statement n m leaf (length store) (length out) ≡ noOpening) × (openings.startedOut n m leaf store out ≡ out)
 
 pub record ContinuingOpening (o : Opening) (store out : List ℕ) (budget : ℕ) : Type 0 where
-  pub answer : IsFirst (continuingOpening o (length store) (length out)) (outcomeNumber (reopenRow o (length store) (length out)))
+  pub answer : IsFirst (continuingOpening o (length store) (length out)) (reopenRow o (length store) (length out))
   pub refused :
-      (r : Refusal) → reopenRow o (length store) (length out) ≡ Refused r
+      1 ≤ reopenRow o (length store) (length out)
       → (openings.labelsIn store (openOf o out) budget ≡ 0) × (openings.advanced store (openOf o out) budget ≡ openOf o out)
 
 pub record AChallenge (n : ℕ) (statement root : List ℕ) (i : ℕ) : Type 0 where
-  pub answer : IsFirst (aChallenge n i) (outcomeNumber (challengeRow n i))
-  pub refused : (r : Refusal) → challengeRow n i ≡ Refused r → challenged n statement root i ≡ 0
+  pub answer : IsFirst (aChallenge n i) (challengeRow n i)
+  pub refused : 1 ≤ challengeRow n i → challenged n statement root i ≡ 0
 
 pub record WritingHead (statement root : List ℕ) (n t : ℕ) (out : List ℕ) : Type 0 where
-  pub answer : IsFirst (writingHead n t (length out)) (outcomeNumber (headRow n t (length out)))
-  pub refused : (r : Refusal) → headRow n t (length out) ≡ Refused r → headWritten statement root n t out ≡ out
+  pub answer : IsFirst (writingHead n t (length out)) (headRow n t (length out))
+  pub refused : 1 ≤ headRow n t (length out) → headWritten statement root n t out ≡ out
 
 -- checking lends nothing to write to
 abbrev pub OneOpening : List ℕ → ℕ → ℕ → List ℕ → List ℕ → Type 0
 OneOpening statement n leaf root bytes =
-    IsFirst (oneOpening statement n leaf root bytes) (outcomeNumber (openingRow statement n leaf root bytes))
+    IsFirst (oneOpening statement n leaf root bytes) (openingRow statement n leaf root bytes)
 
 -- a head's refusal, 0 if its numbers are read
-abbrev pub headNumber : HeadNumbers → ℕ
-headNumber (NotRead r) = numberOf r
-headNumber (Numbers n t c) = 0
+abbrev pub headNumber : HeadAnswer → ℕ
+headNumber (notRead number) = number
+headNumber (read.numbers n t at) = 0
 
 abbrev pub AHead : List ℕ → Type 0
 AHead bytes = IsFirst (aHead bytes) (headNumber (headOf bytes))
 
 -- 'Where an answer must be one number it is 256 × refusal + opening, and 0 if accepted.'
 abbrev pub AFile : List ℕ → List ℕ → ℕ → ℕ → Type 0
-AFile bytes statement n t = IsFirst (aFile bytes statement n t) (codeOf (fileCheck bytes statement n t))
+AFile bytes statement n t = IsFirst (aFile bytes statement n t) (fileCheck bytes statement n t)
 
 pub record PlanningChain (n : ℕ) (leaves list : List ℕ) : Type 0 where
-  pub answer : IsFirst (planningChain n leaves (length list)) (outcomeNumber (planRow n leaves (length list)))
+  pub answer : IsFirst (planningChain n leaves (length list)) (planRow n leaves (length list))
   pub refused :
-      (r : Refusal) → planRow n leaves (length list) ≡ Refused r
+      1 ≤ planRow n leaves (length list)
       → (plannedCount n leaves (length list) ≡ 0) × (plannedList n leaves list ≡ list)
 
 -- a drawing's refusal as one number, 0 if it draws
-abbrev pub drawingNumber : Drawing → ℕ
-drawingNumber (NotDrawn r i) = codeOf (Rejected r i)
-drawingNumber (Chain count) = 0
-drawingNumber (Clash i j l) = 0
+abbrev pub drawingNumber : DrawingAnswer → ℕ
+drawingNumber (notDrawn code) = code
+drawingNumber (drawnChain count) = 0
+drawingNumber (drawnClash i j l) = 0
 
 pub record DrawingChain (bytes statement : List ℕ) (n t : ℕ) (list : List ℕ) : Type 0 where
   pub answer : IsFirst (drawingChain bytes statement n t (length list)) (drawingNumber (drawingOf bytes statement n t (length list)))
   pub refused :
-      (r : Refusal) (i : ℕ) → drawingOf bytes statement n t (length list) ≡ NotDrawn r i
+      (code : ℕ) → drawingOf bytes statement n t (length list) ≡ notDrawn code
       → (drawnList bytes statement n t list ≡ list)
       × ((firstDrawn bytes statement n t (length list) ≡ zeros 105) × (secondDrawn bytes statement n t (length list) ≡ zeros 105))
 
@@ -191,23 +183,23 @@ pub record PlanningProgram (input : List ℕ) : Type 0 where
 
 -- comparing lends nothing to write to
 pub record Comparing (statement : List ℕ) (n : ℕ) (leaves openings : List ℕ) : Type 0 where
-  pub answer : IsFirst (comparing n leaves (length openings)) (outcomeNumber (compareRow n leaves (length openings)))
-  pub refused : (r : Refusal) → compareRow n leaves (length openings) ≡ Refused r → compared statement n leaves openings ≡ Agree
+  pub answer : IsFirst (comparing n leaves (length openings)) (compareRow n leaves (length openings))
+  pub refused : 1 ≤ compareRow n leaves (length openings) → compared statement n leaves openings ≡ Agree
 
 pub record WritingNumber (out : List ℕ) (at x : ℕ) : Type 0 where
-  pub answer : IsFirst (writingNumber out at x) (outcomeNumber (putAt out at x .outcome))
-  pub refused : (r : Refusal) → putAt out at x .outcome ≡ Refused r → (putAt out at x .count ≡ 0) × (outputAfter out at x ≡ out)
+  pub answer : IsFirst (writingNumber out at x) (putRow out at x)
+  pub refused : 1 ≤ putRow out at x → (putCount out at x ≡ 0) × (outputAfter out at x ≡ out)
 
 pub record StartingFile (statement root : List ℕ) (n m t : ℕ) (store file : List ℕ) : Type 0 where
-  pub answer : IsFirst (startingFile n m t (length store) (length file)) (outcomeNumber (writeRow n m t (length store) (length file)))
+  pub answer : IsFirst (startingFile n m t (length store) (length file)) (writeRow n m t (length store) (length file))
   pub refused :
-      (r : Refusal) → writeRow n m t (length store) (length file) ≡ Refused r
+      1 ≤ writeRow n m t (length store) (length file)
       → startedFile statement root n m t store file ≡ record { writing = noWriting; file = file }
 
 pub record ContinuingFile (w : Writing) (store file : List ℕ) (budget : ℕ) : Type 0 where
-  pub answer : IsFirst (continuingFile w (length store) (length file)) (outcomeNumber (rewriteRow w (length store) (length file)))
+  pub answer : IsFirst (continuingFile w (length store) (length file)) (rewriteRow w (length store) (length file))
   pub refused :
-      (r : Refusal) → rewriteRow w (length store) (length file) ≡ Refused r
+      1 ≤ rewriteRow w (length store) (length file)
       → (writings.labelsIn store (record { writing = w; file = file }) budget ≡ 0)
       × (writings.advanced store (record { writing = w; file = file }) budget ≡ record { writing = w; file = file })
 

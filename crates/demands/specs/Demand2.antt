@@ -5,10 +5,8 @@ use Prim.Native.Nat.{ℕ, _+_, _-_, _*_, _/_, _^_, _≤_, _<_, min}
 use mathlib.Core.List.{List, _∷_, _++_, map, flatten}
 use lib.ListN.{length, take, drop, getD}
 use Rattle.base.specs.Bytes.{bigEndian, joined}
-use Rattle.refusal.specs.declared.Outcome.the-variants.{Done}
-use Rattle.refusal.specs.declared.Check.the-variants.{Accepted}
 use Rattle.sha256.specs.Digest.{digest}
-use Rattle.sha256.specs.Portions.{newHash, updatedAll, AllDone, finishOutcome, finishDigest, digestOutcome, digestAnswer}
+use Rattle.sha256.specs.Portions.{newHash, updatedAll, AllDone, finishRow, finishDigest, digestRow, digestAnswer}
 use Rattle.tree.specs.Nodes.{Node, root, InTree, parents}
 use Rattle.tree.specs.Labels.{Label, label}
 use Rattle.tree.specs.Store.{slot}
@@ -32,9 +30,9 @@ use Rattle.demands.specs.Demand1.{InBounds, startedRun, startedOpening}
 -- 'The statement is SHA-256 of the report, which may be empty': in any portions, and at once
 pub record StatementIs (report : List (List ℕ)) : Type 0 where
   pub portions : AllDone newHash report
-  pub ends : finishOutcome (updatedAll newHash report) ≡ Done
+  pub ends : finishRow (updatedAll newHash report) ≡ 0
   pub hash : finishDigest (updatedAll newHash report) ≡ digest (flatten report)
-  pub atOnce : (digestOutcome (flatten report) ≡ Done) × (digestAnswer (flatten report) ≡ digest (flatten report))
+  pub atOnce : (digestRow (flatten report) ≡ 0) × (digestAnswer (flatten report) ≡ digest (flatten report))
 
 -- 'A label is SHA-256 of: statement (32 bytes), level (1 byte), position (8 bytes, big-endian), then the parents' labels': what a
 -- labelling gives a node by that
@@ -89,7 +87,7 @@ filedFrom statement n m t store file labelling budgets = fileFrom (runFrom state
 pub record FileIs (statement : List ℕ) (n t : ℕ) (bytes after : List ℕ) : Type 0 where
   pub same : take (fileSize n t) after ≡ file statement (label (stampRule statement) n root) n t (treeOpenings statement n t)
   pub behind : drop (fileSize n t) after ≡ drop (fileSize n t) bytes
-  pub accepted : fileCheck (take (fileSize n t) after) statement n t ≡ Accepted
+  pub accepted : fileCheck (take (fileSize n t) after) statement n t ≡ 0
 
 -- ---- the demand
 pub record Demand2 : Type 0 where
@@ -102,7 +100,7 @@ pub record Demand2 : Type 0 where
       → InBounds n m (length store) → leaf < 2 ^ n → 32 * (n + 1) ≤ length out
       → 2 ^ (n + 1) - 1 ≤ total labelling → 2 ^ (n - m + 1) - 2 ≤ total budgets
       → OpeningIs statement n leaf out (openingFrom (runFrom statement n m store labelling) statement n m leaf out budgets)
-  pub verdict : (statement : List ℕ) (n leaf : ℕ) (root bytes : List ℕ) → openingRow statement n leaf root bytes ≡ Done ↔ RightAlone statement n leaf root bytes
+  pub verdict : (statement : List ℕ) (n leaf : ℕ) (root bytes : List ℕ) → openingRow statement n leaf root bytes ≡ 0 ↔ RightAlone statement n leaf root bytes
   pub file :
       (statement : List ℕ) (n m t : ℕ) (store file labelling budgets : List ℕ) → length statement ≡ 32
       → InBounds n m (length store) → IsCount t → fileSize n t ≤ length file
@@ -117,4 +115,4 @@ pub record Demand2 : Type 0 where
   -- 'a file is accepted only if all its openings obey the paper, and always if they do and the rest is as document 01 says'
   pub accepted :
       (bytes statement : List ℕ) (n t : ℕ) → ((j : ℕ) → getD bytes j 0 < 256)
-      → fileCheck bytes statement n t ≡ Accepted ↔ IsProof bytes statement n t
+      → fileCheck bytes statement n t ≡ 0 ↔ IsProof bytes statement n t

@@ -4,11 +4,8 @@ use mathlib.Core.Logic.{_⊎_, _↔_}
 use Prim.Native.Nat.{ℕ, _≤_, _<_}
 use mathlib.Core.List.{List}
 use lib.ListN.{length, getD}
-use Rattle.refusal.specs.declared.Refusal.{Refusal}
-use Rattle.refusal.specs.declared.Check.the-variants.{Rejected}
 use Rattle.proof.specs.FileCheck.{fileCheck}
-use Rattle.draw.specs.declared.Drawing.the-variants.{NotDrawn, Chain, Clash}
-use Rattle.draw.specs.Drawing.{drawingOf, drawnList, firstDrawn, secondDrawn}
+use Rattle.draw.specs.Drawing.{notDrawn, drawnChain, drawnClash, drawingOf, drawnList, firstDrawn, secondDrawn}
 use Rattle.drawn.specs.Demand3.{IsAccepted, NoneDisagree, SomeDisagree, chainLength, drawnNodes, Counted, HashChain, EndsAtRoot, OnTheWays, ListDrawn, IsClash, AsPlanned, ListShort, ListUntouched, NoInputs}
 
 -- 'a chain of hashes'
@@ -24,24 +21,24 @@ pub record ChainDrawn (bytes statement : List ℕ) (n t : ℕ) (list : List ℕ)
 pub record Drawn (bytes statement : List ℕ) (n t : ℕ) (list : List ℕ) : Type 0 where
   -- 'a chain of hashes is drawn exactly when it is accepted, no two openings disagree and the list has at least 2k − 1 + c places'
   pub chainExactly :
-      ((count : ℕ) × (drawingOf bytes statement n t (length list) ≡ Chain count)) ↔
+      ((count : ℕ) × (drawingOf bytes statement n t (length list) ≡ drawnChain count)) ↔
       (IsAccepted bytes statement n t × NoneDisagree bytes statement n t × (chainLength bytes statement n t ≤ length list))
-  pub chain : (count : ℕ) → drawingOf bytes statement n t (length list) ≡ Chain count → ChainDrawn bytes statement n t list count
+  pub chain : (count : ℕ) → drawingOf bytes statement n t (length list) ≡ drawnChain count → ChainDrawn bytes statement n t list count
   -- 'where two openings disagree, two different inputs with one SHA-256 result are handed out'
   pub clashExactly :
-      ((i : ℕ) × (j : ℕ) × (l : ℕ) × (drawingOf bytes statement n t (length list) ≡ Clash i j l)) ↔
+      ((i : ℕ) × (j : ℕ) × (l : ℕ) × (drawingOf bytes statement n t (length list) ≡ drawnClash i j l)) ↔
       (IsAccepted bytes statement n t × SomeDisagree bytes statement n t)
   pub clash :
-      (i j l : ℕ) → drawingOf bytes statement n t (length list) ≡ Clash i j l
+      (i j l : ℕ) → drawingOf bytes statement n t (length list) ≡ drawnClash i j l
       → IsClash bytes statement n t i j l (firstDrawn bytes statement n t (length list)) (secondDrawn bytes statement n t (length list))
       × ListUntouched bytes statement n t list
   -- else nothing is drawn
   pub refusedExactly :
-      (r : Refusal) (o : ℕ)
-      → drawingOf bytes statement n t (length list) ≡ NotDrawn r o ↔
-      ((fileCheck bytes statement n t ≡ Rejected r o) ⊎ ListShort bytes statement n t (length list) r o)
+      (code : ℕ)
+      → drawingOf bytes statement n t (length list) ≡ notDrawn code ↔
+      (((fileCheck bytes statement n t ≡ code) × (1 ≤ code)) ⊎ ListShort bytes statement n t (length list) code)
   pub refused :
-      (r : Refusal) (o : ℕ) → drawingOf bytes statement n t (length list) ≡ NotDrawn r o
+      (code : ℕ) → drawingOf bytes statement n t (length list) ≡ notDrawn code
       → ListUntouched bytes statement n t list × NoInputs bytes statement n t (length list)
   -- 'The same list can be planned from leaf positions alone.'
   pub planned : IsAccepted bytes statement n t → NoneDisagree bytes statement n t → AsPlanned bytes statement n t list

@@ -4,8 +4,7 @@ ghost use Prim.Native.Nat.{_≤_};
 ghost use lib.ListN.{length};
 ghost use Rattle.ways.specs.Ways.{chainCodes};
 ghost use Rattle.planning.specs.Output.{places};
-ghost use Rattle.draw.specs.declared.Drawing.the-variants.{Chain};
-ghost use Rattle.draw.specs.Drawing.{leavesOf, drawingOf};
+ghost use Rattle.draw.specs.Drawing.{drawnChain, leavesOf, drawingOf};
 use crate::verdicts::empty_list;
 use crate::verdicts::say_refused;
 use crate::verdicts::wanted_in;
@@ -32,7 +31,7 @@ fn emit(out: i32, text: &[u8], length: usize) {
 
 // The chain in the planning program's form.
 fn say_chain(file: &[u8], statement: [u8; 32], depth: u64, count: u64, codes: &[u64], out: i32)
-    requires { ⌜ (drawingOf (now file) statement depth count places ≡ Chain (length (now codes))) × (now codes ≡ chainCodes depth (leavesOf (now file) statement depth count)) ⌝ }
+    requires { ⌜ (drawingOf (now file) statement depth count places ≡ drawnChain (length (now codes))) × (now codes ≡ chainCodes depth (leavesOf (now file) statement depth count)) ⌝ }
 {
     let mut text = empty_text();
     let length = chain_lines::put_chain(file, statement, depth, count, codes, &mut text);

@@ -3,8 +3,7 @@ use Prim.Native.Nat.{ℕ}
 use mathlib.Core.Path.{_≡_, sym, ap, _∙_}
 use native.Mathlib.Omega.{arith}
 use lib.ListN.{length}
-use Rattle.draw.specs.declared.Drawing.the-variants.{Chain}
-use Rattle.draw.specs.Drawing.{drawingOf}
+use Rattle.draw.specs.Drawing.{drawnChain, drawingAnswer, drawingOf}
 use Rattle.chain_lines.proofs.ChainLaws.{codes-fit, codes-drawn}
 use lib.Seq.{length-take-le}
 use borrow.Author.Needs.{needs}
@@ -45,13 +44,13 @@ enum-known-drawing-3 : tie.Need-enum-known-drawing-3
 enum-known-drawing-3 c = search needs
 
 array-share-prefix-list : tie.Need-array-share-prefix-list
-array-share-prefix-list c = let s = c .before .before .before .before .before .before .before .before .before in let w = c .before .before .before .before .before .before .before .wanted-in .result in let e = c .before .before .before .before .before .before .empty-list .result in let d = c .before .before .before .before .draw in let l : length e ≡ 6855 = search needs in let is : drawingOf (s .args .file .now) (s .args .statement) (w .depth) (w .count) (length e) ≡ Chain _ = sym (d .ensures .0) ∙ c .before .drawing3 .given .1 in omega (arith, codes-fit (s .args .file .now) (s .args .statement) (w .depth) (w .count) e _ _ is (d .ensures .1 .0), d .kept)
+array-share-prefix-list c = let s = c .before .before .before .before .before .before .before .before .before in let w = c .before .before .before .before .before .before .before .wanted-in .result in let e = c .before .before .before .before .before .before .empty-list .result in let d = c .before .before .before .before .draw in let l : length e ≡ 6855 = search needs in let is : drawingOf (s .args .file .now) (s .args .statement) (w .depth) (w .count) (length e) ≡ drawnChain _ = sym (d .ensures .0) ∙ ap drawingAnswer (c .before .drawing3 .given .1) in omega (arith, codes-fit (s .args .file .now) (s .args .statement) (w .depth) (w .count) e _ _ is (d .ensures .1 .0), d .kept)
 
 slice-aggregate-say-chain : tie.Need-slice-aggregate-say-chain
-slice-aggregate-say-chain c = let s = c .before .before .before .before .before .before .before .before .before .before in let w = c .before .before .before .before .before .before .before .before .wanted-in .result in let e = c .before .before .before .before .before .before .before .empty-list .result in let d = c .before .before .before .before .before .draw in let l : length e ≡ 6855 = search needs in let is : drawingOf (s .args .file .now) (s .args .statement) (w .depth) (w .count) (length e) ≡ Chain _ = sym (d .ensures .0) ∙ c .before .before .drawing3 .given .1 in sym (length-take-le _ _ (omega (arith, codes-fit (s .args .file .now) (s .args .statement) (w .depth) (w .count) e _ _ is (d .ensures .1 .0), d .kept)))
+slice-aggregate-say-chain c = let s = c .before .before .before .before .before .before .before .before .before .before in let w = c .before .before .before .before .before .before .before .before .wanted-in .result in let e = c .before .before .before .before .before .before .before .empty-list .result in let d = c .before .before .before .before .before .draw in let l : length e ≡ 6855 = search needs in let is : drawingOf (s .args .file .now) (s .args .statement) (w .depth) (w .count) (length e) ≡ drawnChain _ = sym (d .ensures .0) ∙ ap drawingAnswer (c .before .before .drawing3 .given .1) in sym (length-take-le _ _ (omega (arith, codes-fit (s .args .file .now) (s .args .statement) (w .depth) (w .count) e _ _ is (d .ensures .1 .0), d .kept)))
 
 say-chain-requires : tie.Need-say-chain-requires
-say-chain-requires c κs = let s = c .before .before .before .before .before .before .before .before .before .before in let w = c .before .before .before .before .before .before .before .before .wanted-in .result in let e = c .before .before .before .before .before .before .before .empty-list .result in let d = c .before .before .before .before .before .draw in let l : length e ≡ 6855 = search needs in let is : drawingOf (s .args .file .now) (s .args .statement) (w .depth) (w .count) (length e) ≡ Chain _ = sym (d .ensures .0) ∙ c .before .before .drawing3 .given .1 in (ap (λ (k : ℕ). drawingOf (s .args .file .now) (s .args .statement) (w .depth) (w .count) k) (sym l) ∙ is ∙ ap Chain (sym (length-take-le _ _ (omega (arith, codes-fit (s .args .file .now) (s .args .statement) (w .depth) (w .count) e _ _ is (d .ensures .1 .0), d .kept)))), codes-drawn (s .args .file .now) (s .args .statement) (w .depth) (w .count) e _ _ is (d .ensures .1 .0))
+say-chain-requires c κs = let s = c .before .before .before .before .before .before .before .before .before .before in let w = c .before .before .before .before .before .before .before .before .wanted-in .result in let e = c .before .before .before .before .before .before .before .empty-list .result in let d = c .before .before .before .before .before .draw in let l : length e ≡ 6855 = search needs in let is : drawingOf (s .args .file .now) (s .args .statement) (w .depth) (w .count) (length e) ≡ drawnChain _ = sym (d .ensures .0) ∙ ap drawingAnswer (c .before .before .drawing3 .given .1) in (ap (λ (k : ℕ). drawingOf (s .args .file .now) (s .args .statement) (w .depth) (w .count) k) (sym l) ∙ is ∙ ap drawnChain (sym (length-take-le _ _ (omega (arith, codes-fit (s .args .file .now) (s .args .statement) (w .depth) (w .count) e _ _ is (d .ensures .1 .0), d .kept)))), codes-drawn (s .args .file .now) (s .args .statement) (w .depth) (w .count) e _ _ is (d .ensures .1 .0))
 
 returns : tie.Need-returns
 returns c = search needs
