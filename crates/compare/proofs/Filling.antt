@@ -9,7 +9,7 @@ use native.Mathlib.Numerals.{add-one}
 use native.Mathlib.Omega.{arith}
 use borrow.Author.Count.{below-more}
 use lib.ListN.{length, getD, take, drop, length-append}
-use lib.Seq.{drop-drop}
+use lib.Seq.{length-take-le, drop-append-add, drop-drop}
 use borrow.Rule.Slice.PartMut.{putMid}
 use Rattle.base.specs.Choice.{odd}
 use Rattle.base.specs.Bytes.{joined, written}
@@ -42,6 +42,33 @@ parts-more width P bytes part i fits size before here =
     below-more (λ (k : ℕ). P k (partOf width (written bytes (width * i) part) k)) i
     (λ k h. rw (written-apart bytes part (width * i) f (width * k) width (inl (below width k i h))) (before k h))
     (rw (written-here bytes part (width * i) f width size) here)
+
+-- what stands behind a part that is written
+drop-written : (bytes part : List ℕ) (at from : ℕ) → at + length part ≤ length bytes → at + length part ≤ from
+    → drop from (written bytes at part) ≡ drop from bytes
+unfolding written
+drop-written bytes part at from fits behind =
+    let n : length (take at bytes ++ part) ≡ at + length part =
+    length-append (take at bytes) part ∙ ap (λ (k : ℕ). k + length part) (length-take-le at bytes (omega arith)) in
+    let j : ℕ = from - (at + length part) in
+    let e : length (take at bytes ++ part) + j ≡ from = omega arith in
+    let f : at + length part + j ≡ from = omega arith in
+    ap (λ (k : ℕ). drop k (take at bytes ++ part ++ drop (at + length part) bytes)) (sym e)
+    ∙ drop-append-add (take at bytes ++ part) (drop (at + length part) bytes) j
+    ∙ drop-drop j (at + length part) bytes
+    ∙ ap (λ (k : ℕ). drop k bytes) f
+
+-- what is behind the parts stays when one more is written
+pub parts-kept :
+    (width : ℕ) (before bytes part : List ℕ) (i : ℕ) → width * i + width ≤ length bytes → length part ≡ width
+    → drop (width * i) bytes ≡ drop (width * i) before → drop (width * (i + 1)) (written bytes (width * i) part) ≡ drop (width * (i + 1)) before
+parts-kept width before bytes part i fits size kept =
+    let e : width * (i + 1) ≡ width * i + width = rw (add-one i) (mul-suc width i) in
+    rw e
+    (drop-written bytes part (width * i) (width * i + width) (rw size fits) (rw size (omega arith))
+    ∙ sym (drop-drop width (width * i) bytes)
+    ∙ ap (λ (l : List ℕ). drop width l) kept
+    ∙ drop-drop width (width * i) before)
 
 -- ---- both child labels of a node
 module _ (d : List ℕ) (at position : ℕ) (child beside : Label) (c : length child ≡ 32) (b : length beside ≡ 32) (fits : at + 64 ≤ length d) where
@@ -77,27 +104,28 @@ label-over statement row after v at b child beside c s fits e =
 
 -- ---- an opening's row
 pub row-more :
-    (statement bytes row after : List ℕ) (n leaf h : ℕ) (child : Label) → h < n → n ≤ maxDepth → length bytes ≡ openingSize n
+    (statement bytes first row after : List ℕ) (n leaf h : ℕ) (child : Label) → h < n → n ≤ maxDepth → length bytes ≡ openingSize n
     → length row ≡ 2560 → length child ≡ 32 → child ≡ computed (stampRule statement) n leaf (givenBy bytes) h
-    → RowOf (stampRule statement) n leaf (givenBy bytes) h row
+    → RowOf (stampRule statement) n leaf (givenBy bytes) h first row
     → after ≡ written row (64 * h) (joined (childLabels (odd (leaf / 2 ^ h)) child
     (take (32 * (h + 1) + 32 - 32 * (h + 1)) (drop (32 * (h + 1)) bytes))))
-    → RowOf (stampRule statement) n leaf (givenBy bytes) (h + 1) after
-row-more statement bytes row after n leaf h child small most size wide c known before e =
+    → RowOf (stampRule statement) n leaf (givenBy bytes) (h + 1) first after
+row-more statement bytes first row after n leaf h child small most size wide c known before e =
     let r : Rule = stampRule statement in
     let given : Given = givenBy bytes in
     let beside : List ℕ = take (32 * (h + 1) + 32 - 32 * (h + 1)) (drop (32 * (h + 1)) bytes) in
     let same : beside ≡ given (suc h) = part-size bytes (32 * (h + 1)) 32 ∙ rw (add-one h) in
     let here : joined (childLabels (odd (leaf / 2 ^ h)) child beside) ≡ joined (childrenKnown r n leaf given (n - suc h)) =
     rw (same, known, children-known r n leaf given h (n - suc h) (omega arith)) in
+    let two : length (joined (childLabels (odd (leaf / 2 ^ h)) child beside)) ≡ 64 =
+    children-length (odd (leaf / 2 ^ h)) child beside c
+    (ap length (part-size bytes (32 * (h + 1)) 32) ∙ part-length bytes (32 * (h + 1)) 32 (omega arith)) in
     record {
       filled =
           rw e
           (parts-more 64 (λ (k : ℕ) (part : List ℕ). part ≡ joined (childrenKnown r n leaf given (n - suc k)))
-          row (joined (childLabels (odd (leaf / 2 ^ h)) child beside)) h (omega arith)
-          (children-length (odd (leaf / 2 ^ h)) child beside c
-          (ap length (part-size bytes (32 * (h + 1)) 32) ∙ part-length bytes (32 * (h + 1)) 32 (omega arith)))
-          (before .filled) here);
+          row (joined (childLabels (odd (leaf / 2 ^ h)) child beside)) h (omega arith) two (before .filled) here);
+      kept = rw e (parts-kept 64 first row (joined (childLabels (odd (leaf / 2 ^ h)) child beside)) h (omega arith) two (before .kept));
     }
 
 -- ---- the rows
@@ -112,18 +140,22 @@ pub opening-fits : (n i t : ℕ) → i < t → i * openingSize n + openingSize n
 opening-fits n i t h = rw (← suc-mul i (openingSize n)) (mul-le-mul-right {m = suc i} {n = t} (openingSize n) h)
 
 pub table-more :
-    (statement : List ℕ) (n : ℕ) (leaves openings table row after : List ℕ) (i : ℕ) → i < 200 → length table ≡ 512000 → length row ≡ 2560
-    → TableOf statement n leaves openings i table
+    (statement : List ℕ) (n : ℕ) (leaves openings first table row after : List ℕ) (i : ℕ) → i < 200 → length table ≡ 512000 → length row ≡ 2560
+    → TableOf statement n leaves openings i first table
     → RowOf (stampRule statement) n (getD leaves i 0)
-    (givenBy (take (i * openingSize n + openingSize n - i * openingSize n) (drop (i * openingSize n) openings))) n row
+    (givenBy (take (i * openingSize n + openingSize n - i * openingSize n) (drop (i * openingSize n) openings))) n
+    (take (2560 * i + 2560 - 2560 * i) (drop (2560 * i) table)) row
     → after ≡ written table (2560 * i) row
-    → TableOf statement n leaves openings (i + 1) after
-table-more statement n leaves openings table row after i small wide long before here e =
+    → TableOf statement n leaves openings (i + 1) first after
+table-more statement n leaves openings first table row after i small wide long before here e =
     record {
       rows =
           rw e
           (parts-more 2560
           (λ (k : ℕ) (part : List ℕ).
-          RowOf (stampRule statement) n (getD leaves k 0) (givenBy (take (openingSize n) (drop (k * openingSize n) openings))) n part)
-          table row i (omega arith) long (before .rows) (rw part-size at here));
+          RowOf (stampRule statement) n (getD leaves k 0) (givenBy (take (openingSize n) (drop (k * openingSize n) openings))) n
+          (partOf 2560 first k) part)
+          table row i (omega arith) long (before .rows)
+          (rw (part-size openings (i * openingSize n) (openingSize n), part-size table (2560 * i) 2560, before .kept) at here));
+      kept = rw e (parts-kept 2560 first table row i (omega arith) long (before .kept));
     }

@@ -14,7 +14,7 @@ use Rattle.proof.specs.declared.HeadNumbers.{HeadNumbers}
 use Rattle.proof.specs.Challenge.{challengeLeaf, challenged}
 use Rattle.accepted.specs.IsProof.{IsDepth}
 use Rattle.accepted.proofs.RowLaws.{challenge-done}
-use Rattle.accepted.proofs.Leaves.{challengeLeaf-small}
+use Rattle.proof.proofs.Leaves.{challengeLeaf-small}
 use Rattle.draw.specs.Drawing.{leavesFrom, numbersEnd}
 
 pub end-known : (head read : HeadNumbers) (at : ℕ) → head ≡ read → numbersEnd head ≡ at → at ≡ numbersEnd read
