@@ -9,13 +9,13 @@ use native.Mathlib.Numerals.{add-one}
 use native.Mathlib.Omega.{arith}
 use borrow.Author.Count.{below-more}
 use lib.ListN.{length, getD, take, drop, length-append}
-use lib.Seq.{length-take-le, drop-append-add, drop-drop}
+use lib.Seq.{drop-drop}
 use borrow.Rule.Slice.PartMut.{putMid}
 use Rattle.base.specs.Choice.{odd}
 use Rattle.base.specs.Bytes.{joined, written}
 use Rattle.base.specs.Limits.{maxDepth}
 use Rattle.base.proofs.ChoiceLaws.{is-odd, is-even}
-use Rattle.base.proofs.WrittenLaws.{written-here, written-apart}
+use Rattle.base.proofs.WrittenLaws.{drop-written, written-here, written-apart}
 use Rattle.chain.proofs.Writing.{written-append}
 use Rattle.sha256.specs.Digest.{digest}
 use Rattle.tree.specs.Nodes.{Node}
@@ -42,21 +42,6 @@ parts-more width P bytes part i fits size before here =
     below-more (λ (k : ℕ). P k (partOf width (written bytes (width * i) part) k)) i
     (λ k h. rw (written-apart bytes part (width * i) f (width * k) width (inl (below width k i h))) (before k h))
     (rw (written-here bytes part (width * i) f width size) here)
-
--- what stands behind a part that is written
-drop-written : (bytes part : List ℕ) (at from : ℕ) → at + length part ≤ length bytes → at + length part ≤ from
-    → drop from (written bytes at part) ≡ drop from bytes
-unfolding written
-drop-written bytes part at from fits behind =
-    let n : length (take at bytes ++ part) ≡ at + length part =
-    length-append (take at bytes) part ∙ ap (λ (k : ℕ). k + length part) (length-take-le at bytes (omega arith)) in
-    let j : ℕ = from - (at + length part) in
-    let e : length (take at bytes ++ part) + j ≡ from = omega arith in
-    let f : at + length part + j ≡ from = omega arith in
-    ap (λ (k : ℕ). drop k (take at bytes ++ part ++ drop (at + length part) bytes)) (sym e)
-    ∙ drop-append-add (take at bytes ++ part) (drop (at + length part) bytes) j
-    ∙ drop-drop j (at + length part) bytes
-    ∙ ap (λ (k : ℕ). drop k bytes) f
 
 -- what is behind the parts stays when one more is written
 pub parts-kept :

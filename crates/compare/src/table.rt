@@ -3,7 +3,7 @@ ghost use mathlib.Core.Path.{_≡_};
 ghost use Prim.Native.Nat.{_+_, _-_, _*_, _/_, _^_, _<_, _≤_};
 ghost use lib.ListN.{length};
 ghost use Rattle.base.specs.Choice.{odd};
-ghost use Rattle.base.specs.Bytes.{joined, written};
+ghost use Rattle.base.specs.Bytes.{zeros, joined, written};
 ghost use Rattle.base.specs.Limits.{maxDepth};
 ghost use Rattle.tree.specs.Nodes.{node};
 ghost use Rattle.tree.specs.Labels.{labelBy};
@@ -18,7 +18,9 @@ use label::label;
 use verify::label_at;
 
 // Room for 200 openings of depth 40. Alone, since a proof over so long a literal is slow.
-pub fn empty_table() -> [u8; 512000] {
+pub fn empty_table() -> [u8; 512000]
+    ensures { λ r. ⌜ r ≡ zeros 512000 ⌝ }
+{
     [0u8; 512000]
 }
 

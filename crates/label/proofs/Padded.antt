@@ -4,29 +4,17 @@ use mathlib.Core.List.{List, [], _∷_, _++_}
 use Prim.Native.Nat.{ℕ, _+_, _-_, _*_, _≤_}
 use native.Mathlib.Omega.{arith}
 use lib.ListN.{length, take, drop, length-append, length-take, length-replicate, take-append-drop}
-use lib.Seq.{length-take-le, drop-append-add, drop-drop}
+use lib.Seq.{length-take-le, drop-append-add}
 use Rattle.base.specs.Bytes.{bigEndian, zeros, written}
 use Rattle.base.proofs.BytesLaws.{length-bigEndian}
 use Rattle.base.proofs.Copying.{length-written}
+use Rattle.base.proofs.WrittenLaws.{drop-written}
 use Rattle.base.proofs.Zeros.{drop-zeros}
 use Rattle.sha256.specs.Padding.{padding, padded, blocks}
 use Rattle.sha256.specs.Constants.{initial}
 use Rattle.sha256.specs.Digest.{hashAfter, digestOf, digest}
 use Rattle.sha256.proofs.Padded.{paddedSize, padded-front}
 use Rattle.label.specs.Buffer.{paddedIn}
-
--- what stands behind a part that is written
-drop-written : (b part : List ℕ) (at from : ℕ) → at + length part ≤ length b → at + length part ≤ from → drop from (written b at part) ≡ drop from b
-unfolding written
-drop-written b part at from fits behind =
-    let n : length (take at b ++ part) ≡ at + length part = length-append (take at b) part ∙ ap (λ (k : ℕ). k + length part) (length-take-le at b (omega arith)) in
-    let j : ℕ = from - (at + length part) in
-    let e : length (take at b ++ part) + j ≡ from = omega arith in
-    let f : at + length part + j ≡ from = omega arith in
-    ap (λ (k : ℕ). drop k (take at b ++ part ++ drop (at + length part) b)) (sym e)
-    ∙ drop-append-add (take at b ++ part) (drop (at + length part) b) j
-    ∙ drop-drop j (at + length part) b
-    ∙ ap (λ (k : ℕ). drop k b) f
 
 -- the buffer of a label: at most 1,321 bytes in front of zeros
 module _ (input : List ℕ) (len : ℕ) (small : len ≤ 1321) (front : input ≡ take len input ++ zeros (1344 - len)) where
