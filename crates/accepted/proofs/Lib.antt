@@ -6,5 +6,4 @@ pub mod Soundness
 pub mod GivenLaws
 pub mod Completeness
 pub mod Accepted
-pub mod Leaves
 pub mod TreeFile

@@ -29,7 +29,7 @@ use Rattle.accepted.specs.TreeFile.{rootOf, openingOf, challengedOpening
 use Rattle.accepted.proofs.Parts.{each-by}
 use Rattle.accepted.proofs.Reading.{length-file}
 use Rattle.label.proofs.RuleLaws.{stamp-hash}
-use Rattle.accepted.proofs.Leaves.{challengeLeaf-small}
+use Rattle.proof.proofs.Leaves.{challengeLeaf-small}
 use Rattle.accepted.proofs.GivenLaws.{right-same}
 use Rattle.accepted.proofs.Completeness.{proof-accepted}
 

@@ -5,7 +5,7 @@ use mathlib.Core.List.{List, _++_, append-assoc}
 use Prim.Native.Nat.{ℕ, _+_, _-_, _≤_, _<_}
 use native.Mathlib.Omega.{arith}
 use lib.ListN.{length, getD, take, drop, length-append, length-take, length-drop, List·getD-append}
-use lib.Seq.{take-at, drop-at, drop-append-add, length-take-le, getD-append-add, getD-take, getD-drop, ext-getD}
+use lib.Seq.{take-at, drop-at, drop-append-add, drop-drop, length-take-le, getD-append-add, getD-take, getD-drop, ext-getD}
 use Rattle.base.proofs.Copying.{length-written}
 use Rattle.base.specs.Bytes.{written}
 
@@ -25,6 +25,22 @@ pub written-two :
 written-two a b c d first second at size e f g h =
     rw (written-over a b (c ++ d) first at e (g ∙ sym f), ← append-assoc a first (c ++ d))
     (written-over (a ++ first) c d second (at + size) (rw (length-append, e, f)) h ∙ append-assoc a first (second ++ d))
+
+-- what stands behind the part
+pub drop-written :
+    (bytes part : List ℕ) (at from : ℕ) → at + length part ≤ length bytes → at + length part ≤ from
+    → drop from (written bytes at part) ≡ drop from bytes
+unfolding written
+drop-written bytes part at from fits behind =
+    let n : length (take at bytes ++ part) ≡ at + length part =
+    length-append (take at bytes) part ∙ ap (λ (k : ℕ). k + length part) (length-take-le at bytes (omega arith)) in
+    let j : ℕ = from - (at + length part) in
+    let e : length (take at bytes ++ part) + j ≡ from = omega arith in
+    let f : at + length part + j ≡ from = omega arith in
+    ap (λ (k : ℕ). drop k (take at bytes ++ part ++ drop (at + length part) bytes)) (sym e)
+    ∙ drop-append-add (take at bytes ++ part) (drop (at + length part) bytes) j
+    ∙ drop-drop j (at + length part) bytes
+    ∙ ap (λ (k : ℕ). drop k bytes) f
 
 -- what was written stands there, and all else as before
 module _ (bytes part : List ℕ) (at : ℕ) (fits : at + length part ≤ length bytes) where

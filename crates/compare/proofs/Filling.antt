@@ -15,7 +15,7 @@ use Rattle.base.specs.Choice.{odd}
 use Rattle.base.specs.Bytes.{joined, written}
 use Rattle.base.specs.Limits.{maxDepth}
 use Rattle.base.proofs.ChoiceLaws.{is-odd, is-even}
-use Rattle.base.proofs.WrittenLaws.{written-here, written-apart}
+use Rattle.base.proofs.WrittenLaws.{drop-written, written-here, written-apart}
 use Rattle.chain.proofs.Writing.{written-append}
 use Rattle.sha256.specs.Digest.{digest}
 use Rattle.tree.specs.Nodes.{Node}
@@ -42,6 +42,18 @@ parts-more width P bytes part i fits size before here =
     below-more (λ (k : ℕ). P k (partOf width (written bytes (width * i) part) k)) i
     (λ k h. rw (written-apart bytes part (width * i) f (width * k) width (inl (below width k i h))) (before k h))
     (rw (written-here bytes part (width * i) f width size) here)
+
+-- what is behind the parts stays when one more is written
+pub parts-kept :
+    (width : ℕ) (before bytes part : List ℕ) (i : ℕ) → width * i + width ≤ length bytes → length part ≡ width
+    → drop (width * i) bytes ≡ drop (width * i) before → drop (width * (i + 1)) (written bytes (width * i) part) ≡ drop (width * (i + 1)) before
+parts-kept width before bytes part i fits size kept =
+    let e : width * (i + 1) ≡ width * i + width = rw (add-one i) (mul-suc width i) in
+    rw e
+    (drop-written bytes part (width * i) (width * i + width) (rw size fits) (rw size (omega arith))
+    ∙ sym (drop-drop width (width * i) bytes)
+    ∙ ap (λ (l : List ℕ). drop width l) kept
+    ∙ drop-drop width (width * i) before)
 
 -- ---- both child labels of a node
 module _ (d : List ℕ) (at position : ℕ) (child beside : Label) (c : length child ≡ 32) (b : length beside ≡ 32) (fits : at + 64 ≤ length d) where
@@ -77,27 +89,28 @@ label-over statement row after v at b child beside c s fits e =
 
 -- ---- an opening's row
 pub row-more :
-    (statement bytes row after : List ℕ) (n leaf h : ℕ) (child : Label) → h < n → n ≤ maxDepth → length bytes ≡ openingSize n
+    (statement bytes first row after : List ℕ) (n leaf h : ℕ) (child : Label) → h < n → n ≤ maxDepth → length bytes ≡ openingSize n
     → length row ≡ 2560 → length child ≡ 32 → child ≡ computed (stampRule statement) n leaf (givenBy bytes) h
-    → RowOf (stampRule statement) n leaf (givenBy bytes) h row
+    → RowOf (stampRule statement) n leaf (givenBy bytes) h first row
     → after ≡ written row (64 * h) (joined (childLabels (odd (leaf / 2 ^ h)) child
     (take (32 * (h + 1) + 32 - 32 * (h + 1)) (drop (32 * (h + 1)) bytes))))
-    → RowOf (stampRule statement) n leaf (givenBy bytes) (h + 1) after
-row-more statement bytes row after n leaf h child small most size wide c known before e =
+    → RowOf (stampRule statement) n leaf (givenBy bytes) (h + 1) first after
+row-more statement bytes first row after n leaf h child small most size wide c known before e =
     let r : Rule = stampRule statement in
     let given : Given = givenBy bytes in
     let beside : List ℕ = take (32 * (h + 1) + 32 - 32 * (h + 1)) (drop (32 * (h + 1)) bytes) in
     let same : beside ≡ given (suc h) = part-size bytes (32 * (h + 1)) 32 ∙ rw (add-one h) in
     let here : joined (childLabels (odd (leaf / 2 ^ h)) child beside) ≡ joined (childrenKnown r n leaf given (n - suc h)) =
     rw (same, known, children-known r n leaf given h (n - suc h) (omega arith)) in
+    let two : length (joined (childLabels (odd (leaf / 2 ^ h)) child beside)) ≡ 64 =
+    children-length (odd (leaf / 2 ^ h)) child beside c
+    (ap length (part-size bytes (32 * (h + 1)) 32) ∙ part-length bytes (32 * (h + 1)) 32 (omega arith)) in
     record {
       filled =
           rw e
           (parts-more 64 (λ (k : ℕ) (part : List ℕ). part ≡ joined (childrenKnown r n leaf given (n - suc k)))
-          row (joined (childLabels (odd (leaf / 2 ^ h)) child beside)) h (omega arith)
-          (children-length (odd (leaf / 2 ^ h)) child beside c
-          (ap length (part-size bytes (32 * (h + 1)) 32) ∙ part-length bytes (32 * (h + 1)) 32 (omega arith)))
-          (before .filled) here);
+          row (joined (childLabels (odd (leaf / 2 ^ h)) child beside)) h (omega arith) two (before .filled) here);
+      kept = rw e (parts-kept 64 first row (joined (childLabels (odd (leaf / 2 ^ h)) child beside)) h (omega arith) two (before .kept));
     }
 
 -- ---- the rows
@@ -112,18 +125,22 @@ pub opening-fits : (n i t : ℕ) → i < t → i * openingSize n + openingSize n
 opening-fits n i t h = rw (← suc-mul i (openingSize n)) (mul-le-mul-right {m = suc i} {n = t} (openingSize n) h)
 
 pub table-more :
-    (statement : List ℕ) (n : ℕ) (leaves openings table row after : List ℕ) (i : ℕ) → i < 200 → length table ≡ 512000 → length row ≡ 2560
-    → TableOf statement n leaves openings i table
+    (statement : List ℕ) (n : ℕ) (leaves openings first table row after : List ℕ) (i : ℕ) → i < 200 → length table ≡ 512000 → length row ≡ 2560
+    → TableOf statement n leaves openings i first table
     → RowOf (stampRule statement) n (getD leaves i 0)
-    (givenBy (take (i * openingSize n + openingSize n - i * openingSize n) (drop (i * openingSize n) openings))) n row
+    (givenBy (take (i * openingSize n + openingSize n - i * openingSize n) (drop (i * openingSize n) openings))) n
+    (take (2560 * i + 2560 - 2560 * i) (drop (2560 * i) table)) row
     → after ≡ written table (2560 * i) row
-    → TableOf statement n leaves openings (i + 1) after
-table-more statement n leaves openings table row after i small wide long before here e =
+    → TableOf statement n leaves openings (i + 1) first after
+table-more statement n leaves openings first table row after i small wide long before here e =
     record {
       rows =
           rw e
           (parts-more 2560
           (λ (k : ℕ) (part : List ℕ).
-          RowOf (stampRule statement) n (getD leaves k 0) (givenBy (take (openingSize n) (drop (k * openingSize n) openings))) n part)
-          table row i (omega arith) long (before .rows) (rw part-size at here));
+          RowOf (stampRule statement) n (getD leaves k 0) (givenBy (take (openingSize n) (drop (k * openingSize n) openings))) n
+          (partOf 2560 first k) part)
+          table row i (omega arith) long (before .rows)
+          (rw (part-size openings (i * openingSize n) (openingSize n), part-size table (2560 * i) 2560, before .kept) at here));
+      kept = rw e (parts-kept 2560 first table row i (omega arith) long (before .kept));
     }

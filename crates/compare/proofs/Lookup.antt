@@ -36,8 +36,8 @@ part-inside size from most bytes h k =
     ∙ ap (take size) (sym (drop-append-le from (take most bytes) (drop most bytes) (omega arith)))
     ∙ ap (λ (l : List ℕ). take size (drop from l)) (take-append-drop most bytes)
 
-module _ (statement : List ℕ) (n : ℕ) (leaves openings table : List ℕ) (sized : Sized n leaves openings) (wide : length table ≡ 512000)
-    (full : TableOf statement n leaves openings (length leaves) table) where
+module _ (statement : List ℕ) (n : ℕ) (leaves openings first table : List ℕ) (sized : Sized n leaves openings) (wide : length table ≡ 512000)
+    (full : TableOf statement n leaves openings (length leaves) first table) where
   abbrev r : Rule
   r = stampRule statement
 

@@ -28,12 +28,13 @@ pub record Sized (n : ℕ) (leaves openings : List ℕ) : Type 0 where
 abbrev pub partOf : ℕ → List ℕ → ℕ → List ℕ
 partOf width bytes i = take width (drop (width * i) bytes)
 
--- a row: both child labels of each node on the way of one opening, of which k are filled
-pub record RowOf (r : Rule) (n leaf : ℕ) (given : Given) (k : ℕ) (row : List ℕ) : Type 0 where
+-- a row: both child labels of each node on the way of one opening, of which k are filled, and behind them what stood there before
+pub record RowOf (r : Rule) (n leaf : ℕ) (given : Given) (k : ℕ) (before row : List ℕ) : Type 0 where
   pub filled : (h : ℕ) → h < k → partOf 64 row h ≡ joined (childrenKnown r n leaf given (n - suc h))
+  pub kept : drop (64 * k) row ≡ drop (64 * k) before
 
--- the table, of which the rows of k openings are filled
-pub record TableOf (statement : List ℕ) (n : ℕ) (leaves openings : List ℕ) (k : ℕ) (table : List ℕ) : Type 0 where
+-- the table, of which the rows of k openings are filled, and behind them what stood there before
+pub record TableOf (statement : List ℕ) (n : ℕ) (leaves openings : List ℕ) (k : ℕ) (before table : List ℕ) : Type 0 where
   pub rows :
       (i : ℕ) → i < k →
       RowOf
@@ -42,7 +43,9 @@ pub record TableOf (statement : List ℕ) (n : ℕ) (leaves openings : List ℕ)
       (getD leaves i 0)
       (givenBy (take (openingSize n) (drop (i * openingSize n) openings)))
       n
+      (partOf 2560 before i)
       (partOf 2560 table i)
+  pub kept : drop (2560 * k) table ≡ drop (2560 * k) before
 
 -- the child labels of the node of level l on the way of opening i, from 1
 unfoldable pub cell : ℕ → List ℕ → ℕ → ℕ → List ℕ

@@ -3,7 +3,7 @@ ghost use mathlib.Core.Path.{_≡_};
 ghost use Prim.Native.Nat.{_+_, _-_, _*_, _/_, _^_, _<_, _≤_};
 ghost use lib.ListN.{length};
 ghost use Rattle.base.specs.Choice.{odd};
-ghost use Rattle.base.specs.Bytes.{joined, written};
+ghost use Rattle.base.specs.Bytes.{zeros, joined, written};
 ghost use Rattle.base.specs.Limits.{maxDepth};
 ghost use Rattle.tree.specs.Nodes.{node};
 ghost use Rattle.tree.specs.Labels.{labelBy};
@@ -18,7 +18,9 @@ use label::label;
 use verify::label_at;
 
 // Room for 200 openings of depth 40. Alone, since a proof over so long a literal is slow.
-pub fn empty_table() -> [u8; 512000] {
+pub fn empty_table() -> [u8; 512000]
+    ensures { λ r. ⌜ r ≡ zeros 512000 ⌝ }
+{
     [0u8; 512000]
 }
 
@@ -52,13 +54,13 @@ fn fill_node(
 {
     put_children(row, at, position, child, beside);
     let end = at + 64;
-    label(statement, level, position / 2, b"", &row[at..end])
+    label(statement, level, position / 2, 2, b"", &row[at..end])
 }
 
-// Fills an opening's row, walking its way upward once.
+// Fills an opening's row, walking its way upward once. What lies behind the way's nodes stays.
 fn fill_row(row: &mut [u8], statement: [u8; 32], n: u64, leaf: u64, bytes: &[u8])
     requires { ⌜ (n ≤ maxDepth) × (length (now bytes) ≡ openingSize n) × (length (now row) ≡ 2560) ⌝ }
-    ensures { λ _. ⌜ RowOf (stampRule statement) n leaf (givenBy (now (bytes .entry))) n (now (row .exit)) ⌝ }
+    ensures { λ _. ⌜ RowOf (stampRule statement) n leaf (givenBy (now (bytes .entry))) n (now (row .entry)) (now (row .exit)) ⌝ }
 {
     let mut child = label_at(bytes, 0);
     let mut height: u64 = 0;
@@ -79,10 +81,10 @@ fn fill_row(row: &mut [u8], statement: [u8; 32], n: u64, leaf: u64, bytes: &[u8]
     }
 }
 
-// Fills the rows of all openings.
+// Fills the rows of all openings. What lies behind them stays.
 pub fn fill_table(table: &mut [u8], statement: [u8; 32], n: u64, leaves: &[u64], openings: &[u8])
     requires { ⌜ Sized n (now leaves) (now openings) × (length (now table) ≡ 512000) ⌝ }
-    ensures { λ _. ⌜ TableOf statement n (now (leaves .entry)) (now (openings .entry)) (length (now (leaves .entry))) (now (table .exit)) ⌝ }
+    ensures { λ _. ⌜ TableOf statement n (now (leaves .entry)) (now (openings .entry)) (length (now (leaves .entry))) (now (table .entry)) (now (table .exit)) ⌝ }
 {
     let size = 32 * (n + 1) as usize;
     let mut i: usize = 0;

@@ -28,7 +28,7 @@ use Rattle.reached.proofs.OpeningCalls.{started-fits, startedOut-fits}
 use Rattle.reached.proofs.Finished.{finished-length, finished-opening}
 use Rattle.accepted.specs.IsProof.{IsDepth, IsCount}
 use Rattle.accepted.specs.TreeFile.{treeFile, openingOf}
-use Rattle.accepted.proofs.Leaves.{challengeLeaf-small}
+use Rattle.proof.proofs.Leaves.{challengeLeaf-small}
 use Rattle.accepted.proofs.RowLaws.{challenge-done, opening-done, done-opening}
 use Rattle.accepted.proofs.TreeFile.{opening-size, opening-right, length-treeFile}
 use Rattle.accepted.proofs.Accepted.{exactly-proofs}

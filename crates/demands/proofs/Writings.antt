@@ -20,7 +20,7 @@ use Rattle.opening.specs.Steps as openings
 use Rattle.opening.specs.Possible.{openingOf, openOf}
 use Rattle.proof.specs.Challenge.{challengeLeaf}
 use Rattle.proof.specs.Layout.{head, headSize, openingFrom, fileSize}
-use Rattle.accepted.proofs.Leaves.{challengeLeaf-small}
+use Rattle.proof.proofs.Leaves.{challengeLeaf-small}
 use Rattle.accepted.proofs.Reading.{length-head}
 use Rattle.writing.specs.Rows.{rewriteRow}
 use Rattle.writing.specs.Steps.{Written, partOf, begun, mayFollow, followed, newWriting, stepped, steps, remaining, labelsIn, advanced}

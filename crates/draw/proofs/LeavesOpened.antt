@@ -6,8 +6,10 @@ use native.Mathlib.Omega.{arith}
 use mathlib.Core.Bool.{true}
 use mathlib.Core.List.{List, [], _∷_, _++_, append-nil}
 use borrow.Author.Tests.{lt-ltb}
-use lib.ListN.{length, take, set}
-use lib.Seq.{take-suc-set, append-snoc}
+use lib.ListN.{length, take, drop, set}
+use lib.Seq.{take-suc-set, append-snoc, drop-set-lt, drop-drop}
+use Rattle.base.specs.Bytes.{zeros}
+use Rattle.base.proofs.Zeros.{drop-zeros}
 use Rattle.ways.specs.Planning.{every, isLeaf}
 use Rattle.ways.proofs.Lists.{every-both}
 use Rattle.proof.specs.declared.HeadNumbers.{HeadNumbers}
@@ -15,7 +17,7 @@ use Rattle.proof.specs.Challenge.{challengeLeaf, challenged}
 use Rattle.proof.specs.Head.{HeadAnswer, headAnswer}
 use Rattle.accepted.specs.IsProof.{IsDepth}
 use Rattle.accepted.proofs.RowLaws.{challenge-done}
-use Rattle.accepted.proofs.Leaves.{challengeLeaf-small}
+use Rattle.proof.proofs.Leaves.{challengeLeaf-small}
 use Rattle.draw.specs.Drawing.{leavesFrom, numbersEnd}
 
 pub end-known : (head told : HeadNumbers) (read : HeadAnswer) → headAnswer head ≡ read → head ≡ told → numbersEnd (headAnswer told) ≡ numbersEnd read
@@ -58,3 +60,13 @@ module _ (n : ℕ) (statement root : List ℕ) where
         let none : count - i ≡ 0 = omega arith in
         let all : i ≡ count = omega arith in
         sym (append-nil (take count leaves)) ∙ (rw (none, all) at e)
+
+-- the places behind them stay zero
+pub zeros-more : (leaves : List ℕ) (i leaf : ℕ) → i < 200 → drop i leaves ≡ zeros (200 - i) → drop (i + 1) (set leaves i leaf) ≡ zeros (200 - (i + 1))
+zeros-more leaves i leaf h before =
+    let e : 200 - i - 1 ≡ 200 - (i + 1) = omega arith in
+    drop-set-lt (i + 1) leaves i leaf (omega arith)
+    ∙ sym (drop-drop 1 i leaves)
+    ∙ ap (λ (l : List ℕ). drop 1 l) before
+    ∙ drop-zeros (200 - i) 1 (omega arith)
+    ∙ ap zeros e

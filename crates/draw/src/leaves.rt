@@ -1,7 +1,8 @@
 // Document 01, 'The leaves opened are those of its challenges 1 to t.'
 ghost use mathlib.Core.Path.{_≡_};
-ghost use Prim.Native.Nat.{_≤_};
-ghost use lib.ListN.{take};
+ghost use Prim.Native.Nat.{_-_, _≤_};
+ghost use lib.ListN.{take, drop};
+ghost use Rattle.base.specs.Bytes.{zeros};
 ghost use Rattle.proof.specs.Head.{headOf};
 ghost use Rattle.draw.specs.Drawing.{leavesFrom, numbersEnd};
 use proof::HeadNumbers;
@@ -19,10 +20,11 @@ pub fn numbers_end(file: &[u8]) -> usize
     }
 }
 
-// The leaves of challenges 1 to count, in the first of 200 places.
+// The leaves of challenges 1 to count, in the first of 200 places. The others are zero.
 pub fn challenge_leaves(depth: u64, statement: [u8; 32], root: [u8; 32], count: u64) -> [u64; 200]
     requires { ⌜ (1 ≤ depth) × (depth ≤ 40) × (count ≤ 200) ⌝ }
     ensures { λ r. ⌜ take count r ≡ leavesFrom depth statement root 1 count ⌝ }
+    ensures { λ r. ⌜ drop count r ≡ zeros (200 - count) ⌝ }
 {
     let mut leaves = [0u64; 200];
     let mut i: u64 = 0;

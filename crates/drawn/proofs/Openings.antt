@@ -25,7 +25,7 @@ use Rattle.proof.specs.Challenge.{challengeLeaf}
 use Rattle.proof.specs.Layout.{headNumbers}
 use Rattle.proof.specs.Head.{headOf}
 use Rattle.accepted.specs.IsProof.{IsProof}
-use Rattle.accepted.proofs.Leaves.{challengeLeaf-small}
+use Rattle.proof.proofs.Leaves.{challengeLeaf-small}
 use Rattle.accepted.proofs.Completeness.{file-head, file-root, file-sized, file-right}
 use Rattle.compare.specs.declared.Pair.the-variants.{Agree, Disagree}
 use Rattle.compare.specs.Comparison.{leafOf, givenOf, disagreement, firstDisagreement}

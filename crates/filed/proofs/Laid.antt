@@ -15,7 +15,7 @@ use Rattle.proof.specs.FileCheck.{fileCheck}
 use Rattle.reached.proofs.Step.{label-size}
 use Rattle.accepted.specs.IsProof.{IsDepth, IsCount}
 use Rattle.accepted.specs.TreeFile.{rootOf, challengedOpening, treeOpenings, treeFile}
-use Rattle.accepted.proofs.Leaves.{challengeLeaf-small}
+use Rattle.proof.proofs.Leaves.{challengeLeaf-small}
 use Rattle.accepted.proofs.Reading.{length-head}
 use Rattle.accepted.proofs.TreeFile.{openings-grow, openings-length, length-treeFile, tree-accepted}
 use Rattle.filed.specs.Filed.{laid, laidSize, leafAfter}

@@ -1,20 +1,21 @@
 -- The next node of a subtree: where it lies, and what one step gives, by its kind.
 use mathlib.Core.Path.{_≡_, refl}
 use mathlib.Core.List.{List, [], _++_, append-assoc, append-nil}
-use Prim.Native.Nat.{ℕ, _+_, _-_, _*_, _%_, _^_, _≤_, _<_}
+use Prim.Native.Nat.{ℕ, _+_, _-_, _*_, _/_, _%_, _^_, _≤_, _<_}
 use native.Mathlib.Nat.{mod-lt}
 use native.Mathlib.Omega.{arith}
 use borrow.Author.Tests.{eq-eqb, ne-eqb}
 use lib.Bits.{bitAnd, and-mask}
 use lib.Count.{ones, ones-le}
-use lib.ListN.{take, drop}
+use lib.ListN.{length, take, drop}
 use lib.Pow.{pow-pos}
 use Rattle.base.specs.Bytes.{zeros, written}
 use Rattle.sha256.specs.Digest.{digest}
 use Rattle.tree.specs.Nodes.{Node, node}
 use Rattle.tree.specs.Walk.{nodesIn}
 use Rattle.tree.specs.Labels.{inputHead}
-use Rattle.tree.proofs.Order.{Inside, order-at, inside-level}
+use Rattle.tree.proofs.Order.{Inside, order-at, inside-level, inside-way}
+use Rattle.tree.proofs.InputLengths.{ones-split}
 use Rattle.label.specs.Step.{nextNode, hashedLabels, nextLabel, heldWith}
 use Rattle.label.proofs.Walking.{full}
 
@@ -37,24 +38,43 @@ module _ (height level position made l p : ℕ) (few : made < nodesIn height) (i
   pub next-level : (level ≤ l) × (l ≤ level + height)
   next-level = let s : Inside height (node level position) (node l p) = next-inside in omega (arith, inside-level s)
 
-  -- the node's place is this one
-  module _ (place : ℕ) (placed : place ≡ ones (p % 2 ^ (l - level))) (statement front held : List ℕ) where
-    pub leaf-label : l ≡ level + height
-        → digest (inputHead statement (node l p) ++ front ++ take (32 * place) held) ≡ nextLabel statement height (node level position) front held made
-    unfolding nextLabel hashedLabels
-    leaf-label leaf = rw (placed, ← is, eq-eqb l (level + height) leaf, append-assoc)
+  -- Its position's one-bits are the subtree's and those of its place in the subtree.
+  pub next-ones : ones p ≡ ones position + ones (p % 2 ^ (l - level))
+  next-ones =
+      let s : Inside height (node level position) (node l p) = next-inside in
+      let e : s .depth ≡ l - level = omega (arith, inside-level s) in
+      let up : p / 2 ^ (l - level) ≡ position = rw e at (inside-way s) in
+      rw up at (ones-split p (l - level))
 
-    pub inner-label : (l ≡ level + height → ⊥)
-        → digest (inputHead statement (node l p) ++ take 64 (drop (32 * place) held)) ≡ nextLabel statement height (node level position) front held made
-    unfolding nextLabel hashedLabels
-    inner-label inner = rw (placed, ← is, ne-eqb l (level + height) inner)
+  pub next-few : position < 2 ^ level → ones p ≤ l
+  next-few inside = omega (arith, next-ones, next-level, ones-le level position inside, place-le (l - level) p)
 
-    pub leaf-held : (label : List ℕ) → l ≡ level + height
-        → written held (32 * place) label ≡ heldWith height (node level position) held (node l p) label
-    unfolding heldWith
-    leaf-held label leaf = rw (placed, eq-eqb l (level + height) leaf)
+  module _ (statement front held : List ℕ) where
+    -- a leaf, whose labels in front are the subtree's
+    module _ (leaf : l ≡ level + height) (size : length front ≡ 32 * ones position) where
+      behind-front : 32 * ones p - length front ≡ 32 * ones (p % 2 ^ (l - level))
+      behind-front = omega (arith, next-ones)
 
-    pub inner-held : (label : List ℕ) → (l ≡ level + height → ⊥)
-        → written (written held (32 * place) label) (32 * place + 32) (zeros 32) ≡ heldWith height (node level position) held (node l p) label
-    unfolding heldWith
-    inner-held label inner = rw (placed, ne-eqb l (level + height) inner)
+      pub leaf-label :
+          digest (inputHead statement (node l p) ++ front ++ take (32 * ones p - length front) held)
+          ≡ nextLabel statement height (node level position) front held made
+      unfolding nextLabel hashedLabels
+      leaf-label = rw (behind-front, ← is, eq-eqb l (level + height) leaf, append-assoc)
+
+      pub leaf-held : (label : List ℕ)
+          → written held (32 * ones p - length front) label ≡ heldWith height (node level position) held (node l p) label
+      unfolding heldWith
+      leaf-held label = rw (behind-front, eq-eqb l (level + height) leaf)
+
+    -- an inner node, whose place is this one
+    module _ (inner : l ≡ level + height → ⊥) (place : ℕ) (placed : place ≡ ones (p % 2 ^ (l - level))) where
+      pub inner-label :
+          digest (inputHead statement (node l p) ++ take 64 (drop (32 * place) held))
+          ≡ nextLabel statement height (node level position) front held made
+      unfolding nextLabel hashedLabels
+      inner-label = rw (placed, ← is, ne-eqb l (level + height) inner)
+
+      pub inner-held : (label : List ℕ)
+          → written (written held (32 * place) label) (32 * place + 32) (zeros 32) ≡ heldWith height (node level position) held (node l p) label
+      unfolding heldWith
+      inner-held label = rw (placed, ne-eqb l (level + height) inner)

@@ -1,22 +1,31 @@
 -- The buffer of a label, padded where its input lies (FIPS 180-4, 5.1.1).
 use mathlib.Core.Path.{_≡_, refl, sym, ap, _∙_}
 use mathlib.Core.List.{List, [], _∷_, _++_}
-use Prim.Native.Nat.{ℕ, _-_, _*_, _≤_}
+use Prim.Native.Nat.{ℕ, _+_, _-_, _*_, _≤_}
 use native.Mathlib.Omega.{arith}
-use lib.ListN.{length, take, length-append, length-take, length-replicate}
+use lib.ListN.{length, take, drop, length-append, length-take, length-replicate, take-append-drop}
+use lib.Seq.{length-take-le, drop-append-add}
 use Rattle.base.specs.Bytes.{bigEndian, zeros, written}
+use Rattle.base.proofs.BytesLaws.{length-bigEndian}
+use Rattle.base.proofs.Copying.{length-written}
+use Rattle.base.proofs.WrittenLaws.{drop-written}
+use Rattle.base.proofs.Zeros.{drop-zeros}
 use Rattle.sha256.specs.Padding.{padding, padded, blocks}
 use Rattle.sha256.specs.Constants.{initial}
 use Rattle.sha256.specs.Digest.{hashAfter, digestOf, digest}
 use Rattle.sha256.proofs.Padded.{paddedSize, padded-front}
+use Rattle.label.specs.Buffer.{paddedIn}
 
 -- the buffer of a label: at most 1,321 bytes in front of zeros
 module _ (input : List ℕ) (len : ℕ) (small : len ≤ 1321) (front : input ≡ take len input ++ zeros (1344 - len)) where
   pub length-front : length input ≡ 1344
   length-front = omega (arith, simp (length-append, length-take, length-replicate) at (ap length front))
 
+  abbrev laid : List ℕ
+  laid = written (written input len (128 ∷ [])) (paddedSize len - 8) (bigEndian 8 (8 * len))
+
   abbrev blocksOf : List ℕ
-  blocksOf = take (paddedSize len) (written (written input len (128 ∷ [])) (paddedSize len - 8) (bigEndian 8 (8 * len)))
+  blocksOf = take (paddedSize len) laid
 
   padded-buffer : blocksOf ≡ padded (take len input)
   unfolding padded
@@ -31,3 +40,27 @@ module _ (input : List ℕ) (len : ℕ) (small : len ≤ 1321) (front : input �
   pub hashed-front : digestOf (hashAfter initial blocksOf (blocks blocksOf)) ≡ digest (take len input)
   unfolding digest
   hashed-front = rw padded-buffer
+
+  -- the zeros behind the blocks are not touched
+  zeros-behind : drop (paddedSize len) laid ≡ zeros (1344 - paddedSize len)
+  zeros-behind =
+      let n : length (take len input) ≡ len = length-take len input ∙ omega (arith, length-front) in
+      let marked : length (written input len (128 ∷ [])) ≡ 1344 = length-written input len (128 ∷ []) (omega (arith, length-front)) ∙ length-front in
+      let bits : length (bigEndian 8 (8 * len)) ≡ 8 = length-bigEndian 8 (8 * len) in
+      let at : length (take len input) + (paddedSize len - len) ≡ paddedSize len = omega arith in
+      let rest : 1344 - len - (paddedSize len - len) ≡ 1344 - paddedSize len = omega arith in
+      drop-written (written input len (128 ∷ [])) (bigEndian 8 (8 * len)) (paddedSize len - 8) (paddedSize len) (omega arith) (omega arith)
+      ∙ drop-written input (128 ∷ []) len (paddedSize len) (omega (arith, length-front)) (omega arith)
+      ∙ ap (λ (l : List ℕ). drop (paddedSize len) l) front
+      ∙ ap (λ (k : ℕ). drop k (take len input ++ zeros (1344 - len))) (sym at)
+      ∙ drop-append-add (take len input) (zeros (1344 - len)) (paddedSize len - len)
+      ∙ drop-zeros (1344 - len) (paddedSize len - len) (omega arith)
+      ∙ ap zeros rest
+
+  pub laid-padded : laid ≡ paddedIn 1344 (take len input)
+  laid-padded =
+      let marked : length (written input len (128 ∷ [])) ≡ 1344 = length-written input len (128 ∷ []) (omega (arith, length-front)) ∙ length-front in
+      let bits : length (bigEndian 8 (8 * len)) ≡ 8 = length-bigEndian 8 (8 * len) in
+      let whole : length laid ≡ 1344 = length-written (written input len (128 ∷ [])) (paddedSize len - 8) (bigEndian 8 (8 * len)) (omega arith) ∙ marked in
+      let size : length (padded (take len input)) ≡ paddedSize len = ap length (sym padded-buffer) ∙ length-take-le (paddedSize len) laid (omega arith) in
+      sym (take-append-drop (paddedSize len) laid) ∙ rw (zeros-behind, padded-buffer, size)

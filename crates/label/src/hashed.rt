@@ -1,12 +1,13 @@
 // Document 01, 'The tree': a label is SHA-256 of the statement, the level, the position and the parents' labels.
 ghost use mathlib.Core.Path.{_≡_};
 ghost use mathlib.Core.List.{_++_};
-ghost use Prim.Native.Nat.{_+_, _-_, _<_, _≤_};
+ghost use Prim.Native.Nat.{_+_, _-_, _*_, _<_, _≤_};
 ghost use lib.ListN.{length, take};
 ghost use Rattle.sha256.specs.Digest.{digest};
 ghost use Rattle.tree.specs.Nodes.{node};
 ghost use Rattle.tree.specs.Labels.{inputHead};
 ghost use Rattle.base.specs.Bytes.{zeros};
+ghost use Rattle.label.specs.Buffer.{paddedIn};
 use base::big_endian;
 use base::put;
 use sha256::digest_padded;
@@ -16,6 +17,7 @@ fn hash_front(input: &mut [u8], len: usize) -> [u8; 32]
     requires { ⌜ len ≤ 1321 ⌝ }
     requires { ⌜ now input ≡ take len (now input) ++ zeros (1344 - len) ⌝ }
     ensures { λ r. ⌜ r ≡ digest (take len (now (input .entry))) ⌝ }
+    ensures { λ _. ⌜ now (input .exit) ≡ paddedIn 1344 (take len (now (input .entry))) ⌝ }
 {
     let end = 64 * ((len + 8) / 64 + 1);
     let count = big_endian(8 * len as u64);
@@ -24,11 +26,18 @@ fn hash_front(input: &mut [u8], len: usize) -> [u8; 32]
     digest_padded(&input[..end])
 }
 
-// The label of a node whose parents' labels are those of front, then those of rest. A zeroed local buffer takes the input,
-// and its blocks are hashed where they lie. Its callers know that it fits.
-pub fn label(statement: [u8; 32], level: u64, position: u64, front: &[u8], rest: &[u8]) -> [u8; 32]
-    requires { ⌜ level < 256 ⌝ }
-    requires { ⌜ length (now front) + length (now rest) ≤ 1280 ⌝ }
+// The label of a node with so many parents, whose labels are those of front and then those of rest. Their number gives the length
+// of the input: 41 + 32 × parents. A zeroed local buffer takes it, and its blocks are hashed where they lie.
+pub fn label(
+    statement: [u8; 32],
+    level: u64,
+    position: u64,
+    parents: usize,
+    front: &[u8],
+    rest: &[u8],
+) -> [u8; 32]
+    requires { ⌜ (level < 256) × (parents ≤ 40) ⌝ }
+    requires { ⌜ length (now front) + length (now rest) ≡ 32 * parents ⌝ }
     ensures { λ r. ⌜ r ≡ digest (inputHead statement (node level position) ++ now (front .entry) ++ now (rest .entry)) ⌝ }
 {
     let place = big_endian(position);
@@ -37,7 +46,6 @@ pub fn label(statement: [u8; 32], level: u64, position: u64, front: &[u8], rest:
     put(&mut input, 32, &[(level % 256) as u8]);
     put(&mut input, 33, &place);
     put(&mut input, 41, front);
-    let at = 41 + front.len();
-    put(&mut input, at, rest);
-    hash_front(&mut input, at + rest.len())
+    put(&mut input, 41 + front.len(), rest);
+    hash_front(&mut input, 41 + 32 * parents)
 }

@@ -1,7 +1,7 @@
 // One step of labelling a subtree in order, for runs and openings alike.
 ghost use mathlib.Core.Path.{_≡_};
 ghost use mathlib.Core.List.{_++_};
-ghost use Prim.Native.Nat.{_+_, _*_, _%_, _^_, _<_, _≤_};
+ghost use Prim.Native.Nat.{_+_, _-_, _*_, _%_, _^_, _<_, _≤_};
 ghost use lib.Count.{ones};
 ghost use lib.ListN.{length, take, drop};
 ghost use Rattle.base.specs.Bytes.{zeros, written};
@@ -31,13 +31,17 @@ fn place(below: u64, position: u64) -> usize
     u64::count_ones(position & mask) as usize
 }
 
-// A leaf hashes what is in front of the subtree and the held labels before its place, and takes that place.
-fn label_leaf(statement: [u8; 32], w: Place, front: &[u8], held: &mut [u8], at: usize) -> [u8; 32]
-    requires { ⌜ (w .level < 256) × (length (now front) + at ≤ 1280) × (length (now held) ≡ 1312) ⌝ }
-    ensures { λ r. ⌜ r ≡ digest (inputHead statement (node (w .level) (w .position)) ++ now (front .entry) ++ take at (now (held .entry))) ⌝ }
-    ensures { λ r. ⌜ now (held .exit) ≡ written (now (held .entry)) at r ⌝ }
+// A leaf has as many parents as its position has one-bits: those in front of the subtree, and then the held labels before its place,
+// which it takes.
+fn label_leaf(statement: [u8; 32], w: Place, front: &[u8], held: &mut [u8]) -> [u8; 32]
+    requires { ⌜ (w .level < 256) × (ones (w .position) ≤ 40) × (length (now held) ≡ 1312) ⌝ }
+    requires { ⌜ length (now front) ≤ 32 * ones (w .position) ⌝ }
+    ensures { λ r. ⌜ r ≡ digest (inputHead statement (node (w .level) (w .position)) ++ now (front .entry) ++ take (32 * ones (w .position) - length (now (front .entry))) (now (held .entry))) ⌝ }
+    ensures { λ r. ⌜ now (held .exit) ≡ written (now (held .entry)) (32 * ones (w .position) - length (now (front .entry))) r ⌝ }
 {
-    let label = label(statement, w.level, w.position, front, &held[..at]);
+    let parents = u64::count_ones(w.position) as usize;
+    let at = 32 * parents - front.len();
+    let label = label(statement, w.level, w.position, parents, front, &held[..at]);
     put(held, at, &label);
     label
 }
@@ -49,14 +53,14 @@ fn label_inner(statement: [u8; 32], w: Place, held: &mut [u8], at: usize) -> [u8
     ensures { λ r. ⌜ now (held .exit) ≡ written (written (now (held .entry)) at r) (at + 32) (zeros 32) ⌝ }
 {
     let end = at + 64;
-    let label = label(statement, w.level, w.position, b"", &held[at..end]);
+    let label = label(statement, w.level, w.position, 2, b"", &held[at..end]);
     put(held, at, &label);
     put(held, at + 32, &[0u8; 32]);
     label
 }
 
 // Labels the next node of the subtree of this height at (level, position), when `made` of its nodes are labelled. Its callers
-// know that one is left, and that front holds at most a label for each level above.
+// know that one is left, and that front holds a label for each one-bit of the subtree's position.
 pub fn label_next(
     statement: [u8; 32],
     height: u64,
@@ -67,21 +71,21 @@ pub fn label_next(
     made: u64,
 ) -> Labelled
     requires { ⌜ (level + height ≤ 40) × (position < 2 ^ level) × (made < nodesIn height) ⌝ }
-    requires { ⌜ (length (now front) ≤ 32 * level) × (length (now held) ≡ 1312) ⌝ }
+    requires { ⌜ (length (now front) ≡ 32 * ones position) × (length (now held) ≡ 1312) ⌝ }
     ensures { λ r. ⌜ node (r .level) (r .position) ≡ nextNode height (node level position) made ⌝ }
     ensures { λ r. ⌜ r .label ≡ nextLabel statement height (node level position) (now (front .entry)) (now (held .entry)) made ⌝ }
     ensures { λ r. ⌜ now (held .exit) ≡ heldWith height (node level position) (now (held .entry)) (node (r .level) (r .position)) (r .label) ⌝ }
 {
     let w = next_node(height, level, position, made);
-    let at = 32 * place(w.level - level, w.position);
     if w.level == level + height {
-        let label = label_leaf(statement, w, front, held, at);
+        let label = label_leaf(statement, w, front, held);
         Labelled {
             level: w.level,
             position: w.position,
             label,
         }
     } else {
+        let at = 32 * place(w.level - level, w.position);
         let label = label_inner(statement, w, held, at);
         Labelled {
             level: w.level,

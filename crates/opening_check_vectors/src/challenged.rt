@@ -31,7 +31,7 @@ fn one(
     let picked = challenge(depth, statement, root, i);
     let start = Opening::start(statement, depth, memory, picked.leaf, store, &mut out);
     let opening = start.opening;
-    open_to_end(opening, budget, store, &mut out);
+    open_to_end(opening, 1000, budget, store, &mut out);
     taken(state, &out, 32 * (depth % 41 + 1) as usize)
 }
 

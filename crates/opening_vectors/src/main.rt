@@ -21,7 +21,7 @@ fn one(
     let mut out = [90u8; 1313];
     let start = Opening::start(statement, depth, memory, leaf, store, &mut out);
     let opening = start.opening;
-    let labels = open_to_end(opening, budget, store, &mut out);
+    let labels = open_to_end(opening, 1000, budget, store, &mut out);
     let first = state.update(&out);
     let taken = first.hash;
     let count = base::big_endian(labels);

@@ -1,3 +1,4 @@
+pub mod Leaves
 pub mod ChallengeLaws
 pub mod HeadLaws
 pub mod FileLaws

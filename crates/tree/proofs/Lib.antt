@@ -5,5 +5,6 @@ pub mod HeldLaws
 pub mod Slots
 pub mod Labelling
 pub mod DocumentRule
+pub mod InputLengths
 pub mod OpeningLaws
 pub mod Clash

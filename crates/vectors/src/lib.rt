@@ -1,8 +1,9 @@
-// The shared vectors as text: lines of fields, which are parted by blanks, in hexadecimal or decimal. Only for the programs of
-// the gate, which compare what they print, so these promise no more than their callers need to be safe.
+// The shared vectors as text: lines of fields, which are parted by blanks, in hexadecimal or decimal. For the programs of the gate.
 ghost use mathlib.Core.Path.{_≡_};
-ghost use Prim.Native.Nat.{_<_, _≤_};
+ghost use Prim.Native.Nat.{_/_, _<_, _≤_, min};
 ghost use lib.ListN.{length};
+ghost use Rattle.base.specs.Bytes.{zeros, written};
+ghost use Rattle.vectors.specs.Text.{endFrom, isComment, fieldStart, fieldOf, digitValue, spelled, decimalFrom};
 
 // A byte as a number.
 pub fn wide(byte: u8) -> u64
@@ -13,7 +14,7 @@ pub fn wide(byte: u8) -> u64
 
 // The value of a hexadecimal digit.
 fn digit(byte: u8) -> u64
-    ensures { λ r. ⌜ r < 16 ⌝ }
+    ensures { λ r. ⌜ (r ≡ digitValue byte) × (r < 16) ⌝ }
 {
     if byte < 97 {
         return wide(byte) % 16;
@@ -24,7 +25,7 @@ fn digit(byte: u8) -> u64
 // Where a mark stands, from a place on; the text's end if it does not.
 fn end_of(text: &[u8], at: usize, mark: u8) -> usize
     requires { ⌜ at ≤ length (now text) ⌝ }
-    ensures { λ r. ⌜ (at ≤ r) × (r ≤ length (now (text .entry))) ⌝ }
+    ensures { λ r. ⌜ (r ≡ endFrom (now (text .entry)) at mark) × (at ≤ r) × (r ≤ length (now (text .entry))) ⌝ }
 {
     let mut end = at;
     while end < text.len() {
@@ -39,13 +40,15 @@ fn end_of(text: &[u8], at: usize, mark: u8) -> usize
 // Where the line ends that begins at a place.
 pub fn line_end(text: &[u8], at: usize) -> usize
     requires { ⌜ at ≤ length (now text) ⌝ }
-    ensures { λ r. ⌜ (at ≤ r) × (r ≤ length (now (text .entry))) ⌝ }
+    ensures { λ r. ⌜ (r ≡ endFrom (now (text .entry)) at 10) × (at ≤ r) × (r ≤ length (now (text .entry))) ⌝ }
 {
     end_of(text, at, 10)
 }
 
 // Whether a line has no vector.
-pub fn is_comment(line: &[u8]) -> bool {
+pub fn is_comment(line: &[u8]) -> bool
+    ensures { λ r. ⌜ r ≡ isComment (now (line .entry)) ⌝ }
+{
     if line.len() == 0 {
         return true;
     }
@@ -54,7 +57,7 @@ pub fn is_comment(line: &[u8]) -> bool {
 
 // Where a field begins, from 0, after so many blanks; the line's end if there is none.
 fn field_start(line: &[u8], number: u64) -> usize
-    ensures { λ r. ⌜ r ≤ length (now (line .entry)) ⌝ }
+    ensures { λ r. ⌜ (r ≡ fieldStart (now (line .entry)) 0 number) × (r ≤ length (now (line .entry))) ⌝ }
 {
     let mut at: usize = 0;
     let mut left = number;
@@ -70,7 +73,9 @@ fn field_start(line: &[u8], number: u64) -> usize
 }
 
 // A field of a line, from 0; empty if there is none.
-pub fn field(line: &[u8], number: u64) -> &[u8] {
+pub fn field(line: &[u8], number: u64) -> &[u8]
+    ensures { λ r. ⌜ now r ≡ fieldOf (now (line .entry)) number ⌝ }
+{
     let start = field_start(line, number);
     let end = end_of(line, start, 32);
     &line[start..end]
@@ -78,7 +83,8 @@ pub fn field(line: &[u8], number: u64) -> &[u8] {
 
 // The bytes that a text of hexadecimal digits spells, over the front of `out`; how many they are. A text that is `-` spells none.
 pub fn decode(text: &[u8], out: &mut [u8]) -> usize
-    ensures { λ r. ⌜ r ≤ length (now (out .entry)) ⌝ }
+    ensures { λ r. ⌜ (r ≡ min (length (now (text .entry)) / 2) (length (now (out .entry)))) × (r ≤ length (now (out .entry))) ⌝ }
+    ensures { λ r. ⌜ now (out .exit) ≡ written (now (out .entry)) 0 (spelled (now (text .entry)) r) ⌝ }
     ensures { λ _. ⌜ length (now (out .exit)) ≡ length (now (out .entry)) ⌝ }
 {
     let mut i: usize = 0;
@@ -92,15 +98,19 @@ pub fn decode(text: &[u8], out: &mut [u8]) -> usize
     i
 }
 
-// A field of 32 bytes.
-pub fn digest(text: &[u8]) -> [u8; 32] {
+// A field of 32 bytes; zeros where it spells fewer.
+pub fn digest(text: &[u8]) -> [u8; 32]
+    ensures { λ r. ⌜ r ≡ written (zeros 32) 0 (spelled (now (text .entry)) (min (length (now (text .entry)) / 2) 32)) ⌝ }
+{
     let mut bytes = [0u8; 32];
     decode(text, &mut bytes);
     bytes
 }
 
 // A field in decimal, of at most 18 digits.
-pub fn decimal(text: &[u8]) -> u64 {
+pub fn decimal(text: &[u8]) -> u64
+    ensures { λ r. ⌜ r ≡ decimalFrom 0 (now (text .entry)) ⌝ }
+{
     let mut value: u64 = 0;
     let mut i: usize = 0;
     while i < text.len() {

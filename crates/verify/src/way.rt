@@ -1,9 +1,10 @@
 // Document 01, 'An opening is right if its leaf label is the hash of its left siblings there, and hashing upward gives the root.'
 ghost use mathlib.Core.Path.{_≡_};
-ghost use mathlib.Core.List.{[], _++_};
-ghost use Prim.Native.Nat.{_+_, _*_, _/_, _^_, _<_, _≤_};
-ghost use lib.ListN.{length, take};
+ghost use mathlib.Core.List.{[]};
+ghost use Prim.Native.Nat.{_+_, _*_, _/_, _%_, _^_, _<_, _≤_};
+ghost use lib.ListN.{length};
 ghost use Rattle.base.specs.Choice.{pick, odd};
+ghost use Rattle.base.specs.Bytes.{written};
 ghost use Rattle.refusal.specs.Number.{outcomeNumber};
 ghost use Rattle.tree.specs.Nodes.{node};
 ghost use Rattle.tree.specs.Labels.{labelBy};
@@ -22,8 +23,8 @@ use refusal::Refusal;
 // The label of the sibling of this height is put behind len gathered bytes where it is a left one. How many are gathered then.
 fn gather(gathered: &mut [u8], len: usize, leaf: u64, height: u64, bytes: &[u8]) -> usize
     requires { ⌜ (height < 40) × (len + 32 ≤ length (now gathered)) × (openingSize (height + 1) ≤ length (now bytes)) ⌝ }
-    ensures { λ r. ⌜ take r (now (gathered .exit)) ≡ take len (now (gathered .entry)) ++ pick (odd (leaf / 2 ^ height)) (givenBy (now (bytes .entry)) (height + 1)) [] ⌝ }
-    ensures { λ r. ⌜ r ≤ len + 32 ⌝ }
+    ensures { λ _. ⌜ now (gathered .exit) ≡ written (now (gathered .entry)) len (pick (odd (leaf / 2 ^ height)) (givenBy (now (bytes .entry)) (height + 1)) []) ⌝ }
+    ensures { λ r. ⌜ r ≡ len + 32 * (leaf / 2 ^ height % 2) ⌝ }
 {
     if (leaf >> height) % 2 == 1 {
         let at = 32 * (height + 1) as usize;
@@ -34,11 +35,14 @@ fn gather(gathered: &mut [u8], len: usize, leaf: u64, height: u64, bytes: &[u8])
     len
 }
 
-// The hash that the leaf's label must be: over the given labels of the left siblings, smallest level first.
+// The hash that the leaf's label must be: over the given labels of the left siblings, smallest level first, as many as the leaf's
+// position has one-bits.
 fn leaf_label(statement: [u8; 32], n: u64, leaf: u64, bytes: &[u8]) -> [u8; 32]
-    requires { ⌜ (n ≤ 40) × (length (now bytes) ≡ openingSize n) ⌝ }
+    requires { ⌜ (n ≤ 40) × (leaf < 2 ^ n) × (length (now bytes) ≡ openingSize n) ⌝ }
     ensures { λ r. ⌜ r ≡ stampRule statement .hash (inputAt (stampRule statement) n leaf (givenBy (now (bytes .entry))) (node n leaf)) ⌝ }
 {
+    let parents = u64::count_ones(leaf) as usize;
+    let size = 32 * parents;
     let mut gathered = [0u8; 1280];
     let mut len = 0;
     let mut height = n;
@@ -46,7 +50,7 @@ fn leaf_label(statement: [u8; 32], n: u64, leaf: u64, bytes: &[u8]) -> [u8; 32]
         height -= 1;
         len = gather(&mut gathered, len, leaf, height, bytes);
     }
-    label(statement, n, leaf, b"", &gathered[..len])
+    label(statement, n, leaf, parents, b"", &gathered[..size])
 }
 
 // The label of the node above a child at this position, from the child's label and its sibling's.
@@ -61,9 +65,9 @@ fn label_above(
     ensures { λ r. ⌜ r ≡ labelBy (stampRule statement) (node level (position / 2)) (childLabels (odd position) child (now (beside .entry))) ⌝ }
 {
     if position % 2 == 1 {
-        return label(statement, level, position / 2, beside, &child);
+        return label(statement, level, position / 2, 2, beside, &child);
     }
-    label(statement, level, position / 2, &child, beside)
+    label(statement, level, position / 2, 2, &child, beside)
 }
 
 // The root's label, hashed upward from the given label of the leaf.
@@ -91,7 +95,7 @@ fn climb(statement: [u8; 32], n: u64, leaf: u64, bytes: &[u8]) -> [u8; 32]
 
 // 14, 15. Its callers know the depth, the position and the length.
 pub fn right(statement: [u8; 32], n: u64, leaf: u64, root: [u8; 32], bytes: &[u8]) -> Outcome
-    requires { ⌜ (1 ≤ n) × (n ≤ 40) × (length (now bytes) ≡ openingSize n) ⌝ }
+    requires { ⌜ (1 ≤ n) × (n ≤ 40) × (leaf < 2 ^ n) × (length (now bytes) ≡ openingSize n) ⌝ }
     ensures { λ r. ⌜ outcomeNumber r ≡ rightRow statement n leaf root (now (bytes .entry)) ⌝ }
 {
     let leaf_hash = leaf_label(statement, n, leaf, bytes);

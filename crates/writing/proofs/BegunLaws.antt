@@ -14,7 +14,7 @@ use Rattle.proof.specs.Challenge.{challengeLeaf, challenged}
 use Rattle.proof.specs.Layout.{head, headSize, openingFrom, headWritten}
 use Rattle.reached.specs.Openings.{Openable}
 use Rattle.reached.proofs.OpeningCalls.{started-fits, startedOut-fits}
-use Rattle.accepted.proofs.Leaves.{challengeLeaf-small}
+use Rattle.proof.proofs.Leaves.{challengeLeaf-small}
 use Rattle.accepted.proofs.RowLaws.{challenge-done, head-done}
 use Rattle.writing.specs.declared.Writing.{Writing}
 use Rattle.writing.specs.Possible.{Room, Ready, writingOf, writtenOf, labelled}

@@ -1,17 +1,22 @@
-use mathlib.Core.Path.{_≡_}
-use lib.ListN.{length}
+-- `carried::run_to_end` meets its contract. The invariant: the calls left give the same run and store. The measure is their number.
+use mathlib.Core.Path.{_≡_, refl, sym, ap, ap₂, _∙_}
+use Prim.Native.Nat.{_-_}
 use borrow.Author.Needs.{needs}
+use lib.ListN.{length, replicate}
+use Rattle.run.specs.Steps.{Stamped, stamped, labelsIn, advanced}
+use Rattle.reached.specs.Calls.{afterCalls}
+use Rattle.carried.proofs.CallLaws.{calls-idle, calls-more, calls-none, run-idle}
 use Rattle.carried.proofs.run_to_end.Statement.{statement}
 use Rattle.carried.proofs.run_to_end.Tie as tie
 
 abbrev Inv-loop : tie.InvT-loop
-Inv-loop all budget store₀ left₀ state₀ store left state = (length store ≡ length store₀)
+Inv-loop calls budget store₀ left₀ state₀ store left state = (length store ≡ length store₀) × (afterCalls advanced (stamped state store) (replicate left budget) ≡ afterCalls advanced (stamped state₀ store₀) (replicate calls budget))
 
 abbrev μ-loop : tie.MeasureT-loop
-μ-loop all budget store₀ left₀ state₀ store left state = left
+μ-loop calls budget store₀ left₀ state₀ store left state = left
 
 loop-holds : tie.Need-loop-holds Inv-loop μ-loop
-loop-holds c = search needs
+loop-holds c = (refl, refl)
 
 advance-requires : tie.Need-advance-requires Inv-loop μ-loop
 advance-requires c κs = search needs
@@ -20,25 +25,44 @@ same-length : tie.Need-same-length Inv-loop μ-loop
 same-length c = search needs
 
 returns : tie.Need-returns Inv-loop μ-loop
-returns c = search needs
+returns c =
+    let l = c .before .before .before .before .before .before .before .before .loop in
+    let a = c .before .before .before .before .before .before .before .before .before .before .args in
+    let made = c .before .before .before .before .before .advance in
+    let s = stamped (l .state) (l .store) in
+    let idle = run-idle s (a .budget) (sym (made .ensures .1 .0) ∙ c .if1 .taken) in
+    let same = sym (calls-idle advanced labelsIn (a .budget) s idle (l .left)) ∙ l .inv .1 in
+    let all = idle ∙ same in
+    (made .ensures .1 .1 .0 ∙ ap (λ (t : Stamped). t .run) all, made .ensures .1 .1 .1 ∙ ap (λ (t : Stamped). t .store) all)
 
-same-length-2 : tie.Need-same-length-2 Inv-loop μ-loop
-same-length-2 c = search needs
-
-returns-2 : tie.Need-returns-2 Inv-loop μ-loop
-returns-2 c = search needs
+sub-left : tie.Need-sub-left Inv-loop μ-loop
+sub-left c = search needs
 
 loop-less : tie.Need-loop-less Inv-loop μ-loop
 loop-less c = search needs
 
 loop-again : tie.Need-loop-again Inv-loop μ-loop
-loop-again c = search needs
+loop-again c =
+    let l = c .before .before .before .before .before .before .before .before .loop in
+    let a = c .before .before .before .before .before .before .before .before .before .before .args in
+    let made = c .before .before .before .before .before .advance in
+    let s = stamped (l .state) (l .store) in
+    let next = ap₂ stamped (made .ensures .1 .1 .0) (made .ensures .1 .1 .1) in (
+      search needs,
+      ap (λ (t : Stamped). afterCalls advanced t (replicate (l .left - 1) (a .budget))) next
+          ∙ sym (calls-more advanced labelsIn (a .budget) s (l .left) (c .before .before .before .before .before .before .before .loop-test .taken))
+          ∙ l .inv .1,
+    )
 
-same-length-3 : tie.Need-same-length-3 Inv-loop μ-loop
-same-length-3 c = search needs
+same-length-2 : tie.Need-same-length-2 Inv-loop μ-loop
+same-length-2 c = search needs
 
-returns-3 : tie.Need-returns-3 Inv-loop μ-loop
-returns-3 c = search needs
+returns-2 : tie.Need-returns-2 Inv-loop μ-loop
+returns-2 c =
+    let l = c .before .loop in
+    let a = c .before .before .before .args in
+    let all = sym (calls-none advanced labelsIn (a .budget) (stamped (l .state) (l .store)) (l .left) (c .loop-test .left)) ∙ l .inv .1 in
+    (ap (λ (t : Stamped). t .run) all, ap (λ (t : Stamped). t .store) all)
 
 pub run-to-end-spec : {M : Type 1} → statement M
 run-to-end-spec =
@@ -50,9 +74,8 @@ run-to-end-spec =
     advance-requires
     same-length
     returns
-    same-length-2
-    returns-2
+    sub-left
     loop-less
     loop-again
-    same-length-3
-    returns-3)
+    same-length-2
+    returns-2)

@@ -1,3 +1,8 @@
+-- `vectors::end_of` meets its contract. The invariant: no mark was passed. The measure is what is left.
+use mathlib.Core.Path.{_≡_, refl, sym, _∙_}
+use native.Mathlib.Omega.{arith}
+use Rattle.vectors.specs.Text.{endFrom}
+use Rattle.vectors.proofs.TextLaws.{mark-here, mark-later, mark-nowhere}
 use Prim.Native.Nat.{_≤_, _-_}
 use lib.ListN.{length}
 use borrow.Author.Needs.{needs}
@@ -5,19 +10,22 @@ use Rattle.vectors.proofs.end_of.Statement.{statement}
 use Rattle.vectors.proofs.end_of.Tie as tie
 
 abbrev Inv-loop : tie.InvT-loop
-Inv-loop text at mark end₀ end = (at ≤ end) × (end ≤ length text)
+Inv-loop text at mark end₀ end = (at ≤ end) × (end ≤ length text) × (endFrom text at mark ≡ endFrom text end mark)
 
 abbrev μ-loop : tie.MeasureT-loop
 μ-loop text at mark end₀ end = length text - end
 
 loop-holds : tie.Need-loop-holds Inv-loop μ-loop
-loop-holds c = search needs
+loop-holds c = (omega arith, omega arith, refl)
 
 shared-slice-read-if1 : tie.Need-shared-slice-read-if1 Inv-loop μ-loop
 shared-slice-read-if1 c = search needs
 
 returns : tie.Need-returns Inv-loop μ-loop
-returns c = search needs
+returns c =
+    let l = c .before .before .before .loop in
+    let a = c .before .before .before .before .args in
+    (sym (l .inv .2 ∙ mark-here (a .text .now) (l .end) (a .mark) (c .before .before .loop-test .taken) (c .if1 .taken)), omega arith, omega arith)
 
 add-end : tie.Need-add-end Inv-loop μ-loop
 add-end c = search needs
@@ -26,10 +34,16 @@ loop-less : tie.Need-loop-less Inv-loop μ-loop
 loop-less c = search needs
 
 loop-again : tie.Need-loop-again Inv-loop μ-loop
-loop-again c = search needs
+loop-again c =
+    let l = c .before .before .before .loop in
+    let a = c .before .before .before .before .args in
+    (omega arith, omega arith, l .inv .2 ∙ mark-later (a .text .now) (l .end) (a .mark) (c .before .before .loop-test .taken) (c .if1 .left))
 
 returns-2 : tie.Need-returns-2 Inv-loop μ-loop
-returns-2 c = search needs
+returns-2 c =
+    let l = c .before .loop in
+    let a = c .before .before .args in
+    (sym (l .inv .2 ∙ mark-nowhere (a .text .now) (l .end) (a .mark) (c .loop-test .left)), omega arith, omega arith)
 
 pub end-of-spec : {M : Type 1} → statement M
 end-of-spec =

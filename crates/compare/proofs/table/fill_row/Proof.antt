@@ -1,6 +1,6 @@
 -- `compare::table::fill_row` meets its contract. The invariant: the child's label is the computed one, and the cells below are
 -- filled. The measure is what is left of the way.
-use mathlib.Core.Path.{_≡_, ap, _∙_}
+use mathlib.Core.Path.{_≡_, refl, ap, _∙_}
 use Prim.Native.Nat.{_+_, _-_, _*_, _≤_}
 use lib.ListN.{length}
 use Rattle.label.specs.Rule.{stampRule}
@@ -19,7 +19,7 @@ abbrev Inv-loop : tie.InvT-loop
 Inv-loop row₀ statement n leaf bytes child₀ height₀ row child height =
     (height ≤ n) × (length row ≡ 2560) × (length child ≡ 32) ×
     (child ≡ computed (stampRule statement) n leaf (givenBy bytes) height) × RowOf (stampRule statement) n leaf (givenBy bytes)
-    height row
+    height row₀ row
 
 abbrev μ-loop : tie.MeasureT-loop
 μ-loop row₀ statement n leaf bytes child₀ height₀ row child height = n - height
@@ -35,7 +35,7 @@ loop-holds c = (
   search needs,
   c .label-at .ensures,
   record
-      { filled = λ h small. absurd (omega arith) },
+      { filled = λ h small. absurd (omega arith); kept = refl },
 )
 
 add-at : tie.Need-add-at Inv-loop μ-loop
@@ -96,7 +96,7 @@ loop-again c =
       search needs,
       climbed (a .statement) (a .bytes .now) (a .n) (a .leaf) (l .height) _ _
           (l .inv .3) (c .before .before .fill-node .ensures .1),
-      row-more (a .statement) (a .bytes .now) (l .row) _ (a .n) (a .leaf)
+      row-more (a .statement) (a .bytes .now) (a .row .now) (l .row) _ (a .n) (a .leaf)
           (l .height) (l .child) h (s .pre .0) (s .pre .1) (l .inv .1) (l .inv .2) (l .inv .3) (l .inv .4)
           (c .before .before .fill-node .ensures .0),
     )

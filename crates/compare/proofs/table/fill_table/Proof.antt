@@ -1,5 +1,5 @@
 -- `compare::table::fill_table` meets its contract. The invariant: the rows before i are filled. The measure is what is left.
-use mathlib.Core.Path.{_≡_, ap, _∙_}
+use mathlib.Core.Path.{_≡_, refl, ap, _∙_}
 use Prim.Native.Nat.{_+_, _-_, _*_, _≤_}
 use lib.ListN.{length}
 use Rattle.opening.specs.Rows.{openingSize}
@@ -13,7 +13,7 @@ use Rattle.compare.proofs.table.fill_table.Tie as tie
 
 abbrev Inv-loop : tie.InvT-loop
 Inv-loop table₀ statement n leaves openings size i₀ table i =
-    (i ≤ length leaves) × (length table ≡ 512000) × TableOf statement n leaves openings i table
+    (i ≤ length leaves) × (length table ≡ 512000) × TableOf statement n leaves openings i table₀ table
 
 abbrev μ-loop : tie.MeasureT-loop
 μ-loop table₀ statement n leaves openings size i₀ table i = length leaves - i
@@ -25,7 +25,7 @@ mul-size : tie.Need-mul-size Inv-loop μ-loop
 mul-size c = omega (arith, c .before .before .before .pre .0 .most)
 
 loop-holds : tie.Need-loop-holds Inv-loop μ-loop
-loop-holds c = (omega arith, c .before .before .before .pre .1, record { rows = λ i small. absurd (omega arith) })
+loop-holds c = (omega arith, c .before .before .before .pre .1, record { rows = λ i small. absurd (omega arith); kept = refl })
 
 -- this turn's row and opening lie within the table and the openings
 within : (c : tie.In-loop Inv-loop μ-loop)
@@ -104,7 +104,7 @@ loop-again c =
     let row = c .before .before .fill-row in (
       omega arith,
       search needs,
-      table-more (a .statement) (a .n) (a .leaves .now) (a .openings .now) (l .table) (row .last .0) _ (l .i)
+      table-more (a .statement) (a .n) (a .leaves .now) (a .openings .now) (a .table .now) (l .table) (row .last .0) _ (l .i)
           (omega (arith, within (c .before .before .before .before .before .before) .0)) (l .inv .1) (search needs) (l .inv .2)
           (row .ensures) (lent-back (l .table) (row .last .0) (2560 * l .i) 2560 (search needs)),
     )

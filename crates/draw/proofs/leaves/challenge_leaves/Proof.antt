@@ -1,11 +1,12 @@
 -- `draw::leaves::challenge_leaves` meets its contract. The invariant: the leaves written and those left are all. The measure is
 -- what is left.
-use mathlib.Core.Path.{_≡_}
+use mathlib.Core.Path.{_≡_, refl}
 use mathlib.Core.List.{_++_}
 use Prim.Native.Nat.{_+_, _-_, _≤_}
-use lib.ListN.{length, take}
+use lib.ListN.{length, take, drop}
+use Rattle.base.specs.Bytes.{zeros}
 use Rattle.draw.specs.Drawing.{leavesFrom}
-use Rattle.draw.proofs.LeavesOpened.{leaves-none, leaves-more, leaves-all}
+use Rattle.draw.proofs.LeavesOpened.{leaves-none, leaves-more, leaves-all, zeros-more}
 use borrow.Author.Needs.{needs}
 use native.Mathlib.Omega.{arith}
 use Rattle.draw.proofs.leaves.challenge_leaves.Statement.{statement}
@@ -14,13 +15,14 @@ use Rattle.draw.proofs.leaves.challenge_leaves.Tie as tie
 abbrev Inv-loop : tie.InvT-loop
 Inv-loop depth statement root count leaves₀ i₀ leaves i =
     (i ≤ count) × (length leaves ≡ 200) × (take i leaves ++ leavesFrom depth statement root (i + 1) (count - i) ≡ leavesFrom
-    depth statement root 1 count)
+    depth statement root 1 count) × (drop i leaves ≡ zeros (200 - i))
 
 abbrev μ-loop : tie.MeasureT-loop
 μ-loop depth statement root count leaves₀ i₀ leaves i = count - i
 
 loop-holds : tie.Need-loop-holds Inv-loop μ-loop
-loop-holds c = (omega arith, search needs, leaves-none (c .args .depth) (c .args .statement) (c .args .root) (c .args .count))
+loop-holds c =
+    (omega arith, search needs, leaves-none (c .args .depth) (c .args .statement) (c .args .root) (c .args .count), refl)
 
 add-challenge : tie.Need-add-challenge Inv-loop μ-loop
 add-challenge c = omega (arith, c .before .before .pre)
@@ -49,13 +51,17 @@ loop-again c =
       search needs,
       leaves-more (a .depth) (a .statement) (a .root) (a .count) (l .leaves) (l .i) _
           (s .pre .0, s .pre .1) (s .pre .2) (l .inv .1) (c .before .loop-test .taken) (c .challenge .ensures .1) (l .inv .2),
+      zeros-more (l .leaves) (l .i) _ (omega (arith, s .pre .2)) (l .inv .3),
     )
 
 returns : tie.Need-returns Inv-loop μ-loop
 returns c =
     let a = c .before .before .args in
     let l = c .before .loop in
-    leaves-all (a .depth) (a .statement) (a .root) (a .count) (l .leaves) (l .i) (l .inv .0) (c .loop-test .left) (l .inv .2)
+    let all : l .i ≡ a .count = omega (arith, l .inv .0, c .loop-test .left) in (
+      leaves-all (a .depth) (a .statement) (a .root) (a .count) (l .leaves) (l .i) (l .inv .0) (c .loop-test .left) (l .inv .2),
+      rw all at (l .inv .3),
+    )
 
 pub challenge-leaves-spec : {M : Type 1} → statement M
 challenge-leaves-spec =

@@ -41,7 +41,7 @@ leaves : (c : tie.After-challenge-leaves)
 leaves c =
     let s = c .before .before .before .before .before in
     leaves-known (s .args .file .now) (s .args .statement) (s .args .depth) (s .args .count) (bytes (c .before .before .before .before))
-    (s .pre) _ _ _ (c .before .before .numbers-end .ensures) (c .before .label-at .ensures) (c .challenge-leaves .ensures)
+    (s .pre) _ _ _ (c .before .before .numbers-end .ensures) (c .before .label-at .ensures) (c .challenge-leaves .ensures .0)
 
 add-label-at : tie.Need-add-label-at
 add-label-at c = omega (arith, size c)

@@ -3,7 +3,7 @@ use mathlib.Core.Path.{_≡_}
 use native.Mathlib.Omega.{arith}
 use borrow.Author.Needs.{needs}
 use lib.ListN.{length, length-take}
-use Rattle.label.proofs.Padded.{length-front, hashed-front}
+use Rattle.label.proofs.Padded.{length-front, hashed-front, laid-padded}
 use Rattle.label.proofs.hashed.hash_front.Statement.{statement}
 use Rattle.label.proofs.hashed.hash_front.Tie as tie
 
@@ -55,7 +55,9 @@ same-length c = search needs
 returns : tie.Need-returns
 returns c =
     let s = c .before .before .before .before .before .before .before .before .before .before .before .before .before .before in
-    cc (hashed-front _ (s .args .len) (s .pre .0) (s .pre .1))
+    let d = hashed-front (s .args .input .now) (s .args .len) (s .pre .0) (s .pre .1) in
+    let l = laid-padded (s .args .input .now) (s .args .len) (s .pre .0) (s .pre .1) in
+    (cc, cc)
 
 pub hash-front-spec : {M : Type 1} → statement M
 hash-front-spec =

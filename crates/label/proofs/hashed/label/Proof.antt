@@ -1,5 +1,6 @@
--- `label::hashed::label` meets its contract: the five parts stand in the buffer one after another.
+-- `label::hashed::label` meets its contract: the five parts stand in the buffer one after another, and the number of parents gives their length.
 use mathlib.Core.Path.{ap, _∙_}
+use Prim.Native.Nat.{_+_, _*_}
 use native.Mathlib.Omega.{arith}
 use borrow.Author.Needs.{needs}
 use Rattle.sha256.specs.Digest.{digest}
@@ -46,11 +47,11 @@ slice-aggregate-put-7 c = search needs
 put-requires-4 : tie.Need-put-requires-4
 put-requires-4 c κs = search needs
 
-add-at : tie.Need-add-at
-add-at c = search needs
-
 slice-aggregate-put-8 : tie.Need-slice-aggregate-put-8
 slice-aggregate-put-8 c = search needs
+
+add-put : tie.Need-add-put
+add-put c = search needs
 
 put-requires-5 : tie.Need-put-requires-5
 put-requires-5 c κs = search needs
@@ -58,13 +59,16 @@ put-requires-5 c κs = search needs
 slice-aggregate-hash-front : tie.Need-slice-aggregate-hash-front
 slice-aggregate-hash-front c = search needs
 
+mul-hash-front : tie.Need-mul-hash-front
+mul-hash-front c = search needs
+
 add-hash-front : tie.Need-add-hash-front
 add-hash-front c = search needs
 
-all-put : (c : tie.After-put5) → Filled (c .before .before .before .before .before .before .before .before .before .before .before .before .before .before .before .before .before .before .before .before .args .t1) (c .before .before .before .before .before .before .before .before .before .before .before .before .before .before .before .before .before .before .before .before .args .level) (c .before .before .before .before .before .before .before .before .before .before .before .before .before .before .before .before .before .before .before .before .args .position) (c .before .before .before .before .before .before .before .before .before .before .before .before .before .before .before .before .before .before .before .before .args .front .now) (c .before .before .before .before .before .before .before .before .before .before .before .before .before .before .before .before .before .before .before .before .args .rest .now) (c .put5 .last .0)
+all-put : (c : tie.After-put5) → Filled (c .before .before .before .before .before .before .before .before .before .before .before .before .before .before .before .before .before .before .before .before .args .t1) (c .before .before .before .before .before .before .before .before .before .before .before .before .before .before .before .before .before .before .before .before .args .level) (c .before .before .before .before .before .before .before .before .before .before .before .before .before .before .before .before .before .before .before .before .args .position) (c .before .before .before .before .before .before .before .before .before .before .before .before .before .before .before .before .before .before .before .before .args .front .now) (c .before .before .before .before .before .before .before .before .before .before .before .before .before .before .before .before .before .before .before .before .args .rest .now) (41 + 32 * c .before .before .before .before .before .before .before .before .before .before .before .before .before .before .before .before .before .before .before .before .args .parents) (c .put5 .last .0)
 all-put c =
     let s = c .before .before .before .before .before .before .before .before .before .before .before .before .before .before .before .before .before .before .before .before in
-    filled (s .args .t1) (s .args .level) (s .args .position) (s .args .front .now) (s .args .rest .now) (search needs) (s .pre .0) (s .pre .1) _ _ _ _ (c .before .before .before .before .before .before .before .before .before .before .before .before .before .before .before .before .before .big-endian .ensures)
+    filled (s .args .t1) (s .args .level) (s .args .position) (s .args .front .now) (s .args .rest .now) (search needs) (s .pre .0 .0) (41 + 32 * s .args .parents) (omega (arith, s .pre .1)) (omega (arith, s .pre .0 .1)) _ _ _ _ (c .before .before .before .before .before .before .before .before .before .before .before .before .before .before .before .before .before .big-endian .ensures)
     (c .before .before .before .before .before .before .before .before .before .before .before .before .before .before .put .ensures)
     (c .before .before .before .before .before .before .before .before .before .before .put2 .ensures)
     (c .before .before .before .before .before .before .put3 .ensures)
@@ -74,10 +78,10 @@ all-put c =
     (c .put5 .ensures)
 
 hash-front-requires : tie.Need-hash-front-requires
-hash-front-requires c κs = (omega (arith, c .before .before .before .before .before .before .before .before .before .before .before .before .before .before .before .before .before .before .before .before .before .before .pre .1), all-put (c .before .before) .zeroed)
+hash-front-requires c κs = (omega (arith, c .before .before .before .before .before .before .before .before .before .before .before .before .before .before .before .before .before .before .before .before .before .before .pre .0 .1), all-put (c .before .before) .zeroed)
 
 returns : tie.Need-returns
-returns c = c .before .hash-front .ensures ∙ ap digest (all-put (c .before .before .before .before) .input)
+returns c = c .before .hash-front .ensures .0 ∙ ap digest (all-put (c .before .before .before .before) .input)
 
 pub label-spec : {M : Type 1} → statement M
 label-spec =
@@ -96,10 +100,11 @@ label-spec =
     put-requires-3
     slice-aggregate-put-7
     put-requires-4
-    add-at
     slice-aggregate-put-8
+    add-put
     put-requires-5
     slice-aggregate-hash-front
+    mul-hash-front
     add-hash-front
     hash-front-requires
     returns)

@@ -1,9 +1,18 @@
--- `label::next::label_leaf` meets its contract.
+-- `label::next::label_leaf` meets its contract: the labels in front and the held ones before its place are 32 bytes for each one-bit.
 use native.Mathlib.Omega.{arith}
 use borrow.Author.Needs.{needs}
 use lib.ListN.{length-take}
 use Rattle.label.proofs.next.label_leaf.Statement.{statement}
 use Rattle.label.proofs.next.label_leaf.Tie as tie
+
+cast-parents : tie.Need-cast-parents
+cast-parents c = search needs
+
+mul-at : tie.Need-mul-at
+mul-at c = search needs
+
+sub-at : tie.Need-sub-at
+sub-at c = search needs
 
 slice-reshare-prefix-label : tie.Need-slice-reshare-prefix-label
 slice-reshare-prefix-label c = search needs
@@ -12,7 +21,7 @@ slice-aggregate-label : tie.Need-slice-aggregate-label
 slice-aggregate-label c = simp length-take (omega arith)
 
 label-requires : tie.Need-label-requires
-label-requires c κs = (omega (arith, c .before .before .before .pre .0), simp length-take (omega arith))
+label-requires c κs = (omega (arith, c .before .before .before .before .pre .0), simp length-take (omega arith))
 
 slice-aggregate-put : tie.Need-slice-aggregate-put
 slice-aggregate-put c = search needs
@@ -30,6 +39,9 @@ pub label-leaf-spec : {M : Type 1} → statement M
 label-leaf-spec =
     tie.close
     (tie.spec
+    cast-parents
+    mul-at
+    sub-at
     slice-reshare-prefix-label
     slice-aggregate-label
     label-requires

@@ -1,7 +1,7 @@
 -- `opening::above::add_left` meets its contract, by parity.
+use mathlib.Core.Path.{_∙_}
 use native.Mathlib.Omega.{arith}
 use borrow.Author.Needs.{needs}
-use lib.ListN.{length-take, length-drop}
 use Rattle.opening.proofs.AboveLaws.{left-none, left-one}
 use Rattle.opening.proofs.above.add_left.Statement.{statement}
 use Rattle.opening.proofs.above.add_left.Tie as tie
@@ -37,7 +37,12 @@ same-length : tie.Need-same-length
 same-length c = search needs
 
 returns-2 : tie.Need-returns-2
-returns-2 c = (left-one _ _ _ _ _ _ _ (c .before .before .before .before .before .before .if1 .left) (c .before .before .before .before .before .slot-of .ensures) (c .before .before .put .ensures) (simp (length-take, length-drop) (omega arith)) (omega arith), omega arith)
+returns-2 c =
+    let a = c .before .before .before .before .before .before .before .before .before .args in (
+      c .before .before .put .ensures
+          ∙ left-one (a .bytes .now) (a .store .now) (a .len) (a .level) (a .position) _ (c .before .before .before .before .before .before .if1 .left) (c .before .before .before .before .before .slot-of .ensures),
+      omega (arith, c .before .before .before .before .before .before .if1 .left),
+    )
 
 pub add-left-spec : {M : Type 1} → statement M
 add-left-spec =

@@ -1,26 +1,44 @@
--- `opening::above::labels_above` meets its contract. The invariant: the first `len` bytes are the labels of levels 1 to `level`. The
--- measure is what is left of m.
-use mathlib.Core.Path.{_≡_}
+-- `opening::above::labels_above` meets its contract. The invariant: the first `filled` bytes are the labels of levels 1 to `level`, and
+-- zeros follow. The measure is what is left of m.
+use mathlib.Core.Path.{_≡_, refl}
 use Prim.Native.Nat.{_+_, _-_, _*_, _/_, _^_, _≤_}
 use native.Mathlib.Omega.{arith}
 use borrow.Author.Needs.{needs}
-use lib.ListN.{length, take}
+use lib.Count.{ones}
+use lib.ListN.{length}
 use Rattle.tree.specs.Nodes.{node}
 use Rattle.tree.proofs.Slots.{slot-inside}
-use Rattle.opening.specs.Steps.{front}
-use Rattle.opening.proofs.AboveLaws.{front-none, front-more}
+use Rattle.opening.proofs.AboveLaws.{Above, above-none, above-more, above-few, above-taken}
 use Rattle.opening.proofs.PlaceLaws.{way-inside}
 use Rattle.opening.proofs.above.labels_above.Statement.{statement}
 use Rattle.opening.proofs.above.labels_above.Tie as tie
 
 abbrev Inv-loop : tie.InvT-loop
-Inv-loop depth memory leaf store bytes₀ len₀ level₀ bytes len level = (level ≤ memory) × (len ≤ 32 * level) × (take len bytes ≡ front depth level leaf store) × (length bytes ≡ 640)
+Inv-loop depth memory leaf store len bytes₀ filled₀ level₀ bytes filled level = (level ≤ memory) × Above depth leaf store level filled bytes × (length bytes ≡ 640)
 
 abbrev μ-loop : tie.MeasureT-loop
-μ-loop depth memory leaf store bytes₀ len₀ level₀ bytes len level = memory - level
+μ-loop depth memory leaf store len bytes₀ filled₀ level₀ bytes filled level = memory - level
+
+-- what is filled before the last level leaves room for one label more
+some-room : (c : tie.In-loop Inv-loop μ-loop) → c .before .loop .filled + 32 ≤ 640
+some-room c =
+    let s = c .before .before .before in
+    omega (arith, s .pre .0 .kept, s .pre .0 .above, above-few (s .args .depth) (s .args .leaf) (c .before .loop .level) (c .before .loop .filled) (omega (arith, s .pre .0 .above)) (s .pre .0 .inside) (c .before .loop .inv .1 .counted))
+
+sub-len : tie.Need-sub-len Inv-loop μ-loop
+sub-len c = search needs
+
+shr-len : tie.Need-shr-len Inv-loop μ-loop
+shr-len c = search needs
+
+cast-len : tie.Need-cast-len Inv-loop μ-loop
+cast-len c = omega (arith, above-few (c .before .args .depth) (c .before .args .leaf) (c .before .args .memory) _ (c .before .pre .0 .above) (c .before .pre .0 .inside) refl)
+
+mul-len : tie.Need-mul-len Inv-loop μ-loop
+mul-len c = omega (arith, above-few (c .before .args .depth) (c .before .args .leaf) (c .before .args .memory) _ (c .before .pre .0 .above) (c .before .pre .0 .inside) refl)
 
 loop-holds : tie.Need-loop-holds Inv-loop μ-loop
-loop-holds c = (omega arith, omega arith, front-none _ _ _, search needs)
+loop-holds c = (omega arith, above-none (c .before .args .depth) (c .before .args .leaf) (c .before .args .store .now) (c .before .pre .0 .inside), search needs)
 
 add-level : tie.Need-add-level Inv-loop μ-loop
 add-level c = search needs
@@ -36,22 +54,37 @@ slice-aggregate-add-left c = search needs
 
 add-left-requires : tie.Need-add-left-requires Inv-loop μ-loop
 add-left-requires c κs =
-    let a = c .before .before .before .before .args in
+    let s = c .before .before .before .before in
+    let a = s .args in
     let l = c .before .before .loop .level in
-    let p = way-inside (a .depth) (a .leaf) (l + 1) (omega arith) (c .before .before .before .before .pre .0 .inside) in
-    let s = slot-inside (a .memory) (node (l + 1) (a .leaf / 2 ^ (a .depth - (l + 1)))) (omega arith, p) in
-    ((omega arith, p, omega arith), omega arith)
+    let p = way-inside (a .depth) (a .leaf) (l + 1) (omega arith) (s .pre .0 .inside) in
+    let i = slot-inside (a .memory) (node (l + 1) (a .leaf / 2 ^ (a .depth - (l + 1)))) (omega arith, p) in
+    ((omega arith, p, omega (arith, some-room (c .before))), omega arith)
 
 loop-less : tie.Need-loop-less Inv-loop μ-loop
 loop-less c = search needs
 
 loop-again : tie.Need-loop-again Inv-loop μ-loop
 loop-again c =
-    let e = c .before .add-left .ensures in
-    (omega arith, omega arith, front-more _ _ _ _ _ _ (omega arith) (c .before .before .before .before .loop .inv .2) (e .0), search needs)
+    let s = c .before .before .before .before .before .before in
+    let a = s .args in
+    let l = c .before .before .before .before .loop in
+    let p = way-inside (a .depth) (a .leaf) (l .level + 1) (omega arith) (s .pre .0 .inside) in
+    let i = slot-inside (a .memory) (node (l .level + 1) (a .leaf / 2 ^ (a .depth - (l .level + 1)))) (omega arith, p) in (
+      omega arith,
+      above-more (a .depth) (a .leaf) (l .level) (a .store .now) (l .filled) _ (l .bytes) _ (omega arith) (some-room (c .before .before .before)) (omega arith) (l .inv .1) (c .before .add-left .ensures .0) (c .before .add-left .ensures .1),
+      search needs,
+    )
 
 returns : tie.Need-returns Inv-loop μ-loop
-returns c = let e : c .before .loop .level ≡ c .before .before .before .args .memory = omega arith in (rw e at (c .before .loop .inv .2), omega arith)
+returns c =
+    let a = c .before .before .before .args in
+    let l = c .before .loop in
+    let e : l .level ≡ a .memory = omega arith in
+    let so = rw e at (l .inv .1) in
+    let f : l .filled ≡ 32 * ones (a .leaf / 2 ^ (a .depth - a .memory)) = so .counted in
+    let t = above-taken (a .depth) (a .leaf) (a .store .now) (a .memory) (l .filled) (l .bytes) so in
+    (refl, (rw f at (t .0), rw f at (t .1)))
 
 pub labels-above-spec : {M : Type 1} → statement M
 labels-above-spec =
@@ -59,6 +92,10 @@ labels-above-spec =
     (tie.spec
     Inv-loop
     μ-loop
+    sub-len
+    shr-len
+    cast-len
+    mul-len
     loop-holds
     add-level
     sub-position

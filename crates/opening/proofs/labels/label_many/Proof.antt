@@ -1,12 +1,14 @@
 -- `opening::labels::label_many` meets its contract. The invariant: i steps from the start give this state. The measure is what is left
 -- of the count.
-use mathlib.Core.Path.{sym, _≡_, refl, ap}
+use mathlib.Core.Path.{sym, _≡_, refl, ap, _∙_}
 use Prim.Native.Nat.{_+_, _-_, _≤_}
 use native.Mathlib.Omega.{arith}
 use borrow.Author.Needs.{needs}
 use lib.ListN.{length-take, length}
+use lib.Seq.{length-take-le}
 use Rattle.opening.specs.Steps.{Open, steps}
 use Rattle.opening.specs.Possible.{openingOf, openOf}
+use Rattle.opening.proofs.AboveLaws.{above-few}
 use Rattle.opening.proofs.StepLaws.{anew-small, steps-none, steps-more}
 use Rattle.opening.proofs.labels.label_many.Statement.{statement}
 use Rattle.opening.proofs.labels.label_many.Tie as tie
@@ -24,7 +26,9 @@ abbrev μ-loop : tie.MeasureT-loop
 read-fits : (c : tie.After-labels-above Inv-loop μ-loop) → c .labels-above .result .len ≤ length (c .labels-above .result .bytes)
 read-fits c =
     let whole : length (c .labels-above .result .bytes) ≡ 640 = search needs in
-    omega (arith, c .labels-above .ensures, c .before .before .before .before .before .pre)
+    let o = c .before .before .before .before .before .args .opening in
+    let s = c .before .before .before .before .before .pre .0 .0 in
+    omega (arith, s .kept, above-few (o .depth) (o .leaf) (o .memory) _ (s .above) (s .inside) (c .labels-above .ensures .0))
 
 labels-above-requires : tie.Need-labels-above-requires Inv-loop μ-loop
 labels-above-requires c κs = search needs
@@ -47,7 +51,7 @@ slice-aggregate-label-one-2 c = sym (c .before .before .before .loop .inv .2)
 label-one-requires : tie.Need-label-one-requires Inv-loop μ-loop
 label-one-requires c κs =
     let s = c .before .before .before .before .before .before .before .before .before .before .before in
-    ((s .pre .0 .0, omega arith), (simp length-take (omega (arith, c .before .before .before .before .before .before .labels-above .ensures)), c .before .before .before .before .loop .inv .2, omega arith))
+    ((s .pre .0 .0, omega arith), (length-take-le _ _ (read-fits (c .before .before .before .before .before .before)) ∙ c .before .before .before .before .before .before .labels-above .ensures .0, c .before .before .before .before .loop .inv .2, omega arith))
 
 add-i : tie.Need-add-i Inv-loop μ-loop
 add-i c = search needs
@@ -59,7 +63,7 @@ loop-again : tie.Need-loop-again Inv-loop μ-loop
 loop-again c =
     let e = c .before .before .before .label-one .ensures in (
       omega arith,
-      steps-more _ _ _ _ _ _ _ _ _ _ (c .before .before .before .before .before .before .before .before .loop .inv .1) _ (c .before .before .before .before .before .before .before .before .before .before .labels-above .ensures .0) _ _ (e .0) (e .1),
+      steps-more _ _ _ _ _ _ _ _ _ _ (c .before .before .before .before .before .before .before .before .loop .inv .1) _ (c .before .before .before .before .before .before .before .before .before .before .labels-above .ensures .1 .0) _ _ (e .0) (e .1),
       search needs,
       search needs,
     )

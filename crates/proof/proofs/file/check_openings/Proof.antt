@@ -8,6 +8,7 @@ use lib.ListN.{length}
 use Rattle.verify.proofs.Parts.{part-size, part-length}
 use Rattle.opening.specs.Rows.{openingSize}
 use Rattle.proof.specs.FileCheck.{openingsFrom}
+use Rattle.proof.proofs.Leaves.{challengeLeaf-small}
 use Rattle.proof.proofs.FileLaws.{opening-refused, opening-right, none-left}
 use Rattle.proof.proofs.HeadLaws.{openings-small, opening-inside}
 use Rattle.proof.proofs.file.check_openings.Statement.{statement}
@@ -77,6 +78,7 @@ right-requires c κs =
     let start = c .before .opening-start .result in (
       c .before .before .before .before .before .before .before .pre .0 .0,
       c .before .before .before .before .before .before .before .pre .0 .1,
+      rw (c .before .before .challenge-leaf .ensures) (challengeLeaf-small (a .n) _ _ _ (omega (arith, c .before .before .before .before .before .before .before .pre .0 .1))),
       ap length
           (part-size (a .bytes .now) start (openingSize (a .n))) ∙ part-length (a .bytes .now) start (openingSize (a .n))
           (opening-fits (c .before) .0),

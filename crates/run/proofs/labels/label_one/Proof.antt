@@ -1,5 +1,6 @@
 -- `run::labels::label_one` meets its contract.
 use native.Mathlib.Omega.{arith}
+use Rattle.tree.proofs.InputLengths.{ones-zero}
 use Rattle.run.proofs.StepLaws.{next-in-tree, one-step}
 use borrow.Author.Needs.{needs}
 use Rattle.run.proofs.labels.label_one.Statement.{statement}
@@ -9,7 +10,7 @@ slice-aggregate-label-next : tie.Need-slice-aggregate-label-next
 slice-aggregate-label-next c = search needs
 
 label-next-requires : tie.Need-label-next-requires
-label-next-requires c κs = search needs
+label-next-requires c κs = omega (arith, ones-zero)
 
 keep-requires : tie.Need-keep-requires
 keep-requires c κs =

@@ -3,6 +3,7 @@ use mathlib.Core.Path.{sym, _∙_}
 use Prim.Native.Nat.{_≤_}
 use native.Mathlib.Omega.{arith}
 use borrow.Author.Needs.{needs}
+use Rattle.label.proofs.Walking.{full}
 use Rattle.verify.proofs.OneOpening.{depth-refused, leaf-refused, short-refused, long-refused, rest-right}
 use Rattle.verify.proofs.Ranges.{range-of}
 use Rattle.verify.proofs.way.check_opening.Statement.{statement}
@@ -49,7 +50,9 @@ returns-4 c =
     (within-depth (c .before .before .before) .1) (c .before .before .if2 .left) (c .before .if3 .left) (c .if4 .taken)
 
 right-requires : tie.Need-right-requires
-right-requires c κs = (within-depth (c .before .before .before) .0, within-depth (c .before .before .before) .1, omega arith)
+right-requires c κs =
+    let d = within-depth (c .before .before .before) in
+    (d .0, d .1, rw (full _ (d .1)) at (c .before .before .if2 .left), omega arith)
 
 returns-5 : tie.Need-returns-5
 returns-5 c =

@@ -1,4 +1,5 @@
 -- `verify::gather` meets its contract: a left sibling is put, a right one passed.
+use mathlib.Core.Path.{_∙_}
 use native.Mathlib.Omega.{arith}
 use borrow.Author.Needs.{needs}
 use Rattle.verify.proofs.OneOpening.{left-put, right-passed}
@@ -37,18 +38,14 @@ same-length c = search needs
 
 returns : tie.Need-returns
 returns c =
-    let a = c .before .before .before .before .before .before .before .before .args in (
-      left-put (a .gathered .now) (a .bytes .now) (a .len) (a .leaf) (a .height) _
-          (c .before .before .before .before .before .if1 .taken)
-          (omega (arith, c .before .before .before .before .before .before .before .before .pre))
-          (omega (arith, c .before .before .before .before .before .before .before .before .pre)) (c .before .before .put .ensures),
-      omega arith,
-    )
+    let a = c .before .before .before .before .before .before .before .before .args in
+    let o = c .before .before .before .before .before .if1 .taken in
+    (c .before .before .put .ensures ∙ left-put (a .gathered .now) (a .bytes .now) (a .len) (a .leaf) (a .height) o, omega (arith, o))
 
 returns-2 : tie.Need-returns-2
 returns-2 c =
     let a = c .before .before .before .args in
-    (right-passed (a .gathered .now) (a .bytes .now) (a .len) (a .leaf) (a .height) (c .if1 .left), omega arith)
+    (right-passed (a .gathered .now) (a .bytes .now) (a .len) (a .leaf) (a .height) (c .if1 .left), omega (arith, c .if1 .left))
 
 pub gather-spec : {M : Type 1} → statement M
 gather-spec =

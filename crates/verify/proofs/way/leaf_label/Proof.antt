@@ -1,76 +1,89 @@
 -- `verify::leaf_label` meets its contract. The invariant: the given labels of the left siblings down to this height are
 -- gathered. The measure is the height.
 use mathlib.Core.Path.{_≡_, _∙_, sym}
-use Prim.Native.Nat.{_*_, _-_, _≤_}
+use Prim.Native.Nat.{_*_, _≤_}
 use native.Mathlib.Omega.{arith}
 use borrow.Author.Needs.{needs}
+use lib.Count.{ones, ones-le}
 use lib.Seq.{length-take-le}
-use lib.ListN.{length, take}
-use Rattle.base.specs.Bytes.{joined}
-use Rattle.tree.specs.TreeOpening.{leftGiven}
+use lib.ListN.{length}
 use Rattle.verify.specs.OpeningCheck.{givenBy}
-use Rattle.verify.proofs.OneOpening.{gathered-more, leaf-hash}
+use Rattle.verify.proofs.OneOpening.{Gathered, gathered-none, gathered-few, gathered-more, gathered-all, leaf-hash}
 use Rattle.verify.proofs.way.leaf_label.Statement.{statement}
 use Rattle.verify.proofs.way.leaf_label.Tie as tie
 
 abbrev Inv-loop : tie.InvT-loop
-Inv-loop statement n leaf bytes gathered₀ len₀ height₀ t8 gathered len height = (height ≤ n) × (len ≤ 32 * (n - height)) × (length gathered ≡ 1280) × (take len gathered ≡ joined (leftGiven n leaf (givenBy bytes) (n - height)))
+Inv-loop statement n leaf bytes parents size gathered₀ len₀ height₀ t10 gathered len height = (height ≤ n) × Gathered n leaf bytes height len gathered
 
 abbrev μ-loop : tie.MeasureT-loop
-μ-loop statement n leaf bytes gathered₀ len₀ height₀ t8 gathered len height = height
+μ-loop statement n leaf bytes parents size gathered₀ len₀ height₀ t10 gathered len height = height
+
+-- a leaf has at most n parents
+few-parents : (c : tie.Start Inv-loop μ-loop) → ones (c .args .leaf) ≤ c .args .n
+few-parents c = ones-le (c .args .n) (c .args .leaf) (c .pre .1)
+
+-- all its labels are gathered
+all-gathered : (c : tie.After-loop Inv-loop μ-loop) → 32 * ones (c .before .before .before .args .leaf) ≡ c .before .loop .len
+all-gathered c =
+    let s = c .before .before .before in
+    let l = c .before .loop in
+    gathered-all (s .args .n) (s .args .leaf) (s .pre .1) (s .args .bytes .now) (l .height) (l .len) (l .gathered) (c .loop-test .left) (l .inv .1)
+
+cast-parents : tie.Need-cast-parents Inv-loop μ-loop
+cast-parents c = omega (arith, few-parents (c .before))
+
+mul-size : tie.Need-mul-size Inv-loop μ-loop
+mul-size c = omega (arith, few-parents (c .before))
 
 loop-holds : tie.Need-loop-holds Inv-loop μ-loop
-unfolding leftGiven joined
-loop-holds c =
-    (search needs, search needs, search needs, let none : c .before .args .n - c .before .args .n ≡ 0 = omega arith in rw none)
+loop-holds c = (omega arith, gathered-none (c .before .args .n) (c .before .args .leaf) (c .before .pre .1) (c .before .args .bytes .now))
 
 sub-height : tie.Need-sub-height Inv-loop μ-loop
 sub-height c = search needs
 
 slice-aggregate-gather : tie.Need-slice-aggregate-gather Inv-loop μ-loop
-slice-aggregate-gather c = search needs
+slice-aggregate-gather c = sym (c .before .before .loop .inv .1 .whole)
 
 gather-requires : tie.Need-gather-requires Inv-loop μ-loop
-gather-requires c κs = search needs
+gather-requires c κs =
+    let s = c .before .before .before .before in
+    let l = c .before .before .loop in
+    omega (arith, l .inv .1 .whole, gathered-few (s .args .n) (s .args .leaf) (s .pre .1) (s .args .bytes .now) (l .height) (l .len) (l .gathered) (l .inv .0) (l .inv .1))
 
 loop-less : tie.Need-loop-less Inv-loop μ-loop
 loop-less c = search needs
 
 loop-again : tie.Need-loop-again Inv-loop μ-loop
 loop-again c =
-    let l = c .before .before .before .before .loop in
-    let a = c .before .before .before .before .before .before .args in (
-      search needs,
-      omega (arith, c .before .gather .ensures .1),
-      search needs,
-      gathered-more (a .n) (a .leaf)
-          (givenBy (a .bytes .now)) (l .height) _ _ (c .before .before .before .loop-test .taken) (l .inv .0) (l .inv .3)
-          (c .before .gather .ensures .0),
+    let s = c .before .before .before .before .before .before in
+    let l = c .before .before .before .before .loop in (
+      omega arith,
+      gathered-more (s .args .n) (s .args .leaf) (s .pre .1) (s .args .bytes .now) (l .height) (l .len) _ (l .gathered) _ (c .before .before .before .loop-test .taken)
+          (l .inv .0) (s .pre .0) (omega (arith, s .pre .2)) (l .inv .1) (c .before .gather .ensures .0) (c .before .gather .ensures .1),
     )
 
 slice-aggregate-label : tie.Need-slice-aggregate-label Inv-loop μ-loop
 slice-aggregate-label c = search needs
 
 array-share-prefix-gathered : tie.Need-array-share-prefix-gathered Inv-loop μ-loop
-array-share-prefix-gathered c = search needs
+array-share-prefix-gathered c = omega (arith, few-parents (c .before .before .before .before), c .before .before .loop .inv .1 .whole, c .before .before .before .before .pre .0)
 
 slice-aggregate-label-2 : tie.Need-slice-aggregate-label-2 Inv-loop μ-loop
-slice-aggregate-label-2 c = sym (length-take-le _ _ (omega arith))
+slice-aggregate-label-2 c = sym (length-take-le _ _ (array-share-prefix-gathered (c .before)))
 
 label-requires : tie.Need-label-requires Inv-loop μ-loop
-label-requires c κs = (
-  omega arith,
-  rw
-      (length-take-le (c .before .before .before .loop .len) (c .before .before .before .loop .gathered) (omega arith))
-      (omega arith),
-)
+label-requires c κs =
+    let few = few-parents (c .before .before .before .before .before) in
+    let n = c .before .before .before .before .before .pre .0 in
+    ((omega arith, omega arith), omega (arith, length-take-le (32 * ones (c .before .before .before .before .before .args .leaf)) (c .before .before .before .loop .gathered) (array-share-prefix-gathered (c .before))))
 
 returns : tie.Need-returns Inv-loop μ-loop
 returns c =
     let a = c .before .before .before .before .before .before .args in
+    let l = c .before .before .before .before .loop in
     c .label .ensures
-    ∙ leaf-hash (a .n) (a .leaf) (givenBy (a .bytes .now)) (a .statement) _ (c .before .before .before .before .loop .height)
-    (c .before .before .before .loop-test .left) (c .before .before .before .before .loop .inv .3)
+    ∙ leaf-hash (a .n) (a .leaf) (givenBy (a .bytes .now)) (a .statement) _ (l .height) (c .before .before .before .loop-test .left)
+    (rw (all-gathered (c .before .before .before)) (l .inv .1 .labels))
 
 pub leaf-label-spec : {M : Type 1} → statement M
 leaf-label-spec =
@@ -78,6 +91,8 @@ leaf-label-spec =
     (tie.spec
     Inv-loop
     μ-loop
+    cast-parents
+    mul-size
     loop-holds
     sub-height
     slice-aggregate-gather
