@@ -1,9 +1,19 @@
 // The report's statement, and a proof file in memory.
+ghost use mathlib.Core.Path.{_≡_};
+ghost use mathlib.Core.Bool.{true, false, not};
+ghost use lib.Dec.{eqb};
+ghost use lib.ListN.{take};
 ghost use Rattle.io.specs.Counts.{Counts};
+ghost use Rattle.base.specs.Bytes.{zeros};
+ghost use Rattle.base.specs.Choice.{both};
+ghost use Rattle.sha256.specs.Portions.{updateOutcome, updateState, finishDigest};
+ghost use Rattle.files.specs.Reads.{isDone};
 use crate::saying::complain;
 use crate::saying::complain_of;
 use refusal::Outcome;
 use sha256::Hash;
+use whole_input::read_once;
+use whole_input::read_whole;
 
 // Whether the report could be read, how many bytes it has, and its statement.
 pub struct Stated {
@@ -12,11 +22,19 @@ pub struct Stated {
     pub statement: [u8; 32],
 }
 
-// A hash after a portion: whether to go on, and whether the portion failed.
-struct Portion {
-    more: bool,
-    failed: bool,
-    hash: Hash,
+// How many bytes a read gave, whether it failed, and the hash with them.
+pub struct Portion {
+    pub size: usize,
+    pub failed: bool,
+    pub outcome: Outcome,
+    pub hash: Hash,
+}
+
+// Whether all was hashed, how many bytes the last read gave, and the hash.
+pub struct Hashed {
+    pub good: bool,
+    pub last: usize,
+    pub hash: Hash,
 }
 
 // Whether a proof could be read, and how many bytes it has.
@@ -26,62 +44,74 @@ pub struct Loaded {
 }
 
 // Reads once and hashes what came.
-fn take_portion(fd: i32, hash: Hash) -> Portion {
-    let mut space = io::large_buffer();
-    let got = libc::read(fd, &mut space);
-    if got < 0 {
-        return Portion {
-            more: false,
-            failed: true,
-            hash,
-        };
-    }
-    if got == 0 {
-        return Portion {
-            more: false,
-            failed: false,
-            hash,
-        };
-    }
-    let size = io::count(got, &space);
+fn take_portion(fd: i32, hash: Hash, space: &mut [u8]) -> Portion
+    ensures { λ r. ⌜ (r .outcome ≡ updateOutcome hash (take (r .size) (now (space .exit)))) × (r .hash ≡ updateState hash (take (r .size) (now (space .exit)))) ⌝ }
+{
+    let given = read_once(fd, space);
+    let size = given.size;
     let updated = hash.update(&space[..size]);
-    let next = updated.hash;
     let outcome = updated.outcome;
-    match outcome {
-        Outcome::Refused(_) => Portion {
-            more: false,
-            failed: true,
-            hash: next,
-        },
-        Outcome::Done => Portion {
-            more: true,
-            failed: false,
-            hash: next,
-        },
+    let next = updated.hash;
+    Portion {
+        size,
+        failed: given.failed,
+        outcome,
+        hash: next,
     }
 }
 
-// Hashes to the end, in at most 2^64 − 1 portions.
-fn take_all(fd: i32) -> Portion {
+// Whether a portion came and was hashed, so that more may come.
+fn goes_on(size: usize, outcome: Outcome) -> bool
+    ensures { λ r. ⌜ r ≡ both (not (eqb size 0)) (isDone outcome) ⌝ }
+{
+    if size == 0 {
+        return false;
+    }
+    match outcome {
+        Outcome::Refused(_) => false,
+        Outcome::Done => true,
+    }
+}
+
+// All is hashed if the last read gave nothing and did not fail.
+fn is_all(size: usize, failed: bool) -> bool
+    ensures { λ r. ⌜ r ≡ both (eqb size 0) (not failed) ⌝ }
+{
+    if size != 0 {
+        return false;
+    }
+    !failed
+}
+
+// Hashes until a read gives nothing, in at most 2^64 − 1 portions; good only if that read found the end.
+fn take_all(fd: i32) -> Hashed
+    ensures { λ r. ⌜ (r .good ≡ true → r .last ≡ 0) ⌝ }
+{
+    let mut space = io::large_buffer();
     let mut hash = Hash::new();
     let mut turns = u64::MAX;
     while 0 < turns {
-        let portion = take_portion(fd, hash);
-        if !portion.more {
-            return portion;
-        }
+        let portion = take_portion(fd, hash, &mut space);
         let next = portion.hash;
+        let last = portion.size;
         hash = next;
+        let outcome = portion.outcome;
+        if !goes_on(last, outcome) {
+            let good = is_all(last, portion.failed);
+            return Hashed { good, last, hash };
+        }
         turns -= 1;
     }
-    Portion {
-        more: false,
-        failed: true,
+    Hashed {
+        good: false,
+        last: 0,
         hash,
     }
 }
 
-fn not_stated() -> Stated {
+fn not_stated() -> Stated
+    ensures { λ r. ⌜ (r .good ≡ false) × (r .size ≡ 0) × (r .statement ≡ zeros 32) ⌝ }
+{
     let statement = [0u8; 32];
     Stated {
         good: false,
@@ -90,7 +120,10 @@ fn not_stated() -> Stated {
     }
 }
 
-fn state(hash: Hash) -> Stated {
+// The statement of all that was taken.
+fn state(hash: Hash) -> Stated
+    ensures { λ r. ⌜ (r .good ≡ true) × (r .size ≡ hash .taken) × (r .statement ≡ finishDigest hash) ⌝ }
+{
     let finished = hash.finish();
     let statement = finished.digest;
     Stated {
@@ -107,19 +140,19 @@ pub fn state_report(path: &[u8], err: i32) -> Stated {
         complain_of(err, path, os::errno());
         return not_stated();
     }
-    let portion = take_all(fd);
-    if portion.failed {
+    let hashed = take_all(fd);
+    if !hashed.good {
         complain_of(err, path, os::errno());
         libc::close(fd);
         return not_stated();
     }
     libc::close(fd);
-    let hash = portion.hash;
+    let hash = hashed.hash;
     state(hash)
 }
 
 // Whether more bytes follow: 0 if not, 1 if so, 2 if reading failed.
-fn follows(fd: i32) -> u8 {
+pub fn follows(fd: i32) -> u8 {
     let mut one = [0u8; 1];
     let got = libc::read(fd, &mut one);
     if got < 0 {
@@ -131,8 +164,12 @@ fn follows(fd: i32) -> u8 {
     1
 }
 
-// Complains of what follows the bytes that were read, and answers whether all is well.
-fn ends_well(fd: i32, path: &[u8], err: i32) -> bool {
+// Complains of a read that failed and of what follows, and answers whether all is well.
+fn ends_well(failed: bool, fd: i32, path: &[u8], err: i32) -> bool {
+    if failed {
+        complain_of(err, path, os::errno());
+        return false;
+    }
     let more = follows(fd);
     if more == 2 {
         complain_of(err, path, os::errno());
@@ -146,7 +183,9 @@ fn ends_well(fd: i32, path: &[u8], err: i32) -> bool {
 }
 
 // A place for the largest proof.
-pub fn empty_file() -> [u8; 262468] {
+pub fn empty_file() -> [u8; 262468]
+    ensures { λ r. ⌜ r ≡ zeros 262468 ⌝ }
+{
     [0u8; 262468]
 }
 
@@ -162,8 +201,11 @@ pub fn load_proof(path: &[u8], place: &mut [u8], err: i32) -> Loaded
             size: 0,
         };
     }
-    let size = io::read_full(fd, place);
-    let good = ends_well(fd, path, err);
+    let input = read_whole(fd, place);
+    let good = ends_well(input.failed, fd, path, err);
     libc::close(fd);
-    Loaded { good, size }
+    Loaded {
+        good,
+        size: input.size,
+    }
 }

@@ -1,13 +1,13 @@
 // The program's words run one after the other in a folder with some files, each headed by its line. Answers, progress and
 // complaints go to standard output, which is compared with a stored one.
-use files::Part;
-use lines::add;
-use lines::empty;
+mod meanwhile; // meanwhile.rt: what can happen between the start of a run and its end
+mod streams; // streams.rt: answers apart from complaints, and closed descriptors
+
 ghost use mathlib.Core.Path.{_≡_};
 ghost use Prim.Native.Nat.{_≤_};
 ghost use lib.ListN.{length};
 
-fn say(bytes: &[u8]) {
+pub fn say(bytes: &[u8]) {
     io::write_all(1, bytes);
 }
 
@@ -34,20 +34,24 @@ fn part_words(words: &[u8], line: &mut [u8]) -> usize
     i + 1
 }
 
-fn command(line: &[u8], size: usize) {
+fn command(line: &[u8], size: usize, out: i32, err: i32) {
     if size <= line.len() {
-        week::command(&line[..size], 1, 1);
+        week::command(&line[..size], out, err);
     }
 }
 
-// A scenario: its words, parted by blanks, and what the program tells.
-fn run(words: &[u8]) {
+// A scenario: its words, parted by blanks, and what the program tells on two descriptors.
+pub fn run_on(words: &[u8], out: i32, err: i32) {
     say(b"> mastdock ");
     say(words);
     say(b"\n");
     let mut line = [0u8; 256];
     let size = part_words(words, &mut line);
-    command(&line, size);
+    command(&line, size, out, err);
+}
+
+pub fn run(words: &[u8]) {
+    run_on(words, 1, 1)
 }
 
 // The end of the line that begins at a place.
@@ -91,11 +95,11 @@ fn run_long(path: &[u8]) {
     let second = words::join(&mut line, first, path);
     let third = words::join(&mut line, second, b"x.proof");
     let last = words::join(&mut line, third, b"3");
-    command(&line, last);
+    command(&line, last, 1, 1);
 }
 
 // A new file of some bytes that nobody may open any more, if locked.
-fn make(name: &[u8], bytes: &[u8], locked: bool) {
+pub fn make(name: &[u8], bytes: &[u8], locked: bool) {
     let fd = os::create(name);
     io::write_all(fd, bytes);
     if locked {
@@ -128,23 +132,21 @@ fn clash() {
     judge::say_clash(2, 5, 1, [10u8; 105], [171u8; 105], 1);
 }
 
-// A disk with no room: the temporary file is one that takes no byte.
-fn no_room() {
-    say(b"> a proof of three bytes to a disk with no room\n");
-    let fd = os::open_append(b"/dev/full");
-    let name = add(empty(), b"full.proof.part");
-    let part = Part { fd, name };
-    if files::keep_proof(part, b"full.proof", b"abc", 1) {
-        say(b"kept\n");
-    }
+// The words of this program's own arguments, which are one too many.
+fn surplus() {
+    say(b"> this program's arguments: seal report x.proof 3 2 1 4\n");
+    week::run_arguments(1, 1);
 }
 
 fn main() {
     make_files();
+    surplus();
     say(b"> mastdock\n");
     week::command(b"", 1, 1);
     run_file();
     long_paths();
-    no_room();
     clash();
+    streams::apart();
+    meanwhile::all();
+    streams::closed();
 }

@@ -77,10 +77,46 @@ fn part_3() {
     );
 }
 
+// The planning program over a file of these bytes.
+fn planned(bytes: &[u8]) {
+    let made = os::create(b"input");
+    io::write_all(made, bytes);
+    libc::close(made);
+    let fd = os::open_read(b"input");
+    plan_command::plan(fd, 1, 1);
+    libc::close(fd);
+    os::unlink(b"input");
+}
+
+// The program reads one byte more than an input may have, and no plan is printed of what it did not read whole.
+fn read_edges() {
+    let mut most = blanks_65536();
+    most[0] = 50;
+    most[2] = 48;
+    planned(&most);
+    let mut more = blanks_65537();
+    more[0] = 50;
+    more[2] = 48;
+    more[65536] = 120;
+    planned(&more);
+}
+
+// An input that cannot be read, and an output that cannot be written.
+fn failing() {
+    let folder = os::open_read(b".");
+    plan_command::plan(folder, 1, 1);
+    libc::close(folder);
+    let none = os::open_read(b"/dev/null");
+    plan_command::plan(none, none, 1);
+    libc::close(none);
+}
+
 fn main() {
     part_1();
     part_2();
     part_3();
     longest();
     too_long();
+    read_edges();
+    failing();
 }

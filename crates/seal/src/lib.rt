@@ -54,6 +54,14 @@ fn say_start(depth: u64, challenges: u64, memory: u64, err: i32)
     say(err, progress(0, all));
 }
 
+// The temporary file, with the proof's room.
+fn make_room(proof: &[u8], depth: u64, challenges: u64, memory: u64, err: i32) -> Part
+    requires { ⌜ sealRow depth challenges memory ≡ Right ⌝ }
+{
+    let size = proof::file_size(depth, challenges);
+    make_part(proof, size, err)
+}
+
 // Makes the proof and keeps it.
 fn seal_into(
     part: Part,
@@ -105,7 +113,7 @@ pub fn seal(
         return;
     }
     note_empty(stated.size, report, err);
-    let part = make_part(proof, err);
+    let part = make_room(proof, depth, challenges, memory, err);
     if part.fd < 0 {
         return;
     }

@@ -1,4 +1,4 @@
--- How many labels there are at most.
+-- How many labels there are at most, and that a portion has some.
 use mathlib.Core.Path.{_≡_}
 use Prim.Native.Nat.{ℕ, _*_, _^_, _-_, _≤_}
 use native.Mathlib.Nat.{mul-le-mul}
@@ -6,8 +6,13 @@ use native.Mathlib.Omega.{arith}
 use Rattle.run.proofs.StepLaws.{small-nodes}
 use Rattle.opening.specs.Rows.{nodesAnew}
 use Rattle.reached.proofs.Anew.{anew-count}
+use Rattle.sealing.specs.Portions.{portionOf}
 
 pub small-anew : (n m t x : ℕ) → n ≤ 40 → t ≤ 200 → x ≡ nodesAnew n m → t * x ≤ 200 * 2 ^ 42
 small-anew n m t x h k e =
     let few : x ≤ 2 ^ 42 = omega (arith, anew-count n m, small-nodes (n - m) (omega arith)) in
     mul-le-mul k few
+
+pub some-labels : (all portion : ℕ) → portion ≡ portionOf all → 1 ≤ portion
+unfolding portionOf
+some-labels all portion e = omega arith

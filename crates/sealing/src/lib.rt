@@ -9,6 +9,8 @@ ghost use Prim.Native.Nat.{_+_};
 ghost use lib.ListN.{length, drop};
 ghost use Rattle.tree.specs.Walk.{nodesIn};
 ghost use Rattle.proof.specs.Layout.{fileSize};
+ghost use Rattle.run.specs.Steps.{steps};
+ghost use Rattle.reached.specs.Runs.{atStart};
 ghost use Rattle.accepted.specs.TreeFile.{rootOf, treeFile};
 ghost use Rattle.filed.specs.Filed.{Writable, labelsAnew};
 use labelling::label_tree;
@@ -35,6 +37,7 @@ pub fn make_proof(
 ) -> Made
     requires { ⌜ Writable depth memory challenges (length (now store)) (length (now file)) ⌝ }
     ensures { λ r. ⌜ (r .root ≡ rootOf statement depth) × (r .hashes ≡ nodesIn depth + labelsAnew depth memory challenges) ⌝ }
+    ensures { λ _. ⌜ now (store .exit) ≡ steps (nodesIn depth) (atStart statement depth memory (now (store .entry))) .store ⌝ }
     ensures { λ _. ⌜ now (file .exit) ≡ treeFile statement depth challenges ++ drop (fileSize depth challenges) (now (file .entry)) ⌝ }
 {
     let all = all_labels(depth, memory, challenges);

@@ -3,6 +3,7 @@ ghost use mathlib.Core.Path.{_≡_};
 ghost use Prim.Native.Nat.{_+_, _^_, _≤_, _<_};
 ghost use Rattle.tree.specs.Walk.{nodesIn};
 ghost use Rattle.filed.specs.Filed.{labelsAnew};
+ghost use Rattle.sealing.specs.Portions.{portionOf};
 
 // The labels of the tree, and those made anew for the openings.
 pub fn all_labels(depth: u64, memory: u64, challenges: u64) -> u64
@@ -14,7 +15,7 @@ pub fn all_labels(depth: u64, memory: u64, challenges: u64) -> u64
 
 // A hundredth of all, and a quarter of a million at least.
 pub fn portion_of(all: u64) -> u64
-    ensures { λ r. ⌜ 1 ≤ r ⌝ }
+    ensures { λ r. ⌜ r ≡ portionOf all ⌝ }
 {
     let hundredth = all / 100 + 1;
     if hundredth < 262144 {

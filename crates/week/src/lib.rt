@@ -1,13 +1,30 @@
 // The program's three words: seal a report, verify a proof, draw its chain. Everything is told by lines on two descriptors.
+mod arguments; // arguments.rt: the program's arguments as one line of words
+
 use advice::advise;
+pub use arguments::run_arguments;
+use files::complain;
 use judge::chain;
 use judge::verify;
 use judge::verify_as;
 use seal::seal;
 use words::Order;
 
-// Does what a line of words asks, each word ended by a byte 0. Answers go to `out`, progress and complaints to `err`.
+// Does what a line of words asks, each word ended by a byte 0. Answers go to `out`, progress and complaints to `err`. No file is
+// opened before the standard descriptors are occupied.
 pub fn command(line: &[u8], out: i32, err: i32) {
+    if standard_streams::occupy() {
+        obey(line, out, err);
+    } else {
+        complain(
+            err,
+            b"/dev/null",
+            b"cannot be opened in place of a closed standard descriptor",
+        );
+    }
+}
+
+fn obey(line: &[u8], out: i32, err: i32) {
     let order = words::read_order(line);
     let report = words::word(line, 1);
     let proof = words::word(line, 2);
