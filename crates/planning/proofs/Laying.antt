@@ -14,6 +14,7 @@ use Rattle.base.specs.Bytes.{written, joined}
 use Rattle.base.proofs.Copying.{length-written}
 use Rattle.chain.proofs.Writing.{written-none, written-one, written-append}
 use Rattle.tree.specs.Nodes.{Node, root}
+use Rattle.planning.specs.Ascii.{ascii}
 use Rattle.planning.specs.Output.{digits, decimal, field, nodeText, nodesText}
 use Rattle.planning.specs.Steps.{Wrote}
 
@@ -115,16 +116,16 @@ nodes-short (v ∷ vs) = omega (arith, length-append (nodeText v) (nodesText vs)
 
 -- the lengths of the other texts, from their first part on
 abbrev pub depthWord : List ℕ
-depthWord = 100 ∷ 101 ∷ 112 ∷ 116 ∷ 104 ∷ 32 ∷ []
+depthWord = ascii "depth "
 
 abbrev pub leavesWord : List ℕ
-leavesWord = 32 ∷ 108 ∷ 101 ∷ 97 ∷ 118 ∷ 101 ∷ 115 ∷ 32 ∷ []
+leavesWord = ascii " leaves "
 
 abbrev pub chainWord : List ℕ
-chainWord = 32 ∷ 99 ∷ 104 ∷ 97 ∷ 105 ∷ 110 ∷ 32 ∷ []
+chainWord = ascii " chain "
 
 abbrev pub refusedWord : List ℕ
-refusedWord = 114 ∷ 101 ∷ 102 ∷ 117 ∷ 115 ∷ 101 ∷ 100 ∷ 32 ∷ []
+refusedWord = ascii "refused "
 
 field-length : (name : List ℕ) (x : ℕ) → length (field name x) ≤ length name + 20
 field-length name x = omega (arith, length-append name (decimal x), decimal-short x)
