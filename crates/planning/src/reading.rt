@@ -7,7 +7,8 @@ ghost use Rattle.base.specs.Bytes.{zeros, written};
 ghost use Rattle.planning.specs.Input.{numbers};
 ghost use Rattle.planning.specs.Steps.{Step, Wrote, allFit, ended};
 
-// What a byte does to the number before it: it can be read, it is a digit, the value after it.
+// What a byte does to the number before it: it can be read, it is a digit, the value after it. The last two are decided where
+// it can be read, and nobody reads them elsewhere.
 struct Stepped {
     good: bool,
     digit: bool,
