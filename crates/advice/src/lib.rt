@@ -1,8 +1,9 @@
-// Usage, and what is wrong in plain words.
+// Usage, and what is wrong with the words.
 use files::complain;
 use files::say_text;
 use words::Problem;
 
+// Prints the usage.
 fn usage(err: i32) {
     say_text(
         err,
@@ -10,7 +11,7 @@ fn usage(err: i32) {
     );
 }
 
-// One line for a problem with the words, or the usage.
+// Prints one line for a problem with the words, or the usage.
 pub fn advise(problem: Problem, err: i32) {
     match problem {
         Problem::NoWord => usage(err),
@@ -34,7 +35,7 @@ pub fn advise(problem: Problem, err: i32) {
     }
 }
 
-// An empty report can be sealed; a line says that it is empty.
+// An empty report can be sealed; prints one line that it is empty, and none for another.
 pub fn note_empty(size: u64, report: &[u8], err: i32) {
     if size == 0 {
         complain(
@@ -43,37 +44,4 @@ pub fn note_empty(size: u64, report: &[u8], err: i32) {
             b"the report is empty; its statement is that of no bytes",
         );
     }
-}
-
-// A refusal of document 01's number in plain words, before its line.
-pub fn explain(number: u64, size: usize, out: i32) {
-    if size == 0 {
-        say_text(out, b"the proof file is empty\n");
-        return;
-    }
-    match number {
-        1 => say_text(out, b"the proof's depth is not 1 to 40\n"),
-        8 => say_text(out, b"the proof's number of challenges is not 1 to 200\n"),
-        9 => say_text(
-            out,
-            b"the proof is not of this report, or not of the depth and challenges wanted\n",
-        ),
-        10 => say_text(out, b"the proof file ends too early\n"),
-        11 => say_text(
-            out,
-            b"a number at the start of the proof file is not in its shortest form\n",
-        ),
-        12 => say_text(out, b"the proof file is of no known edition\n"),
-        13 => say_text(
-            out,
-            b"the proof file has more bytes than its openings take\n",
-        ),
-        14 => say_text(
-            out,
-            b"an opening's leaf label is not the hash of its left siblings\n",
-        ),
-        15 => say_text(out, b"an opening does not lead to the proof's root\n"),
-        _ => say_text(out, b"the proof is refused\n"),
-    }
-    ;
 }

@@ -1,22 +1,31 @@
 -- What a drawing that gives a chain says of the file, the leaves and the list.
-use mathlib.Core.Path.{_≡_, refl, _∙_}
+use mathlib.Core.Path.{_≡_, refl, sym, ap, _∙_}
 use Prim.Native.Nat.{ℕ, zero, suc, _≤_, _<_}
 use native.Mathlib.Omega.{arith}
 use mathlib.Core.Bool.{Bool, true, false}
 use mathlib.Core.List.{List}
 use lib.Dec.{ltb}
 use lib.ListN.{length, getD, take, length-map}
+use lib.Seq.{take-all, length-take-le}
 use borrow.Author.Tests.{ltb-false}
 use Rattle.base.specs.Choice.{pick}
 use Rattle.base.specs.Bytes.{written}
 use Rattle.base.proofs.WrittenLaws.{written-here}
+use Rattle.refusal.specs.declared.Refusal.{Refusal}
+use Rattle.refusal.specs.Number.{numberOf}
 use Rattle.proof.specs.FileCheck.{foundIn, fileCheck}
 use Rattle.ways.specs.Ways.{chain, chainCodes, code}
 use Rattle.chain.specs.PlanRow.{planRow}
 use Rattle.chain.proofs.Rows.{list-check}
+use Rattle.planning.specs.Output.{places}
+use Rattle.planning.specs.Steps.{Wrote}
+use Rattle.verdict_lines.specs.Verdict.{refusalText, clashLines}
+use Rattle.chain_lines.specs.Text.{chainText, ChainIn}
 use Rattle.compare.specs.declared.Pair.{Pair}
 use Rattle.compare.specs.declared.Pair.the-variants.{Agree, Disagree}
-use Rattle.draw.specs.Drawing.{DrawingAnswer, notDrawn, drawnChain, drawnClash, drawnIf, drawnFrom, leavesOf, pairOf, drawingOf, drawnList}
+use Rattle.draw.specs.declared.Drawing.{Drawing}
+use Rattle.draw.specs.declared.Drawing.the-variants.{NotDrawn, Chain, Clash}
+use Rattle.draw.specs.Drawing.{DrawingAnswer, drawingAnswer, notDrawn, drawnChain, drawnClash, drawnIf, drawnFrom, leavesOf, pairOf, drawingOf, drawnList}
 use Rattle.draw.proofs.AcceptedFile.{leaves-done}
 
 not-refused : (code c : ℕ) → notDrawn code ≡ drawnChain c → ⊥
@@ -82,3 +91,37 @@ module _ (bytes statement : List ℕ) (n t : ℕ) (list after : List ℕ) (c : �
   codes-drawn =
       rw over
       (written-here list (chainCodes n (leavesOf bytes statement n t)) 0 (omega (arith, size, codes-fit)) c size)
+
+-- what drawing into 6,855 places leaves there
+pub chain-in : (bytes statement : List ℕ) (n t : ℕ) (drawing : Drawing) (list after : List ℕ) → length list ≡ places
+    → drawingAnswer drawing ≡ drawingOf bytes statement n t (length list) → after ≡ drawnList bytes statement n t list → length after ≡ length list
+    → ChainIn drawing after bytes statement n t
+chain-in bytes statement n t drawing list after l d a k = λ nodes e.
+    let is : drawingOf bytes statement n t (length list) ≡ drawnChain nodes = sym d ∙ ap drawingAnswer e in (
+      rw (← l) is,
+      omega (arith, codes-fit bytes statement n t list after nodes is a),
+      codes-drawn bytes statement n t list after nodes is a,
+    )
+
+-- what is laid out in each case
+pub line-whole : (text out after : List ℕ) (used : ℕ) → length text ≡ 8192 → 8192 < used → after ≡ written out 0 text
+    → Wrote out 0 (take used text) after 8192
+line-whole text out after used l h e =
+    let whole : take used text ≡ text = take-all used text (omega arith) in
+    rw whole (record { out = e; next = omega arith })
+
+pub line-first : (text out after : List ℕ) (used : ℕ) → length text ≡ 8192 → used ≤ 8192 → after ≡ written out 0 (take used text)
+    → Wrote out 0 (take used text) after used
+line-first text out after used l h e = record { out = e; next = omega (arith, length-take-le used text (omega arith)) }
+
+module _ (drawing : Drawing) (size : ℕ) (plan first second out after : List ℕ) (end : ℕ) where
+  pub refused-wrote : (line : List ℕ) (why : Refusal) (opening number : ℕ) → drawing ≡ NotDrawn why opening → number ≡ numberOf why
+      → line ≡ refusalText number opening size → Wrote out 0 line after end → Wrote out 0 (chainText drawing size plan first second) after end
+  refused-wrote line why opening number e k l w = rw (e, ← k, ← l) w
+
+  pub chain-wrote : (nodes : ℕ) → drawing ≡ Chain nodes → Wrote out 0 plan after end → Wrote out 0 (chainText drawing size plan first second) after end
+  chain-wrote nodes e w = rw e w
+
+  pub clash-wrote : (line : List ℕ) (i j l : ℕ) → drawing ≡ Clash i j l → line ≡ clashLines i j l first second → Wrote out 0 line after end
+      → Wrote out 0 (chainText drawing size plan first second) after end
+  clash-wrote line i j l e f w = rw (e, ← f) w

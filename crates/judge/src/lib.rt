@@ -1,8 +1,9 @@
-// A proof file judged: `verify`, and its chain drawn: `chain`.
-mod chains; // chains.rt: the chain or the clash
-mod verdicts; // verdicts.rt: the check, and its verdict as the last line
+// A proof file judged: `verify`, and its chain drawn: `chain`. What they print is laid out by verdict_lines and chain_lines.
+mod asking; // asking.rt: report and proof read, and what is asked of them told
+mod heads; // heads.rt: the depth and count of a head
+mod telling; // telling.rt: verdict, chain and clash written
 
-pub use chains::chain;
-pub use chains::say_clash;
-pub use verdicts::verify;
-pub use verdicts::verify_as;
+pub use asking::chain;
+pub use asking::verify;
+pub use asking::verify_as;
+pub use telling::say_clash;

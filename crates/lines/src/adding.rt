@@ -34,6 +34,18 @@ pub fn add(line: Line, part: &[u8]) -> Line
     }
 }
 
+// Another line after it, or nothing where that does not fit.
+pub fn add_line(line: Line, part: Line) -> Line
+    ensures { λ r. ⌜ lineOf r ≡ added (lineOf line) (lineOf part) ⌝ }
+{
+    let text = part.text;
+    let length = part.length;
+    if 8192 < length {
+        return add(line, &text);
+    }
+    add(line, &text[..length])
+}
+
 // A number in decimal.
 pub fn add_number(line: Line, x: u64) -> Line
     ensures { λ r. ⌜ lineOf r ≡ added (lineOf line) (decimal x) ⌝ }

@@ -4,6 +4,7 @@ mod texts; // texts.rt: the lines that the program prints
 
 pub use adding::add;
 pub use adding::add_hex;
+pub use adding::add_line;
 pub use adding::add_number;
 pub use adding::empty;
 pub use texts::accepted;
@@ -13,7 +14,7 @@ pub use texts::fact_bytes;
 pub use texts::progress;
 pub use texts::rejected;
 
-// A line under way: the first `length` bytes of its text.
+// A line under way: the first `length` bytes of its text. What stands behind them says nothing and is never printed.
 pub struct Line {
     pub text: [u8; 8192],
     pub length: usize,

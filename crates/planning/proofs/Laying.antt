@@ -10,10 +10,11 @@ use lib.ListN.{length, getD, take, drop, set, length-append, length-set, length-
 use lib.Seq.{drop-cons, drop-set-lt, getD-set-same}
 use borrow.Author.Tests.{lt-ltb, le-ltb}
 use Rattle.base.specs.Choice.{pick}
-use Rattle.base.specs.Bytes.{written, joined}
+use Rattle.base.specs.Bytes.{zeros, written, joined}
 use Rattle.base.proofs.Copying.{length-written}
 use Rattle.chain.proofs.Writing.{written-none, written-one, written-append}
 use Rattle.tree.specs.Nodes.{Node, root}
+use Rattle.planning.specs.Ascii.{ascii}
 use Rattle.planning.specs.Output.{digits, decimal, field, nodeText, nodesText}
 use Rattle.planning.specs.Steps.{Wrote}
 
@@ -73,6 +74,21 @@ spelled-last text all i rest k t e = after-set text i (48 + rest) k ∙ last ∙
     last : (48 + rest) ∷ drop (i + 1) text ≡ digits (i + 1) rest ++ drop (i + 1) text
     last = rw (add-one i) (unfold digits in rw (lt-ltb rest 10 t))
 
+-- zeros stand before the digits
+still-zero : (text : List ℕ) (i c : ℕ) → take (suc i) text ≡ zeros (suc i) → take i (set text i c) ≡ zeros i
+still-zero text zero c e = refl
+still-zero [] (suc i) c e = let z : _≡_ {A = ℕ} 0 1 = cc in absurd (omega arith)
+still-zero (x ∷ text) (suc i) c e =
+    let h : x ≡ 0 = cc in
+    let t : take (suc i) text ≡ zeros (suc i) = cc in
+    rw h (ap (λ (l : List ℕ). 0 ∷ l) (still-zero text i c t))
+
+pub zeros-last : (text : List ℕ) (i c : ℕ) → take (i + 1) text ≡ zeros (i + 1) → take i (set text i c) ≡ zeros i
+zeros-last text i c e = still-zero text i c (rw (add-one i) at e)
+
+pub zeros-more : (text : List ℕ) (i c : ℕ) → 0 < i → take (i + 1) text ≡ zeros (i + 1) → take (i - 1 + 1) (set text i c) ≡ zeros (i - 1 + 1)
+zeros-more text i c h e = let j : i - 1 + 1 ≡ i = omega arith in rw j (zeros-last text i c e)
+
 -- 2^(l+1)
 pub twice : (width level : ℕ) → width ≡ 2 ^ level → width * 2 ≡ 2 ^ (level + 1)
 twice width level e = rw (add-one level) (omega arith)
@@ -115,16 +131,16 @@ nodes-short (v ∷ vs) = omega (arith, length-append (nodeText v) (nodesText vs)
 
 -- the lengths of the other texts, from their first part on
 abbrev pub depthWord : List ℕ
-depthWord = 100 ∷ 101 ∷ 112 ∷ 116 ∷ 104 ∷ 32 ∷ []
+depthWord = ascii "depth "
 
 abbrev pub leavesWord : List ℕ
-leavesWord = 32 ∷ 108 ∷ 101 ∷ 97 ∷ 118 ∷ 101 ∷ 115 ∷ 32 ∷ []
+leavesWord = ascii " leaves "
 
 abbrev pub chainWord : List ℕ
-chainWord = 32 ∷ 99 ∷ 104 ∷ 97 ∷ 105 ∷ 110 ∷ 32 ∷ []
+chainWord = ascii " chain "
 
 abbrev pub refusedWord : List ℕ
-refusedWord = 114 ∷ 101 ∷ 102 ∷ 117 ∷ 115 ∷ 101 ∷ 100 ∷ 32 ∷ []
+refusedWord = ascii "refused "
 
 field-length : (name : List ℕ) (x : ℕ) → length (field name x) ≤ length name + 20
 field-length name x = omega (arith, length-append name (decimal x), decimal-short x)

@@ -4,16 +4,19 @@ use Prim.Native.Nat.{ℕ, suc, _+_, _-_, _*_, _/_, _^_, _≤_, _<_}
 use native.Mathlib.Numerals.{add-one}
 use native.Mathlib.Omega.{arith}
 use mathlib.Core.Bool.{Bool, true, false, not, true≢false}
-use mathlib.Core.List.{List, [], _∷_, _++_, append-assoc, append-nil}
+use mathlib.Core.List.{List, [], _∷_, _++_, append-assoc}
 use lib.Dec.{ltb, leb, eqb}
-use lib.ListN.{length, getD, take, drop, set, drop-of-length-le}
-use lib.Seq.{drop-cons, take-at, take-all, take-suc-set, length-take-le}
+use lib.ListN.{length, getD, take, drop, set, length-append, take-append-drop, drop-of-length-le}
+use lib.Seq.{drop-cons, drop-drop, take-at, drop-at, take-all, length-take-le}
 use borrow.Author.Tests.{lt-leb, le-leb, ne-eqb, le-ltb, lt-ltb, ltb-false}
 use Rattle.base.specs.Choice.{pick, both}
+use Rattle.base.specs.Bytes.{written}
 use Rattle.base.proofs.ChoiceLaws.{both-first, both-second, both-false}
+use Rattle.chain.proofs.Writing.{written-none}
 use Rattle.ways.specs.Planning.{every}
 use Rattle.planning.specs.Input.{isDigit, readable, fits, numbersFrom, numbers}
-use Rattle.planning.specs.Steps.{goesOn, nextValue, Step, allFit, ended}
+use Rattle.planning.specs.Steps.{goesOn, nextValue, Step, Wrote, allFit, ended}
+use Rattle.planning.proofs.Laying.{one-byte}
 
 -- each exit of a step
 never : {A : Type 0} → false ≡ true → A
@@ -147,6 +150,36 @@ unfolding numbersFrom
 numbers-last bytes i v true kept kept' all h f a = f ∙ (rw (drop-of-length-le bytes h) at a)
 numbers-last bytes i v false kept kept' all h f a = f ∙ (rw (drop-of-length-le bytes h) at a)
 
+-- one more kept, or none: those kept stand first, and behind them is what was there
+module _ (list after part : List ℕ) (count r : ℕ) (w : Wrote list count part after r) (h : count + length part ≤ length list) where
+  kept-size : length (take count list ++ part) ≡ count + length part
+  kept-size =
+      length-append (take count list) part ∙ ap (λ (k : ℕ). k + length part) (length-take-le count list (omega arith))
+
+  pub kept-first : take r after ≡ take count list ++ part
+  unfolding written
+  kept-first = rw (w .next, w .out) (take-at (take count list ++ part) (drop (count + length part) list) (count + length part) kept-size)
+
+  pub kept-behind : (base : List ℕ) → drop count list ≡ drop count base → drop r after ≡ drop r base
+  unfolding written
+  kept-behind base e =
+      rw (w .next, w .out)
+      (drop-at (take count list ++ part) (drop (count + length part) list) (count + length part) kept-size
+      ∙ sym (drop-drop (length part) count list)
+      ∙ ap (drop (length part)) e
+      ∙ drop-drop (length part) count base)
+
+-- all that are kept, written over the places' first
+pub all-kept : (list base kept : List ℕ) (r : ℕ) → take r list ≡ kept → r ≡ length kept → drop r list ≡ drop r base → list ≡ written base 0 kept
+unfolding written
+all-kept list base kept r t n d =
+    let z : r ≡ 0 + length kept = omega arith in
+    sym (take-append-drop r list) ∙ rw (t, d) (ap (λ (k : ℕ). kept ++ drop k base) z)
+
+pub kept-all : (list base kept : List ℕ) (r : ℕ) → list ≡ written base 0 kept → r ≡ length kept → take r list ≡ kept
+unfolding written
+kept-all list base kept r e n = rw e (take-at kept (drop (0 + length kept) base) r (sym n))
+
 -- the first 202
 pub first-full : (list rest all : List ℕ) (r : ℕ) → r ≤ length list → length list ≡ 202 → 202 ≤ r → take r list ++ rest ≡ all
     → (take r list ≡ take 202 all) × (r ≡ length (take 202 all))
@@ -162,13 +195,20 @@ first-all list all r h l e =
     let t : take 202 all ≡ all = take-all 202 all (omega arith) in
     (e ∙ sym t, sym (ap length t ∙ m))
 
--- one more kept
-pub kept-none : (w d : Bool) (v : ℕ) (kept : List ℕ) → both w (not d) ≡ false → kept ≡ kept ++ ended w d v
-kept-none w d v kept e = rw (e, append-nil)
+-- a number that ends is kept
+pub ended-short : (w d : Bool) (v : ℕ) → length (ended w d v) ≤ 1
+ended-short w d v = go (both w (not d))
+  where
+    go : (t : Bool) → length (pick t (v ∷ []) []) ≤ 1
+    go true = omega arith
+    go false = omega arith
+
+pub kept-none : (w d : Bool) (v count : ℕ) (list : List ℕ) → both w (not d) ≡ false → Wrote list count (ended w d v) list count
+kept-none w d v count list e = rw e (record { out = sym (written-none list count); next = omega arith })
 
 pub kept-one : (list : List ℕ) (count v : ℕ) (w d : Bool) → count < length list → both w (not d) ≡ true
-    → take (count + 1) (set list count v) ≡ take count list ++ ended w d v
-kept-one list count v w d h e = rw (e, add-one count) (take-suc-set list count v h)
+    → Wrote list count (ended w d v) (set list count v) (count + 1)
+kept-one list count v w d h e = rw e (one-byte list count v h)
 
 pub none-open : (w d : Bool) → w ≡ false → both w (not d) ≡ false
 none-open w d e = rw e

@@ -1,3 +1,4 @@
+pub mod Ascii
 pub mod Input
 pub mod Output
 pub mod Steps

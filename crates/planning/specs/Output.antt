@@ -10,6 +10,7 @@ use Rattle.tree.specs.Nodes.{Node}
 use Rattle.ways.specs.Ways.{chain}
 use Rattle.ways.specs.Counts.{leavesOpened}
 use Rattle.chain.specs.PlanRow.{planRow}
+use Rattle.planning.specs.Ascii.{ascii}
 use Rattle.planning.specs.Input.{numbers, unreadable}
 
 -- a number in decimal, of at most k digits
@@ -27,14 +28,14 @@ field name x = name ++ decimal x
 
 -- `refused`, a blank and the number, a line feed
 unfoldable pub refusedText : ℕ → List ℕ
-refusedText k = field (114 ∷ 101 ∷ 102 ∷ 117 ∷ 115 ∷ 101 ∷ 100 ∷ 32 ∷ []) k ++ 10 ∷ []
+refusedText k = field (ascii "refused ") k ++ 10 ∷ []
 
 -- `depth `, ` leaves ` and ` chain `, each with its number, a line feed
 unfoldable pub headText : ℕ → ℕ → ℕ → List ℕ
 headText n k c =
-    field (100 ∷ 101 ∷ 112 ∷ 116 ∷ 104 ∷ 32 ∷ []) n
-    ++ field (32 ∷ 108 ∷ 101 ∷ 97 ∷ 118 ∷ 101 ∷ 115 ∷ 32 ∷ []) k
-    ++ field (32 ∷ 99 ∷ 104 ∷ 97 ∷ 105 ∷ 110 ∷ 32 ∷ []) c
+    field (ascii "depth ") n
+    ++ field (ascii " leaves ") k
+    ++ field (ascii " chain ") c
     ++ 10 ∷ []
 
 -- level, a blank and position, a line feed

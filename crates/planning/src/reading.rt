@@ -1,13 +1,14 @@
 // The numbers of an input.
 ghost use mathlib.Core.Path.{_≡_};
 ghost use mathlib.Core.Bool.{true, false};
-ghost use mathlib.Core.List.{_++_};
-ghost use Prim.Native.Nat.{_<_, _≤_};
+ghost use Prim.Native.Nat.{_<_};
 ghost use lib.ListN.{length, take};
+ghost use Rattle.base.specs.Bytes.{zeros, written};
 ghost use Rattle.planning.specs.Input.{numbers};
-ghost use Rattle.planning.specs.Steps.{Step, allFit, ended};
+ghost use Rattle.planning.specs.Steps.{Step, Wrote, allFit, ended};
 
-// What a byte does to the number before it: it can be read, it is a digit, the value after it.
+// What a byte does to the number before it: it can be read, it is a digit, the value after it. The last two are decided where
+// it can be read, and nobody reads them elsewhere.
 struct Stepped {
     good: bool,
     digit: bool,
@@ -93,7 +94,7 @@ pub fn is_readable(input: &[u8]) -> bool
 // Keeps a number that ends here.
 fn push(list: &mut [u64], count: usize, value: u64, within: bool, digit: bool) -> usize
     requires { ⌜ count < length (now list) ⌝ }
-    ensures { λ r. ⌜ (take r (now (list .exit)) ≡ take count (now (list .entry)) ++ ended within digit value) × (r ≤ length (now (list .entry))) ⌝ }
+    ensures { λ r. ⌜ Wrote (now (list .entry)) count (ended within digit value) (now (list .exit)) r ⌝ }
 {
     if !within {
         return count;
@@ -105,10 +106,10 @@ fn push(list: &mut [u64], count: usize, value: u64, within: bool, digit: bool) -
     count + 1
 }
 
-// The first numbers of an input that can be read.
+// The first numbers of an input that can be read, and zeros after them.
 pub fn read_numbers(input: &[u8]) -> Numbers
     requires { ⌜ allFit false 0 (now input) ≡ true ⌝ }
-    ensures { λ r. ⌜ (take (r .count) (r .list) ≡ take 202 (numbers (now (input .entry)))) × (r .count ≡ length (take 202 (numbers (now (input .entry))))) ⌝ }
+    ensures { λ r. ⌜ (r .list ≡ written (zeros 202) 0 (take 202 (numbers (now (input .entry))))) × (r .count ≡ length (take 202 (numbers (now (input .entry))))) ⌝ }
 {
     let mut list = [0u64; 202];
     let mut count: usize = 0;

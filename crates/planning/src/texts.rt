@@ -2,12 +2,13 @@
 ghost use mathlib.Core.Path.{_≡_};
 ghost use mathlib.Core.List.{_∷_, []};
 ghost use Prim.Native.Nat.{_+_, _^_, _≤_, _<_};
-ghost use lib.ListN.{length, drop};
+ghost use lib.ListN.{length, take, drop};
+ghost use Rattle.base.specs.Bytes.{zeros};
 ghost use Rattle.tree.specs.Nodes.{node};
 ghost use Rattle.planning.specs.Output.{decimal, field, refusedText, headText, nodeText};
 ghost use Rattle.planning.specs.Steps.{Wrote};
 
-// The digits of a number, from a place on.
+// The digits of a number, from a place on; zeros before it.
 pub struct Spelled {
     pub text: [u8; 20],
     pub start: usize,
@@ -20,7 +21,7 @@ pub struct Spot {
 }
 
 pub fn spell(x: u64) -> Spelled
-    ensures { λ r. ⌜ (drop (r .start) (r .text) ≡ decimal x) × ((r .start < 20) × (length (r .text) ≡ 20)) ⌝ }
+    ensures { λ r. ⌜ ((drop (r .start) (r .text) ≡ decimal x) × (take (r .start) (r .text) ≡ zeros (r .start))) × ((r .start < 20) × (length (r .text) ≡ 20)) ⌝ }
 {
     let mut text = [0u8; 20];
     let mut i: usize = 19;

@@ -25,7 +25,7 @@ add-requires : tie.Need-add-requires
 add-requires c κs = search needs
 
 returns : tie.Need-returns
-returns c = let spelt = c .before .before .before .before .spell in let count = length-drop (spelt .result .start) (spelt .result .text) in let part = take-all (20 - spelt .result .start) (drop (spelt .result .start) (spelt .result .text)) (omega (arith, spelt .ensures .1 .1)) ∙ spelt .ensures .0 in c .add .ensures ∙ ap (added (lineOf (c .before .before .before .before .before .args .line))) part
+returns c = let spelt = c .before .before .before .before .spell in let count = length-drop (spelt .result .start) (spelt .result .text) in let part = take-all (20 - spelt .result .start) (drop (spelt .result .start) (spelt .result .text)) (omega (arith, spelt .ensures .1 .1)) ∙ spelt .ensures .0 .0 in c .add .ensures ∙ ap (added (lineOf (c .before .before .before .before .before .args .line))) part
 
 pub add-number-spec : {M : Type 1} → statement M
 add-number-spec =

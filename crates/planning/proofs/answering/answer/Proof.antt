@@ -1,5 +1,6 @@
 -- `answering::answer` meets its contract: one law for each exit.
 use Rattle.planning.proofs.InputLaws.{long-input, bad-input, no-number, good-input, plan-printed, input-printed, answered, no-room}
+use Rattle.planning.proofs.ReadLaws.{kept-all}
 use Rattle.planning.specs.Input.{numbers}
 use lib.ListN.{length, length-take}
 use borrow.Author.Tests.{not-true, not-false}
@@ -61,7 +62,7 @@ part-put-answer-start : tie.Need-part-put-answer-start
 part-put-answer-start c = search needs
 
 part-put-answer-end : tie.Need-part-put-answer-end
-part-put-answer-end c = let rn = c .before .before .before .read-numbers in omega (arith, length-take (rn .result .count) (rn .result .list), ap length (rn .ensures .0), rn .ensures .1)
+part-put-answer-end c = let rn = c .before .before .before .read-numbers in omega (arith, length-take (rn .result .count) (rn .result .list), ap length (kept-all (rn .result .list) _ _ (rn .result .count) (rn .ensures .0) (rn .ensures .1)), rn .ensures .1)
 
 put-answer-requires : tie.Need-put-answer-requires
 put-answer-requires c κs = search needs
@@ -77,7 +78,7 @@ returns-5 c =
     let e1 = e3 .before .before .before in
     let bytes = e1 .before .before .before .args .input .now in
     let good = good-input bytes (e3 .before .before .if2 .left) (sym (e3 .before .is-readable .ensures) ∙ not-false _ (e3 .if3 .left)) (omega (arith, t .if4 .left, rn .ensures .1, length-take 202 (numbers bytes))) in
-    answered _ _ _ _ (e1 .if1 .left) (plan-printed bytes (rn .result .list) _ _ (rn .result .count) _ (t .if4 .left) (rn .ensures .0) good (c .before .before .put-answer .ensures))
+    answered _ _ _ _ (e1 .if1 .left) (plan-printed bytes (rn .result .list) _ _ (rn .result .count) _ (t .if4 .left) (kept-all (rn .result .list) _ _ (rn .result .count) (rn .ensures .0) (rn .ensures .1)) good (c .before .before .put-answer .ensures))
 
 pub answer-spec : {M : Type 1} → statement M
 answer-spec =

@@ -48,8 +48,8 @@ returns c =
     let put2 = c .before .before .put2 in
     let s = c .before .before .before .before .before .before .before .before .before .before .before .before .before .before in
     let count = length-drop (spelt .result .start) (spelt .result .text) in
-    let part = take-all (20 - spelt .result .start) (drop (spelt .result .start) (spelt .result .text)) (omega (arith, spelt .ensures .1 .1)) ∙ spelt .ensures .0 in
-    field-wrote (s .args .out .now) (put .last .0) (put2 .last .0) (s .args .name .now) _ (s .args .at) _ (s .args .x) _ (s .pre) (put .ensures) refl part (put2 .ensures) (omega (arith, spelt .ensures .1 .1, ap length (spelt .ensures .0)))
+    let part = take-all (20 - spelt .result .start) (drop (spelt .result .start) (spelt .result .text)) (omega (arith, spelt .ensures .1 .1)) ∙ spelt .ensures .0 .0 in
+    field-wrote (s .args .out .now) (put .last .0) (put2 .last .0) (s .args .name .now) _ (s .args .at) _ (s .args .x) _ (s .pre) (put .ensures) refl part (put2 .ensures) (omega (arith, spelt .ensures .1 .1, ap length (spelt .ensures .0 .0)))
 
 pub put-field-spec : {M : Type 1} → statement M
 put-field-spec =

@@ -1,7 +1,9 @@
--- `texts::spell` meets its contract: the invariant: the digits of the rest and those laid are the number's.
-use Rattle.planning.proofs.Laying.{ten-left, tenth, spelled-more, spelled-last}
+-- `texts::spell` meets its contract: the invariant: the digits of the rest and those laid are the number's,
+-- and zeros stand before them.
+use Rattle.planning.proofs.Laying.{ten-left, tenth, spelled-more, spelled-last, zeros-more, zeros-last}
 use Rattle.planning.specs.Output.{digits, decimal}
-use lib.ListN.{length, drop, length-set}
+use lib.ListN.{length, take, drop, length-set}
+use Rattle.base.specs.Bytes.{zeros}
 use native.Mathlib.Omega.{arith}
 use Prim.Native.Nat.{_+_, _^_, _<_}
 use mathlib.Core.List.{_++_, append-nil}
@@ -11,14 +13,14 @@ use Rattle.planning.proofs.texts.spell.Statement.{statement}
 use Rattle.planning.proofs.texts.spell.Tie as tie
 
 abbrev Inv-loop : tie.InvT-loop
-Inv-loop x text₀ i₀ rest₀ text i rest = (i < 20) × (length text ≡ 20) × (digits (i + 1) rest ++ drop (i + 1) text ≡ decimal x) × (rest < 10 ^ (i + 1))
+Inv-loop x text₀ i₀ rest₀ text i rest = (i < 20) × (length text ≡ 20) × (digits (i + 1) rest ++ drop (i + 1) text ≡ decimal x) × (rest < 10 ^ (i + 1)) × (take (i + 1) text ≡ zeros (i + 1))
 
 abbrev μ-loop : tie.MeasureT-loop
 μ-loop x text₀ i₀ rest₀ text i rest = i
 
 loop-holds : tie.Need-loop-holds Inv-loop μ-loop
 unfolding decimal
-loop-holds c = (omega arith, refl, append-nil _, omega arith)
+loop-holds c = (omega arith, refl, append-nil _, omega arith, refl)
 
 add-text : tie.Need-add-text Inv-loop μ-loop
 add-text c = search needs
@@ -43,6 +45,7 @@ loop-again c =
       simp length-set (l .inv .1),
       spelled-more (l .text) _ (l .i) (l .rest) more (omega (arith, l .inv .1)) (c .loop-test .taken) (l .inv .2),
       tenth (l .i) (l .rest) more (l .inv .3),
+      zeros-more (l .text) (l .i) _ more (l .inv .4),
     )
 
 add-text-2 : tie.Need-add-text-2 Inv-loop μ-loop
@@ -57,7 +60,7 @@ array-write-text-2 c = search needs
 returns : tie.Need-returns Inv-loop μ-loop
 returns c =
     let l = c .before .loop in
-    (spelled-last (l .text) _ (l .i) (l .rest) (omega (arith, l .inv .1)) (c .loop-test .left) (l .inv .2), (l .inv .0, simp length-set (l .inv .1)))
+    ((spelled-last (l .text) _ (l .i) (l .rest) (omega (arith, l .inv .1)) (c .loop-test .left) (l .inv .2), zeros-last (l .text) (l .i) _ (l .inv .4)), (l .inv .0, simp length-set (l .inv .1)))
 
 pub spell-spec : {M : Type 1} → statement M
 spell-spec =
