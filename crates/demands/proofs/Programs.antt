@@ -14,7 +14,7 @@ use Rattle.opening.specs.Rows.{openingSize}
 use Rattle.chain.specs.PlanRow.{planRow}
 use Rattle.planning.specs.Input as input
 use Rattle.planning.specs.Input.{readable, numbers, unreadable}
-use Rattle.planning.specs.Output.{places, answerText, planText, refusedText, printed}
+use Rattle.planning.specs.Output.{places, planText, printed}
 use Rattle.compare.specs.Comparison.{compareRow, compared}
 use Rattle.demands.specs.Rows.{OtherByte, Unreadable}
 use Rattle.demands.specs.Demand1.{PlanningProgram, Comparing, WritingNumber}

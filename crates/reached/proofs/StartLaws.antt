@@ -1,7 +1,6 @@
 -- Document 01's rows of a run: a start is done just when its numbers are in their bounds, and then each of its calls is.
 use mathlib.Core.Path.{_≡_, refl, ap}
 use Prim.Native.Nat.{ℕ, _≤_, min}
-use native.Mathlib.Omega.{arith}
 use mathlib.Core.Bool.{Bool}
 use mathlib.Core.List.{List, [], _∷_}
 use lib.Dec.{ltb, leb}

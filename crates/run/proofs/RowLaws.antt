@@ -9,8 +9,6 @@ use lib.Dec.{ltb, leb, lit≤}
 use lib.ListN.{length}
 use Rattle.base.specs.Limits.{maxDepth, maxMemory}
 use Rattle.base.proofs.ChoiceLaws.{both-first, both-second}
-use Rattle.refusal.specs.declared.Refusal.{Refusal}
-use Rattle.refusal.specs.declared.Outcome.{Outcome}
 use Rattle.refusal.specs.Row.{outside, either, isDone}
 use Rattle.refusal.proofs.RowLaws.{passed}
 use Rattle.tree.specs.Walk.{nodesIn}
