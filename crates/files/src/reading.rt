@@ -6,7 +6,8 @@ ghost use lib.ListN.{take};
 ghost use Rattle.io.specs.Counts.{Counts};
 ghost use Rattle.base.specs.Bytes.{zeros};
 ghost use Rattle.base.specs.Choice.{both};
-ghost use Rattle.sha256.specs.Portions.{updateOutcome, updateState, finishDigest};
+ghost use Rattle.refusal.specs.Number.{outcomeNumber};
+ghost use Rattle.sha256.specs.Portions.{updateRow, updateState, finishDigest};
 ghost use Rattle.files.specs.Reads.{isDone};
 use crate::saying::complain;
 use crate::saying::complain_of;
@@ -45,7 +46,8 @@ pub struct Loaded {
 
 // Reads once and hashes what came.
 fn take_portion(fd: i32, hash: Hash, space: &mut [u8]) -> Portion
-    ensures { λ r. ⌜ (r .outcome ≡ updateOutcome hash (take (r .size) (now (space .exit)))) × (r .hash ≡ updateState hash (take (r .size) (now (space .exit)))) ⌝ }
+    ensures { λ r. ⌜ outcomeNumber (r .outcome) ≡ updateRow hash (take (r .size) (now (space .exit))) ⌝ }
+    ensures { λ r. ⌜ r .hash ≡ updateState hash (take (r .size) (now (space .exit))) ⌝ }
 {
     let given = read_once(fd, space);
     let size = given.size;

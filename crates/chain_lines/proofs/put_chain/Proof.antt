@@ -30,13 +30,13 @@ slice-aggregate-put-plan : tie.Need-slice-aggregate-put-plan
 slice-aggregate-put-plan c = let s = c .before .before .before .before .before .before .before in let small : (j : ℕ) → getD (s .args .file .now) j 0 < 256 = λ j. c .before .before .before .before .before .before .shared-slice-known .given j .fits in let ok = file-accepted (s .args .file .now) (s .args .statement) (s .args .depth) (s .args .count) 6855 _ (s .pre .0) in sym (length-take-le _ _ (omega (arith, count-known (s .args .file .now) (s .args .statement) (s .args .depth) (s .args .count) small ok .1)))
 
 put-plan-requires : tie.Need-put-plan-requires
-put-plan-requires c κs = let s = c .before .before .before .before .before .before .before .before in let small : (j : ℕ) → getD (s .args .file .now) j 0 < 256 = λ j. c .before .before .before .before .before .before .before .shared-slice-known .given j .fits in let ok = file-accepted (s .args .file .now) (s .args .statement) (s .args .depth) (s .args .count) 6855 _ (s .pre .0) in let l = leaves-known (s .args .file .now) (s .args .statement) (s .args .depth) (s .args .count) small ok _ _ _ (c .before .before .before .before .numbers-end .ensures) (c .before .before .before .label-at .ensures) (c .before .before .challenge-leaves .ensures) in (plan-done (s .args .file .now) (s .args .statement) (s .args .depth) (s .args .count) 6855 _ (s .pre .0) small _ l, (s .pre .1 ∙ rw (sym l), s .pre .2))
+put-plan-requires c κs = let s = c .before .before .before .before .before .before .before .before in let small : (j : ℕ) → getD (s .args .file .now) j 0 < 256 = λ j. c .before .before .before .before .before .before .before .shared-slice-known .given j .fits in let ok = file-accepted (s .args .file .now) (s .args .statement) (s .args .depth) (s .args .count) 6855 _ (s .pre .0) in let l = leaves-known (s .args .file .now) (s .args .statement) (s .args .depth) (s .args .count) small ok _ _ _ (c .before .before .before .before .numbers-end .ensures) (c .before .before .before .label-at .ensures) (c .before .before .challenge-leaves .ensures .0) in (plan-done (s .args .file .now) (s .args .statement) (s .args .depth) (s .args .count) 6855 _ (s .pre .0) small _ l, (s .pre .1 ∙ rw (sym l), s .pre .2))
 
 same-length : tie.Need-same-length
 same-length c = search needs
 
 returns : tie.Need-returns
-returns c = let s = c .before .before .before .before .before .before .before .before .before .before .before in let small : (j : ℕ) → getD (s .args .file .now) j 0 < 256 = λ j. c .before .before .before .before .before .before .before .before .before .before .shared-slice-known .given j .fits in let ok = file-accepted (s .args .file .now) (s .args .statement) (s .args .depth) (s .args .count) 6855 _ (s .pre .0) in let l = leaves-known (s .args .file .now) (s .args .statement) (s .args .depth) (s .args .count) small ok _ _ _ (c .before .before .before .before .before .before .before .numbers-end .ensures) (c .before .before .before .before .before .before .label-at .ensures) (c .before .before .before .before .before .challenge-leaves .ensures) in rw (sym l) (done-wrote _ _ _ _ _ (plan-done (s .args .file .now) (s .args .statement) (s .args .depth) (s .args .count) 6855 _ (s .pre .0) small _ l) (c .before .before .put-plan .ensures))
+returns c = let s = c .before .before .before .before .before .before .before .before .before .before .before in let small : (j : ℕ) → getD (s .args .file .now) j 0 < 256 = λ j. c .before .before .before .before .before .before .before .before .before .before .shared-slice-known .given j .fits in let ok = file-accepted (s .args .file .now) (s .args .statement) (s .args .depth) (s .args .count) 6855 _ (s .pre .0) in let l = leaves-known (s .args .file .now) (s .args .statement) (s .args .depth) (s .args .count) small ok _ _ _ (c .before .before .before .before .before .before .before .numbers-end .ensures) (c .before .before .before .before .before .before .label-at .ensures) (c .before .before .before .before .before .challenge-leaves .ensures .0) in rw (sym l) (done-wrote _ _ _ _ _ (plan-done (s .args .file .now) (s .args .statement) (s .args .depth) (s .args .count) 6855 _ (s .pre .0) small _ l) (c .before .before .put-plan .ensures))
 
 pub put-chain-spec : {M : Type 1} → statement M
 put-chain-spec =

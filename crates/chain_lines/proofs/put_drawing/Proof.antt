@@ -1,7 +1,7 @@
 -- `chain_lines::put_drawing` meets its contract.
 use mathlib.Core.Path.{sym, ap, _∙_}
 use lib.Seq.{length-take-le}
-use Rattle.draw.specs.declared.Drawing.the-variants.{Chain}
+use Rattle.draw.specs.Drawing.{drawnChain}
 use Rattle.chain_lines.proofs.ChainLaws.{refused-wrote, chain-wrote, clash-wrote}
 use borrow.Author.Needs.{needs}
 use Rattle.chain_lines.proofs.put_drawing.Statement.{statement}
@@ -29,7 +29,7 @@ slice-aggregate-put-chain : tie.Need-slice-aggregate-put-chain
 slice-aggregate-put-chain c = let drawn = c .before .before .before .before .before .before .before .pre .0 _ (c .before .before .drawing2 .given .1) in sym (length-take-le _ _ (drawn .1))
 
 put-chain-requires : tie.Need-put-chain-requires
-put-chain-requires c κs = let s = c .before .before .before .before .before .before .before .before in let drawn = s .pre .0 _ (c .before .before .before .drawing2 .given .1) in (drawn .0 ∙ ap Chain (sym (length-take-le _ _ (drawn .1))), drawn .2, s .pre .1)
+put-chain-requires c κs = let s = c .before .before .before .before .before .before .before .before in let drawn = s .pre .0 _ (c .before .before .before .drawing2 .given .1) in (drawn .0 ∙ ap drawnChain (sym (length-take-le _ _ (drawn .1))), drawn .2, s .pre .1)
 
 enum-known-drawing-3 : tie.Need-enum-known-drawing-3
 enum-known-drawing-3 c = search needs
