@@ -1,6 +1,6 @@
 -- Document 01's rows, each over the definition that a contract cites: the number answered, and what a refused call leaves.
 use mathlib.Core.Path.{_≡_, refl}
-use mathlib.Core.Logic.{_⊎_}
+use mathlib.Core.Logic.{_⊎_, inl, inr, ⊎-elim}
 use Prim.Native.Nat.{ℕ, _+_, _-_, _*_, _^_, _≤_, _<_, min}
 use native.Mathlib.Omega.{arith}
 use mathlib.Core.Bool.{Bool, true, false, not}
@@ -22,6 +22,9 @@ use Rattle.label.specs.Rule.{stampRule}
 use Rattle.run.specs.declared.Run.{Run}
 use Rattle.run.specs.Rows.{memoryOver, impossible, startRow, continueRow}
 use Rattle.run.specs.Steps as runs
+use Rattle.run.specs.Steps.{Stamped, stamped}
+use Rattle.opening.specs.Steps.{Open}
+use Rattle.opening.specs.Possible.{openOf}
 use Rattle.opening.specs.declared.Opening.{Opening}
 use Rattle.opening.specs.Rows.{openingSize, nodesAnew, openRow, reopenRow}
 use Rattle.opening.specs.Steps as openings
@@ -35,6 +38,7 @@ use Rattle.writing.specs.declared.Writing.{Writing}
 use Rattle.writing.specs.Rows.{writeRow, rewriteRow}
 use Rattle.writing.specs.Steps as writings
 use Rattle.demands.specs.Rows.{IsFirst, Outside, Impossible, planningChain, ImpossibleFile}
+use Rattle.reached.proofs.Idle.{run-none, run-same, opening-none, opening-same}
 use Rattle.demands.specs.Demand1.{HashingPortion, HashingEnd, HashingWhole, StartingRun, ContinuingRun, StartingOpening, ContinuingOpening, AChallenge, WritingHead, OneOpening, PlanningChain, StartingFile, ContinuingFile}
 use Rattle.demands.proofs.Decisions.{Decides, decides-outside, decides-lt, decides-le, decides-eq, decides-differ, decides-both, decides-either, decides-some, decides-under, Decided, is-first}
 
@@ -78,6 +82,23 @@ unfolding startRow runs.started
 starting-run statement n m store =
     record { answer = is-first (depth n ∷ memory n m ∷ room m store ∷ []); refused = λ e. rw (some-refused _ e) }
 
+-- budget 0, or nothing remains
+run-idle : (s : Stamped) (budget : ℕ) → (budget ≡ 0) ⊎ (2 ^ (s .run .depth + 1) - 1 ≤ s .run .made)
+    → (runs.labelsIn s budget ≡ 0) × (runs.advanced s budget ≡ s)
+unfolding nodesIn
+run-idle s budget h =
+    let none : (budget ≡ 0) ⊎ (nodesIn (s .run .depth) - s .run .made ≡ 0) =
+    ⊎-elim (λ e. inl e) (λ (d : 2 ^ (s .run .depth + 1) - 1 ≤ s .run .made). inr (omega arith)) h in
+    (run-none s budget none, run-same s budget none)
+
+opening-idle : (store : List ℕ) (s : Open) (budget : ℕ)
+    → (budget ≡ 0) ⊎ (nodesAnew (s .opening .depth) (s .opening .memory) ≤ s .opening .made)
+    → (openings.labelsIn store s budget ≡ 0) × (openings.advanced store s budget ≡ s)
+opening-idle store s budget h =
+    let none : (budget ≡ 0) ⊎ (nodesAnew (s .opening .depth) (s .opening .memory) - s .opening .made ≡ 0) =
+    ⊎-elim (λ e. inl e) (λ (d : nodesAnew (s .opening .depth) (s .opening .memory) ≤ s .opening .made). inr (omega arith)) h in
+    (opening-none store s budget none, opening-same store s budget none)
+
 pub continuing-run : (run : Run) (store : List ℕ) (budget : ℕ) → ContinuingRun run store budget
 unfolding continueRow nodesIn runs.labelsIn runs.advanced runs.steps
 continuing-run run store budget =
@@ -94,6 +115,7 @@ continuing-run run store budget =
           ∷ []
           );
       refused = λ e. let no = some-refused _ e in (rw no, rw no);
+      idle = run-idle (stamped run store) budget;
     }
 
 -- ---- openings
@@ -123,6 +145,7 @@ continuing-opening o store out budget =
           ∷ []
           );
       refused = λ e. let no = some-refused _ e in (rw no, rw no);
+      idle = opening-idle store (openOf o out) budget;
     }
 
 pub one-opening : (statement : List ℕ) (n leaf : ℕ) (root bytes : List ℕ) → OneOpening statement n leaf root bytes
@@ -275,7 +298,7 @@ unfolding finishRow finishDigest over
 hashing-end s =
     record {
       answer = is-first (over (s .taken) 0 ∷ []);
-      refused = λ some. beside-refused (tooMany s 0) 5 (zeros 32) _ some;
+      refused = λ some. (beside-refused (tooMany s 0) 5 (zeros 32) _ some, refl);
     }
 
 pub hashing-whole : (message : List ℕ) → HashingWhole message

@@ -5,6 +5,7 @@ use Rattle.demands.proofs.Openings.{opening-ends}
 use Rattle.demands.proofs.Writings.{writing-ends}
 use Rattle.demands.proofs.Checks.{hashing-portion, hashing-end, hashing-whole, starting-run, continuing-run, starting-opening, continuing-opening, a-challenge, writing-head, one-opening, planning-chain, starting-file, continuing-file}
 use Rattle.demands.proofs.Programs.{planning-program, comparing-openings, writing-number}
+use Rattle.demands.proofs.Numbers.{reading-number}
 use Rattle.demands.proofs.Files.{a-head, a-file}
 use Rattle.demands.proofs.Drawings.{drawing-chain}
 
@@ -30,6 +31,7 @@ demand1 =
       drawingChain = λ bytes statement n t list small. drawing-chain bytes statement n t small list;
       planningProgram = planning-program;
       comparing = comparing-openings;
+      readingNumber = reading-number;
       writingNumber = writing-number;
       startingFile = starting-file;
       continuingFile = continuing-file;

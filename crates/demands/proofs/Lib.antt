@@ -6,6 +6,8 @@ pub mod Drawings
 pub mod Carrying
 pub mod Openings
 pub mod Writings
+pub mod Numbers
 pub mod Demand1
 pub mod Demand2
 pub mod Demand3
+pub mod Slices

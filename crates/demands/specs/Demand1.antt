@@ -1,11 +1,14 @@
 -- Demand 1, sentence by sentence. A call is spoken of by the definitions that its contract cites.
 use mathlib.Core.Path.{_≡_}
+use mathlib.Core.Logic.{_⊎_}
 use Prim.Native.Nat.{ℕ, _+_, _-_, _*_, _^_, _≤_, _<_, min}
 use mathlib.Core.List.{List, _++_}
 use lib.ListN.{length, getD, drop}
 use Rattle.base.specs.Bytes.{zeros}
 use Rattle.sha256.specs.declared.Hash.{Hash}
-use Rattle.sha256.specs.Portions.{updateRow, updateState, finishRow, finishDigest, digestRow, digestAnswer}
+use Rattle.sha256.specs.Portions.{updateRow, updateState, finishRow, finishDigest, finishState, digestRow, digestAnswer}
+use Rattle.groups.specs.Groups.{maxGroups}
+use Rattle.groups.specs.Reading.{Answer, value, refused, readAt}
 use Rattle.groups.specs.Writing.{putRow, putCount, outputAfter}
 use Rattle.run.specs.declared.Run.{Run}
 use Rattle.run.specs.Rows.{startRow, continueRow}
@@ -35,7 +38,7 @@ use Rattle.planning.specs.Output.{refusedText, headText, nodesText, printed}
 use Rattle.compare.specs.declared.Pair.the-variants.{Agree}
 use Rattle.compare.specs.Comparison.{compareRow, compared}
 use Rattle.draw.specs.Drawing.{DrawingAnswer, notDrawn, drawnChain, drawnClash, drawingOf, drawnList, firstDrawn, secondDrawn}
-use Rattle.demands.specs.Rows.{IsFirst, hashing, startingRun, continuingRun, startingOpening, continuingOpening, aChallenge, writingHead, oneOpening, aHead, aFile, planningChain, drawingChain, planningProgram, comparing, writingNumber, startingFile, continuingFile}
+use Rattle.demands.specs.Rows.{IsFirst, hashing, startingRun, continuingRun, startingOpening, continuingOpening, aChallenge, writingHead, oneOpening, aHead, aFile, planningChain, drawingChain, planningProgram, comparing, readingNumber, writingNumber, startingFile, continuingFile}
 
 -- ---- 'Labelling, opening and writing can be carried to their end for every depth 1..40, memory level 0..min(depth, 20) ..'
 
@@ -95,7 +98,7 @@ pub record HashingPortion (s : Hash) (part : List ℕ) : Type 0 where
 
 pub record HashingEnd (s : Hash) : Type 0 where
   pub answer : IsFirst (hashing (s .taken) 0) (finishRow s)
-  pub refused : 1 ≤ finishRow s → finishDigest s ≡ zeros 32
+  pub refused : 1 ≤ finishRow s → (finishDigest s ≡ zeros 32) × (finishState s ≡ s)
 
 pub record HashingWhole (message : List ℕ) : Type 0 where
   pub answer : IsFirst (hashing 0 (length message)) (digestRow message)
@@ -112,6 +115,10 @@ pub record ContinuingRun (run : Run) (store : List ℕ) (budget : ℕ) : Type 0 
   pub refused :
       1 ≤ continueRow run (length store)
       → (runs.labelsIn (stamped run store) budget ≡ 0) × (runs.advanced (stamped run store) budget ≡ stamped run store)
+  -- 'Budget 0 and a finished run change nothing.'
+  pub idle :
+      (budget ≡ 0) ⊎ (2 ^ (run .depth + 1) - 1 ≤ run .made)
+      → (runs.labelsIn (stamped run store) budget ≡ 0) × (runs.advanced (stamped run store) budget ≡ stamped run store)
 
 pub record StartingOpening (statement : List ℕ) (n m leaf : ℕ) (store out : List ℕ) : Type 0 where
   pub answer :
@@ -124,6 +131,9 @@ pub record ContinuingOpening (o : Opening) (store out : List ℕ) (budget : ℕ)
   pub answer : IsFirst (continuingOpening o (length store) (length out)) (reopenRow o (length store) (length out))
   pub refused :
       1 ≤ reopenRow o (length store) (length out)
+      → (openings.labelsIn store (openOf o out) budget ≡ 0) × (openings.advanced store (openOf o out) budget ≡ openOf o out)
+  pub idle :
+      (budget ≡ 0) ⊎ (2 ^ (o .depth - o .memory + 1) - 2 ≤ o .made)
       → (openings.labelsIn store (openOf o out) budget ≡ 0) × (openings.advanced store (openOf o out) budget ≡ openOf o out)
 
 pub record AChallenge (n : ℕ) (statement root : List ℕ) (i : ℕ) : Type 0 where
@@ -190,6 +200,15 @@ pub record WritingNumber (out : List ℕ) (at x : ℕ) : Type 0 where
   pub answer : IsFirst (writingNumber out at x) (putRow out at x)
   pub refused : 1 ≤ putRow out at x → (putCount out at x ≡ 0) × (outputAfter out at x ≡ out)
 
+-- a number's refusal, 0 if it is read
+abbrev pub answerNumber : Answer → ℕ
+answerNumber (value x end) = 0
+answerNumber (refused r) = r
+
+-- reading lends nothing to write to; ten groups hold every number of 64 bits
+pub record ReadingNumber (bytes : List ℕ) (at most : ℕ) : Type 0 where
+  pub answer : IsFirst (readingNumber bytes at (min most 10)) (answerNumber (readAt bytes at (min most maxGroups)))
+
 pub record StartingFile (statement root : List ℕ) (n m t : ℕ) (store file : List ℕ) : Type 0 where
   pub answer : IsFirst (startingFile n m t (length store) (length file)) (writeRow n m t (length store) (length file))
   pub refused :
@@ -230,6 +249,7 @@ pub record Demand1 : Type 0 where
       (bytes statement : List ℕ) (n t : ℕ) (list : List ℕ) → ((j : ℕ) → getD bytes j 0 < 256) → DrawingChain bytes statement n t list
   pub planningProgram : (input : List ℕ) → PlanningProgram input
   pub comparing : (statement : List ℕ) (n : ℕ) (leaves openings : List ℕ) → Comparing statement n leaves openings
+  pub readingNumber : (bytes : List ℕ) (at most : ℕ) → ReadingNumber bytes at most
   pub writingNumber : (out : List ℕ) (at x : ℕ) → WritingNumber out at x
   pub startingFile :
       (statement root : List ℕ) (n m t : ℕ) (store file : List ℕ) → StartingFile statement root n m t store file

@@ -204,6 +204,28 @@ comparing n leaves size =
     ∷ (length leaves * (32 * (n + 1)) < size, 13)
     ∷ []
 
+-- a number of at most `most` bytes read at a place, by its bytes. The first i of them have their top bit set:
+abbrev pub GoOn : List ℕ → ℕ → ℕ → Type 0
+GoOn bytes at i = (j : ℕ) → j < i → 128 ≤ byteAt bytes (at + j)
+
+-- the bytes end before the number does
+abbrev pub NumberEnds : List ℕ → ℕ → ℕ → Type 0
+NumberEnds bytes at most = (i : ℕ) × (i < most) × GoOn bytes at i × (length bytes ≤ at + i)
+
+-- a last byte, after i others, that cannot be: the last of several is 0; or a tenth is above 1, which 64 bits do not hold
+abbrev pub NotLast : ℕ → ℕ → Type 0
+NotLast i byte = (byte < 128) × (((0 < i) × (byte ≡ 0)) ⊎ ((9 ≤ i) × (1 < byte)))
+
+-- the last allowed byte is above 127, or a last byte cannot be
+abbrev pub NotShortest : List ℕ → ℕ → ℕ → Type 0
+NotShortest bytes at most =
+    GoOn bytes at most
+    ⊎ ((i : ℕ) × (i < most) × GoOn bytes at i × (at + i < length bytes) × NotLast i (byteAt bytes (at + i)))
+
+-- 10; 11
+abbrev pub readingNumber : List ℕ → ℕ → ℕ → Row
+readingNumber bytes at most = (NumberEnds bytes at most, 10) ∷ (NotShortest bytes at most, 11) ∷ []
+
 -- a number's groups written from a place on: 7
 abbrev pub writingNumber : List ℕ → ℕ → ℕ → Row
 writingNumber out at x = (length out < at + length (groupsOf x), 7) ∷ []

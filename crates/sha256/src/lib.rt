@@ -15,7 +15,7 @@ ghost use Rattle.sha256.specs.Padding.{blocks};
 ghost use Rattle.sha256.specs.Digest.{hashAfter, digestOf};
 ghost use Rattle.base.specs.Limits.{maxHashed};
 ghost use Rattle.refusal.specs.Number.{outcomeNumber};
-ghost use Rattle.sha256.specs.Portions.{newHash, updateRow, updateState, finishRow, finishDigest, digestRow, digestAnswer};
+ghost use Rattle.sha256.specs.Portions.{newHash, updateRow, updateState, finishRow, finishDigest, finishState, digestRow, digestAnswer};
 use absorb::absorb;
 use encode::digest_bytes;
 use push::aligned;
@@ -125,7 +125,7 @@ impl Hash {
 
     // The digest of all that was taken.
     pub fn finish(self) -> Finished
-        ensures { λ r. ⌜ (outcomeNumber (r .outcome) ≡ finishRow self) × ((r .digest ≡ finishDigest self) × (r .hash ≡ self)) ⌝ }
+        ensures { λ r. ⌜ (outcomeNumber (r .outcome) ≡ finishRow self) × ((r .digest ≡ finishDigest self) × (r .hash ≡ finishState self)) ⌝ }
     {
         if too_many(self.taken, 0) {
             let digest = [0u8; 32];
