@@ -349,7 +349,13 @@ def plan_vectors():
     inputs += [b"002 003 0000000000000000000000003", b"2 " + b"1 " * 200, b"2 " + b"1 " * 201, b"41 " + b"1 " * 201]
     inputs += [b"2 " + b"1 " * 200 + b"9"]
     inputs += [b" " * 65533 + b"1 0", b" " * 65533 + b"1 0 "]
+    inputs += [b"2 0".ljust(65536), b"2 0".ljust(65536) + b"x"]
     return "".join(map(md.planning, inputs))
+
+
+def plans(stored):
+    """The planning program's lines that are no complaint of its own."""
+    return [line for line in stored if not line.startswith("plan: ")]
 
 
 # examples/seal_and_check

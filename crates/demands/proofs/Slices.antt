@@ -23,7 +23,8 @@ module _ (bytes statement : List ℕ) (n t : ℕ) (small : (j : ℕ) → getD by
       ((λ x. demand2 .accepted bytes statement n t small .0 zero-code), (λ p. refl))
 
   pub is-rejected : (r : Refusal) (i : ℕ) → check ≡ Rejected r i → (false ≡ true) ↔ IsProof bytes statement n t
-  is-rejected r i e =
-      ((λ x. let no : _≡_ {A = ℕ} 0 1 = cc in absurd (omega arith)),
-      (λ p. let code : codeOf (Rejected r i) ≡ 0 = sym (ap codeOf e) ∙ is ∙ demand2 .accepted bytes statement n t small .1 p in
-      absurd (omega (arith, number-some r))))
+  is-rejected r i e = (
+    (λ x. let no : _≡_ {A = ℕ} 0 1 = cc in absurd (omega arith)),
+    (λ p. let code : codeOf (Rejected r i) ≡ 0 = sym (ap codeOf e) ∙ is ∙ demand2 .accepted bytes statement n t small .1 p in
+        absurd (omega (arith, number-some r))),
+  )
