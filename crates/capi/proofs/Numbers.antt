@@ -1,9 +1,9 @@
 -- Equal drawings have the same numbers, and so have equal pairs and equal heads.
 use mathlib.Core.Path.{_≡_, ap}
-use Rattle.proof.specs.Head.{HeadAnswer}
+use Rattle.proof.specs.Head.{HeadAnswer, headRefusal, headDepth, headCount}
 use Rattle.compare.specs.declared.Pair.{Pair}
 use Rattle.draw.specs.Drawing.{DrawingAnswer}
-use Rattle.capi.specs.Answers.{firstOf, secondOf, levelOf, kindOf, refusalOf, countOf, headRefusal, headDepth, headCount}
+use Rattle.capi.specs.Answers.{firstOf, secondOf, levelOf, kindOf, refusalOf, countOf}
 
 pub same-numbers :
     (d e : DrawingAnswer) →

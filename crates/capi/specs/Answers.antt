@@ -1,6 +1,5 @@
 -- Answers that are enums, as numbers: one definition for each number, 0 where the case has none.
 use Prim.Native.Nat.{ℕ}
-use Rattle.proof.specs.Head.{HeadAnswer, numbers, notRead}
 use Rattle.compare.specs.declared.Pair.{Pair}
 use Rattle.compare.specs.declared.Pair.the-variants.{Agree, Disagree}
 use Rattle.draw.specs.Drawing.{DrawingAnswer, notDrawn, drawnChain, drawnClash}
@@ -34,16 +33,3 @@ abbrev pub countOf : DrawingAnswer → ℕ
 countOf (notDrawn code) = 0
 countOf (drawnChain count) = count
 countOf (drawnClash i j l) = 0
-
--- a head that is read: no refusal, with depth and count; or the refusal
-abbrev pub headRefusal : HeadAnswer → ℕ
-headRefusal (numbers n t at) = 0
-headRefusal (notRead r) = r
-
-abbrev pub headDepth : HeadAnswer → ℕ
-headDepth (numbers n t at) = n
-headDepth (notRead r) = 0
-
-abbrev pub headCount : HeadAnswer → ℕ
-headCount (numbers n t at) = t
-headCount (notRead r) = 0

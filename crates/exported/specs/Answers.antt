@@ -14,7 +14,7 @@ use Rattle.opening.specs.Possible.{openOf}
 use Rattle.opening.specs.Steps as openings
 use Rattle.proof.specs.declared.place.Place.{Place}
 use Rattle.proof.specs.Challenge.{challengeRow, challenged}
-use Rattle.proof.specs.Head.{headOf, partStart, partLength}
+use Rattle.proof.specs.Head.{headRefusal, headDepth, headCount, headOf, partStart, partLength}
 use Rattle.writing.specs.declared.Writing.{Writing}
 use Rattle.writing.specs.Rows.{writeRow, rewriteRow}
 use Rattle.writing.specs.Possible.{writtenOf}
@@ -23,7 +23,7 @@ use Rattle.chain.specs.PlanRow.{planRow, plannedCount}
 use Rattle.compare.specs.declared.Pair.{Pair}
 use Rattle.compare.specs.Comparison.{compareRow, compared, firstInput, secondInput}
 use Rattle.draw.specs.Drawing.{DrawingAnswer, drawingOf, firstDrawn, secondDrawn, clashPair}
-use Rattle.capi.specs.Answers.{firstOf, secondOf, levelOf, kindOf, refusalOf, countOf, headRefusal, headDepth, headCount}
+use Rattle.capi.specs.Answers.{firstOf, secondOf, levelOf, kindOf, refusalOf, countOf}
 use Rattle.capi.specs.declared.hashes.HashUpdated.{HashUpdated}
 use Rattle.capi.specs.declared.hashes.HashFinished.{HashFinished}
 use Rattle.capi.specs.declared.hashes.HashDigest.{HashDigest}

@@ -1,7 +1,6 @@
 // The depth and count of a head.
 ghost use mathlib.Core.Path.{_≡_};
-ghost use Rattle.proof.specs.Head.{headOf};
-ghost use Rattle.judge.specs.Wanted.{depthIn, countIn};
+ghost use Rattle.proof.specs.Head.{headDepth, headCount, headOf};
 use proof::HeadNumbers;
 use proof::read_head;
 
@@ -13,7 +12,7 @@ pub struct Wanted {
 
 // Those of the head, or 0 and 0 if it cannot be read.
 pub fn wanted_in(file: &[u8]) -> Wanted
-    ensures { λ r. ⌜ (r .depth ≡ depthIn (headOf (now (file .entry)))) × (r .count ≡ countIn (headOf (now (file .entry)))) ⌝ }
+    ensures { λ r. ⌜ (r .depth ≡ headDepth (headOf (now (file .entry)))) × (r .count ≡ headCount (headOf (now (file .entry)))) ⌝ }
 {
     let head = read_head(file);
     match head {

@@ -23,6 +23,19 @@ abbrev pub headAnswer : HeadNumbers → HeadAnswer
 headAnswer (Numbers n t c) = numbers n t (c .at)
 headAnswer (NotRead r) = notRead (numberOf r)
 
+-- a head's refusal, 0 if it is read, and its depth and count, 0 and 0 if it is refused
+abbrev pub headRefusal : HeadAnswer → ℕ
+headRefusal (numbers n t at) = 0
+headRefusal (notRead r) = r
+
+abbrev pub headDepth : HeadAnswer → ℕ
+headDepth (numbers n t at) = n
+headDepth (notRead r) = 0
+
+abbrev pub headCount : HeadAnswer → ℕ
+headCount (numbers n t at) = t
+headCount (notRead r) = 0
+
 -- a number that was read, tested; then what follows it
 abbrev pub checked : Answer → (ℕ → Bool) → ℕ → (ℕ → ℕ → HeadAnswer) → HeadAnswer
 checked (value x at) bad number next = pick (bad x) (notRead number) (next x at)
