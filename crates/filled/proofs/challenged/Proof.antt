@@ -1,18 +1,22 @@
+-- `filled::challenged` meets its contract. The invariant: the first i leaves are those of challenges 1 to i. The measure is what is left.
 use Prim.Native.Nat.{_≤_, _-_}
-use lib.ListN.{length}
+use native.Mathlib.Omega.{arith}
+use lib.ListN.{length, take}
+use Rattle.filled.specs.Whole.{leavesTo}
+use Rattle.filled.proofs.WholeLaws.{leaves-none, leaves-more, leaves-all}
 use mathlib.Core.Path.{_≡_}
 use borrow.Author.Needs.{needs}
 use Rattle.filled.proofs.challenged.Statement.{statement}
 use Rattle.filled.proofs.challenged.Tie as tie
 
 abbrev Inv-loop : tie.InvT-loop
-Inv-loop depth statement root leaves₀ i₀ leaves i = (i ≤ 200) × (length leaves ≡ 200)
+Inv-loop depth statement root leaves₀ i₀ leaves i = (i ≤ 200) × (length leaves ≡ 200) × (take i leaves ≡ leavesTo depth statement root i)
 
 abbrev μ-loop : tie.MeasureT-loop
 μ-loop depth statement root leaves₀ i₀ leaves i = 200 - i
 
 loop-holds : tie.Need-loop-holds Inv-loop μ-loop
-loop-holds c = search needs
+loop-holds c = (omega arith, search needs, leaves-none (c .args .depth) (c .args .statement) (c .args .root))
 
 add-challenge : tie.Need-add-challenge Inv-loop μ-loop
 add-challenge c = search needs
@@ -33,10 +37,16 @@ loop-less : tie.Need-loop-less Inv-loop μ-loop
 loop-less c = search needs
 
 loop-again : tie.Need-loop-again Inv-loop μ-loop
-loop-again c = search needs
+loop-again c =
+    let a = c .before .before .before .args in
+    let l = c .before .before .loop in
+    (omega arith, search needs, leaves-more (a .depth) (a .statement) (a .root) (l .leaves) (l .i) _ (omega arith) (l .inv .2) (c .challenge .ensures .1))
 
 returns : tie.Need-returns Inv-loop μ-loop
-returns c = search needs
+returns c =
+    let a = c .before .before .args in
+    let l = c .before .loop in
+    leaves-all (a .depth) (a .statement) (a .root) (l .leaves) (l .i) (omega arith) (l .inv .1) (l .inv .2)
 
 pub challenged-spec : {M : Type 1} → statement M
 challenged-spec =
