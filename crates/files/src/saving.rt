@@ -134,26 +134,38 @@ fn has_bytes(path: &[u8], bytes: &[u8]) -> bool {
     are_same(&place[..size], bytes)
 }
 
+// Whether the temporary name leads to the file that is open, and that has these bytes and no more.
+fn is_as_written(fd: i32, part: &[u8], bytes: &[u8], err: i32) -> bool {
+    if !has_bytes(part, bytes) {
+        complain(
+            err,
+            part,
+            b"cannot be read back as written: removed or changed by another program, or not readable",
+        );
+        return false;
+    }
+    if !same_file::names(fd, part) {
+        complain(
+            err,
+            part,
+            b"not the file that was written: removed or exchanged by another program",
+        );
+        return false;
+    }
+    true
+}
+
 // Writes the proof over its room. Answers whether the temporary file has it.
 fn fill_part(fd: i32, part: &[u8], bytes: &[u8], err: i32) -> bool {
     libc::lseek(fd, 0, libc::SEEK_SET);
-    let written = write_synced(fd, bytes);
-    if !written {
+    if !write_synced(fd, bytes) {
         complain_of(err, part, os::errno());
-    }
-    libc::close(fd);
-    if !written {
+        libc::close(fd);
         return false;
     }
-    if has_bytes(part, bytes) {
-        return true;
-    }
-    complain(
-        err,
-        part,
-        b"cannot be read back as written: removed or changed by another program, or not readable",
-    );
-    false
+    let written = is_as_written(fd, part, bytes, err);
+    libc::close(fd);
+    written
 }
 
 // Writes the proof under a third name, since the temporary file has it not.
