@@ -46,15 +46,31 @@ fn taken() {
     show(b"taken.proof.part");
 }
 
+fn replace(bytes: &[u8], proof: &[u8], name: &[u8], kept: &[u8]) {
+    let part = make_part(proof, 3, 1);
+    os::unlink(name);
+    make(name, bytes, false);
+    keep(part, proof);
+    show(proof);
+    show(name);
+    show(kept);
+}
+
 fn replaced() {
     say(b"> the temporary file is replaced meanwhile\n");
-    let part = make_part(b"moved.proof", 3, 1);
-    os::unlink(b"moved.proof.part");
-    make(b"moved.proof.part", b"xyz", false);
-    keep(part, b"moved.proof");
-    show(b"moved.proof");
-    show(b"moved.proof.part");
-    show(b"moved.proof.kept");
+    replace(
+        b"xyz",
+        b"moved.proof",
+        b"moved.proof.part",
+        b"moved.proof.kept",
+    );
+    say(b"> the same by a file of the same bytes\n");
+    replace(
+        b"abc",
+        b"equal.proof",
+        b"equal.proof.part",
+        b"equal.proof.kept",
+    );
 }
 
 // No folder of the name is there.
