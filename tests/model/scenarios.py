@@ -156,6 +156,7 @@ weigh"""
 MEANWHILE = """> the room of a proof of three bytes, and the proof
 > the name is taken meanwhile
 > the temporary file is replaced meanwhile
+> the same by a file of the same bytes
 > the proof cannot be renamed
 > a disk with no room
 > a disk that cannot be synced
