@@ -163,6 +163,14 @@ MEANWHILE = """> the room of a proof of three bytes, and the proof
 """
 
 
+def not_written(folder):
+    """Answers to a descriptor that can only be read: the labels told, and the proof that stands all the same."""
+    text = "> standard output cannot be written\n"
+    for line in ("verify report report.proof", "chain report report.proof", "seal report unsaid.proof 3 2"):
+        text += f"> mastdock {line}\n" + told(folder, *line.split(" "))[1]
+    return text + run(folder, "verify report unsaid.proof")
+
+
 def scenarios():
     files = data("mastdock_scenarios")
     folder = Folder({**files, "locked": None, "large.proof": bytes(LARGEST + 1), "left.proof.part": b""})
@@ -171,7 +179,7 @@ def scenarios():
     text += "".join(run(folder, line) for line in files["scenarios"].decode().splitlines())
     text += "> a path of 256 bytes, and one of 4091\n> a clash\n" + clash(2, 5, 1, bytes([10] * 105), bytes([171] * 105))
     folder.files.update({"long": large(b"h"), "changed": large(b"H")})
-    text += "".join(run_apart(folder, line) for line in APART.splitlines()) + MEANWHILE
+    text += "".join(run_apart(folder, line) for line in APART.splitlines()) + not_written(folder) + MEANWHILE
     folder.folders.add("dark")
     text += run(folder, "seal report dark/x.proof 3 2") + run(folder, "verify report dark/x.proof")
     closed = "seal report closed.proof 3 2"

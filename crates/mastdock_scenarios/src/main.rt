@@ -147,6 +147,7 @@ fn main() {
     long_paths();
     clash();
     streams::apart();
+    streams::not_written();
     meanwhile::all();
     streams::closed();
 }

@@ -64,6 +64,17 @@ pub fn apart() {
     run_apart(b"weigh");
 }
 
+// A verdict, a chain and the facts of a seal to a descriptor that can only be read.
+pub fn not_written() {
+    say(b"> standard output cannot be written\n");
+    let fd = os::open_read(b"report");
+    run_on(b"verify report report.proof", fd, 1);
+    run_on(b"chain report report.proof", fd, 1);
+    run_on(b"seal report unsaid.proof 3 2", fd, 1);
+    libc::close(fd);
+    run(b"verify report unsaid.proof");
+}
+
 // The next file that is opened does not get the number of a standard descriptor.
 fn opened() {
     let fd = os::open_read(b"report");
