@@ -9,7 +9,9 @@ use lib.Seq.{paste, paste-suc, take-all, sets, sets-eq}
 use Rattle.base.specs.Bytes.{written}
 
 -- one byte more
-pub copied-one : (d₀ d : List ℕ) (at : ℕ) (s : List ℕ) (i : ℕ) → d ≡ paste d₀ at s i → at + i < length d₀ → i < length s → set d (at + i) (getD s i 0) ≡ paste d₀ at s (i + 1)
+pub copied-one :
+    (d₀ d : List ℕ) (at : ℕ) (s : List ℕ) (i : ℕ) → d ≡ paste d₀ at s i → at + i < length d₀ → i < length s
+    → set d (at + i) (getD s i 0) ≡ paste d₀ at s (i + 1)
 copied-one d₀ d at s i e hd hs = rw (add-one i, e) (paste-suc d₀ at s i 0 hd hs)
 
 -- all of them

@@ -1,13 +1,13 @@
 // Challenges, the head, and the checks of openings and files.
 ghost use mathlib.Core.Path.{_≡_};
 ghost use lib.ListN.{length};
-ghost use Rattle.verify.specs.OpeningCheck.{openingRow};
-ghost use Rattle.proof.specs.Challenge.{challengeRow, challenged};
-ghost use Rattle.proof.specs.Layout.{headRow, headWritten};
-ghost use Rattle.proof.specs.Head.{headAnswer, headRefusal, headDepth, headCount, headOf, partStart, partLength};
-ghost use Rattle.proof.specs.FileCheck.{fileCheck};
-use proof::HeadNumbers;
-use proof::Place;
+ghost use Rattle.opening_check.specs.OpeningCheck.{openingRow};
+ghost use Rattle.proof_file.specs.Challenge.{challengeRow, challenged};
+ghost use Rattle.proof_file.specs.Layout.{headRow, headWritten};
+ghost use Rattle.proof_file.specs.Head.{headAnswer, headRefusal, headDepth, headCount, headOf, partStart, partLength};
+ghost use Rattle.proof_file.specs.FileCheck.{fileCheck};
+use proof_file::HeadNumbers;
+use proof_file::Place;
 use refusal::outcome_number;
 
 #[repr(C)]
@@ -27,7 +27,7 @@ pub extern "C" fn mastdock_challenge(
     ensures { λ r. ⌜ r .refusal ≡ challengeRow depth i ⌝ }
     ensures { λ r. ⌜ r .leaf ≡ challenged depth (now (statement .entry)) (now (root .entry)) i ⌝ }
 {
-    let c = proof::challenge(depth, *statement, *root, i);
+    let c = proof_file::challenge(depth, *statement, *root, i);
     let outcome = c.outcome;
     let leaf = c.leaf;
     Challenged {
@@ -48,7 +48,7 @@ pub extern "C" fn mastdock_write_head(
     ensures { λ r. ⌜ r ≡ headRow depth count (length (now (file .entry))) ⌝ }
     ensures { λ _. ⌜ now (file .exit) ≡ headWritten (now (statement .entry)) (now (root .entry)) depth count (now (file .entry)) ⌝ }
 {
-    let outcome = proof::write_head(*statement, *root, depth, count, file);
+    let outcome = proof_file::write_head(*statement, *root, depth, count, file);
     outcome_number(outcome)
 }
 
@@ -84,7 +84,7 @@ pub extern "C" fn mastdock_read_head(file: &[u8]) -> HeadRead
     ensures { λ r. ⌜ r .depth ≡ headDepth (headOf (now (file .entry))) ⌝ }
     ensures { λ r. ⌜ r .count ≡ headCount (headOf (now (file .entry))) ⌝ }
 {
-    let numbers = proof::read_head(file);
+    let numbers = proof_file::read_head(file);
     head_read(numbers)
 }
 
@@ -94,7 +94,7 @@ pub extern "C" fn mastdock_opening_place(file: &[u8], i: u64) -> Place
     ensures { λ r. ⌜ r .offset ≡ partStart (now (file .entry)) i (headOf (now (file .entry))) ⌝ }
     ensures { λ r. ⌜ r .length ≡ partLength (now (file .entry)) i (headOf (now (file .entry))) ⌝ }
 {
-    proof::opening_place(file, i)
+    proof_file::opening_place(file, i)
 }
 
 // One opening checked: the refusal alone.
@@ -108,7 +108,7 @@ pub extern "C" fn mastdock_check_opening(
 ) -> u64
     ensures { λ r. ⌜ r ≡ openingRow (now (statement .entry)) depth leaf (now (root .entry)) (now (opening .entry)) ⌝ }
 {
-    let outcome = verify::check_opening(*statement, depth, leaf, *root, opening);
+    let outcome = opening_check::check_opening(*statement, depth, leaf, *root, opening);
     outcome_number(outcome)
 }
 
@@ -122,5 +122,5 @@ pub extern "C" fn mastdock_check_file(
 ) -> u64
     ensures { λ r. ⌜ r ≡ fileCheck (now (file .entry)) (now (statement .entry)) depth count ⌝ }
 {
-    proof::check_file_code(file, *statement, depth, count)
+    proof_file::check_file_code(file, *statement, depth, count)
 }

@@ -16,11 +16,11 @@ use Rattle.refusal.specs.declared.Refusal.the-variants.{ShortList}
 use Rattle.refusal.specs.Number.{numberOf}
 use Rattle.refusal.specs.Row.{outside}
 use Rattle.refusal.proofs.RowLaws.{NoneHolds, none-holds, row-refused, row-passed, not-done}
-use Rattle.ways.specs.Ways.{chain}
-use Rattle.ways.specs.Planning.{every, isLeaf, sorted, planFrom, plan}
-use Rattle.ways.proofs.Sorting.{every-sorted, length-sorted}
-use Rattle.ways.proofs.Plan.{plan-chain}
-use Rattle.ways.proofs.Bound.{leavesOpened-le, plan-length}
+use Rattle.chain_theory.specs.Ways.{chain}
+use Rattle.chain_theory.specs.Planning.{every, isLeaf, sorted, planFrom, plan}
+use Rattle.chain_theory.proofs.Sorting.{every-sorted, length-sorted}
+use Rattle.chain_theory.proofs.Plan.{plan-chain}
+use Rattle.chain_theory.proofs.Bound.{leavesOpened-le, plan-length}
 use Rattle.chain.specs.PlanRow.{planRow, plannedCount, plannedList}
 use Rattle.chain.specs.Place.{Leaves, leavesRow}
 
@@ -68,7 +68,13 @@ module _ (n : ℕ) (leaves : List ℕ) (done : leavesRow n leaves ≡ 0) where
 
   pub leaves-known : Leaves n leaves
   leaves-known =
-      record { depth = below 1 maxDepth n (passed .0); few = below 1 maxChallenges (length leaves) (passed .1 .0); inside = not-false _ (passed .1 .1 .0) }
+      record {
+        depth =
+            below 1 maxDepth n (passed .0);
+        few = below 1 maxChallenges (length leaves) (passed .1 .0);
+        inside = not-false _
+            (passed .1 .1 .0);
+      }
 
   -- the list is the last check
   pub list-check : (list : ℕ) → planRow n leaves list ≡ pick (ltb list (length (chain n leaves))) 16 0
@@ -99,7 +105,8 @@ leaves-refused n leaves list r e =
     refused n leaves list r
     (e ∙ sym (row-refused (leavesChecks n leaves) ((ltb (length list) (length (chain n leaves)), 16) ∷ []) (not-done r (leavesRow n leaves) e)))
 
-module _ (n : ℕ) (leaves xs list : List ℕ) (count : ℕ) (done : leavesRow n leaves ≡ 0) (e : xs ≡ sorted leaves) (k : count ≡ length (planFrom n xs)) where
+module _ (n : ℕ) (leaves xs list : List ℕ) (count : ℕ) (done : leavesRow n leaves ≡ 0) (e : xs ≡ sorted leaves)
+    (k : count ≡ length (planFrom n xs)) where
   chain-count : count ≡ length (chain n leaves)
   unfolding plan
   chain-count = k ∙ rw e (plan-length n leaves (leaves-known n leaves done .inside))

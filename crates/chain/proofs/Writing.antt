@@ -7,8 +7,8 @@ use mathlib.Core.List.{List, [], _∷_, _++_, append-nil}
 use lib.ListN.{length, set, drop, length-set, length-append, take-append-drop}
 use Rattle.base.specs.Bytes.{written}
 use Rattle.base.proofs.Copying.{written-sets}
-use Rattle.ways.specs.Planning.{climb, nextCode, planFrom}
-use Rattle.ways.proofs.Turns.{climb-step, climb-out, planFrom-turn, next-leaf}
+use Rattle.chain_theory.specs.Planning.{climb, nextCode, planFrom}
+use Rattle.chain_theory.proofs.Turns.{climb-step, climb-out, planFrom-turn, next-leaf}
 
 pub written-none : (d : List ℕ) (at : ℕ) → written d at [] ≡ d
 unfolding written
@@ -45,14 +45,17 @@ pub all-written : (d whole : List ℕ) (at : ℕ) (left : List ℕ) → left ≡
 all-written d whole at left e w = sym (written-none d at) ∙ (rw e at w)
 
 -- the climb of the leaf at i, by its code and the next one's, and what the leaves after it write
-module _ (n : ℕ) (xs : List ℕ) (i code next : ℕ) (h : i < length xs) (e : code ≡ nextCode n (drop i xs)) (f : next ≡ nextCode n (drop (i + 1) xs)) where
+module _ (n : ℕ) (xs : List ℕ) (i code next : ℕ) (h : i < length xs) (e : code ≡ nextCode n (drop i xs))
+    (f : next ≡ nextCode n (drop (i + 1) xs)) where
   plan-turn : planFrom n (drop i xs) ≡ climb (n + 1) code next ++ planFrom n (drop (i + 1) xs)
   plan-turn = rw (e, f, next-leaf n xs i h) (planFrom-turn n xs i h)
 
   pub plan-count : length (planFrom n (drop i xs)) ≡ length (climb (n + 1) code next) + length (planFrom n (drop (i + 1) xs))
   plan-count = rw (plan-turn, length-append)
 
-  pub plan-written : (d after : List ℕ) (at end : ℕ) → at + length (planFrom n (drop i xs)) ≤ length d → after ≡ written d at (climb (n + 1) code next)
+  pub plan-written :
+      (d after : List ℕ) (at end : ℕ) → at + length (planFrom n (drop i xs)) ≤ length d
+      → after ≡ written d at (climb (n + 1) code next)
       → end ≡ at + length (climb (n + 1) code next) → written after end (planFrom n (drop (i + 1) xs)) ≡ written d at (planFrom n (drop i xs))
   plan-written d after at end k g m =
       rw (g, m, plan-turn) (sym (written-append d at (climb (n + 1) code next) (planFrom n (drop (i + 1) xs)) (rw plan-turn at k)))

@@ -8,8 +8,8 @@ use Rattle.base.specs.Choice.{pick}
 use Rattle.base.specs.Bytes.{written}
 use Rattle.base.specs.Limits.{maxDepth, maxChallenges}
 use Rattle.refusal.specs.Row.{firstOf, outside, isDone}
-use Rattle.ways.specs.Planning.{every, isLeaf}
-use Rattle.ways.specs.Ways.{chain, chainCodes}
+use Rattle.chain_theory.specs.Planning.{every, isLeaf}
+use Rattle.chain_theory.specs.Ways.{chain, chainCodes}
 
 -- 1; 8: not 1..200 leaves; 6; 16: list short
 unfoldable pub planRow : ℕ → List ℕ → ℕ → ℕ

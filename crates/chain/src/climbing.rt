@@ -4,7 +4,7 @@ ghost use Prim.Native.Nat.{_+_, _^_, _≤_, _<_};
 ghost use lib.ListN.{length, drop};
 ghost use Rattle.base.specs.Bytes.{written};
 ghost use Rattle.base.specs.Limits.{maxDepth};
-ghost use Rattle.ways.specs.Planning.{climb, nextCode, planFrom};
+ghost use Rattle.chain_theory.specs.Planning.{climb, nextCode, planFrom};
 ghost use Rattle.chain.specs.Place.{Leaves};
 
 // 2^n, the number of leaves and the code of the first.

@@ -1,18 +1,18 @@
 // The shared vectors of chains, which are the standard input: each file written from its report and drawn, with a list just long
 // enough, one that is longer and one that is short, and the same chain planned. The stored output has the vectors' digests and an
 // independent model's.
-use carried::hash;
 use chain::plan;
 use draw::Drawing;
 use draw::draw;
-use filled::challenged;
-use filled::most;
-use filled::places_digest;
-use filled::write_file;
-use proof::check_file_code;
+use proof_file::check_file_code;
 use refusal::number;
 use refusal::outcome_number;
-use show::column;
+use vector_runs::challenged;
+use vector_runs::hash;
+use vector_runs::most;
+use vector_runs::places_digest;
+use vector_runs::write_file;
+use vector_text::column;
 
 // Room for the longest file, and a byte more.
 fn file_space() -> [u8; 83269] {
@@ -25,24 +25,24 @@ fn list_space() -> [u64; 1064] {
 }
 
 fn places_line(list: &[u64]) {
-    show::text(b" ");
-    show::hex(&places_digest(list));
-    show::text(b"\n");
+    vector_text::text(b" ");
+    vector_text::hex(&places_digest(list));
+    vector_text::text(b"\n");
 }
 
 fn drawing_line(drawing: Drawing) {
     match drawing {
         Drawing::NotDrawn(why, opening) => {
-            show::text(b" refused");
+            vector_text::text(b" refused");
             column(number(why));
             column(opening as u64);
         }
         Drawing::Chain(count) => {
-            show::text(b" chain");
+            vector_text::text(b" chain");
             column(count);
         }
         Drawing::Clash(i, j, level) => {
-            show::text(b" clash");
+            vector_text::text(b" clash");
             column(i);
             column(j);
             column(level);
@@ -52,16 +52,16 @@ fn drawing_line(drawing: Drawing) {
 
 // Draws to a list: the answer, the inputs' digests, and the list afterwards.
 fn drawn(name: &[u8], file: &[u8], statement: [u8; 32], depth: u64, count: u64, list: &mut [u64]) {
-    show::text(name);
+    vector_text::text(name);
     let drawn = draw(file, statement, depth, count, list);
     let drawing = drawn.drawing;
     drawing_line(drawing);
     let first = drawn.first;
     let second = drawn.second;
-    show::text(b" ");
-    show::hex(&hash(&first));
-    show::text(b" ");
-    show::hex(&hash(&second));
+    vector_text::text(b" ");
+    vector_text::hex(&hash(&first));
+    vector_text::text(b" ");
+    vector_text::hex(&hash(&second));
     places_line(list);
 }
 
@@ -75,7 +75,7 @@ fn drawn_at(name: &[u8], file: &[u8], statement: [u8; 32], depth: u64, count: u6
 
 // Plans the chain of so many leaves to so many places.
 fn planned(depth: u64, leaves: &[u64], list: &mut [u64]) {
-    show::text(b"planned");
+    vector_text::text(b"planned");
     let p = plan(depth, leaves, list);
     let outcome = p.outcome;
     column(outcome_number(outcome));
@@ -103,12 +103,12 @@ fn changed(file: &mut [u8], statement: [u8; 32], depth: u64, count: u64, at: usi
 
 // The file's length, digest and answer; then what is drawn from it.
 fn file_lines(file: &mut [u8], statement: [u8; 32], depth: u64, count: u64, places: usize) {
-    show::text(b"file");
+    vector_text::text(b"file");
     column(file.len() as u64);
-    show::text(b" ");
-    show::hex(&hash(file));
+    vector_text::text(b" ");
+    vector_text::hex(&hash(file));
     column(check_file_code(file, statement, depth, count));
-    show::text(b"\n");
+    vector_text::text(b"\n");
     drawn_at(b"just enough", file, statement, depth, count, places);
     drawn_at(b"more", file, statement, depth, count, 1064);
     if 0 < places {
@@ -124,8 +124,8 @@ fn level(statement: [u8; 32], depth: u64, memory: u64, count: u64, size: usize, 
     let mut file = file_space();
     let root = write_file(statement, depth, memory, count, &mut file);
     if size < 83269 {
-        column(vectors::wide(file[size]));
-        show::text(b"\n");
+        column(vector_text::wide(file[size]));
+        vector_text::text(b"\n");
         file_lines(&mut file[..size], statement, depth, count, places);
     }
     let leaves = challenged(depth, statement, root);
@@ -134,24 +134,24 @@ fn level(statement: [u8; 32], depth: u64, memory: u64, count: u64, size: usize, 
 
 fn vector(line: &[u8]) {
     let mut report = [0u8; 64];
-    let length = vectors::decode(vectors::field(line, 0), &mut report);
+    let length = vector_text::decode(vector_text::field(line, 0), &mut report);
     let statement = hash(&report[..length]);
-    let depth = vectors::decimal(vectors::field(line, 1));
-    let count = vectors::decimal(vectors::field(line, 2));
-    let size = vectors::decimal(vectors::field(line, 3)) as usize;
-    let places = vectors::decimal(vectors::field(line, 5)) as usize;
-    show::text(b"vector");
+    let depth = vector_text::decimal(vector_text::field(line, 1));
+    let count = vector_text::decimal(vector_text::field(line, 2));
+    let size = vector_text::decimal(vector_text::field(line, 3)) as usize;
+    let places = vector_text::decimal(vector_text::field(line, 5)) as usize;
+    vector_text::text(b"vector");
     level(statement, depth, most(depth), count, size, places);
-    show::text(b"vector");
+    vector_text::text(b"vector");
     level(statement, depth, 8, count, size, places);
 }
 
 fn every_line(text: &[u8]) {
     let mut at: usize = 0;
     while at < text.len() {
-        let end = vectors::line_end(text, at);
+        let end = vector_text::line_end(text, at);
         let line = &text[at..end];
-        if !vectors::is_comment(line) {
+        if !vector_text::is_comment(line) {
             vector(line);
         }
         at = end + 1;

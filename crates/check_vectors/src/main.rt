@@ -2,33 +2,33 @@
 // them in one bit; the row of a challenge and that of a file's head at their edges. The stored output has the vectors' answers
 // and an independent model's.
 ghost use Prim.Native.Nat.{_<_, _≤_};
-use carried::hash;
-use proof::challenge;
-use proof::check_file_code;
-use proof::write_head;
+use proof_file::challenge;
+use proof_file::check_file_code;
+use proof_file::write_head;
 use refusal::outcome_number;
-use show::column;
+use vector_runs::hash;
+use vector_text::column;
 
 // The depth and count wanted, and the answer.
 fn vector(line: &[u8]) {
     let mut space = [0u8; 1024];
-    let size = vectors::decode(vectors::field(line, 0), &mut space);
-    let statement = vectors::digest(vectors::field(line, 1));
-    let depth = vectors::decimal(vectors::field(line, 2));
-    let count = vectors::decimal(vectors::field(line, 3));
-    show::text(b"vector");
+    let size = vector_text::decode(vector_text::field(line, 0), &mut space);
+    let statement = vector_text::digest(vector_text::field(line, 1));
+    let depth = vector_text::decimal(vector_text::field(line, 2));
+    let count = vector_text::decimal(vector_text::field(line, 3));
+    vector_text::text(b"vector");
     column(depth);
     column(count);
     column(check_file_code(&space[..size], statement, depth, count));
-    show::text(b"\n");
+    vector_text::text(b"\n");
 }
 
 fn every_line(text: &[u8]) {
     let mut at: usize = 0;
     while at < text.len() {
-        let end = vectors::line_end(text, at);
+        let end = vector_text::line_end(text, at);
         let line = &text[at..end];
-        if !vectors::is_comment(line) {
+        if !vector_text::is_comment(line) {
             vector(line);
         }
         at = end + 1;
@@ -47,7 +47,7 @@ fn flipped(file: [u8; 131], statement: [u8; 32], i: usize, mask: u8)
 fn flipped_byte(file: [u8; 131], statement: [u8; 32], i: usize)
     requires { ⌜ i < 131 ⌝ }
 {
-    show::text(b"flipped");
+    vector_text::text(b"flipped");
     flipped(file, statement, i, 1);
     flipped(file, statement, i, 2);
     flipped(file, statement, i, 4);
@@ -56,7 +56,7 @@ fn flipped_byte(file: [u8; 131], statement: [u8; 32], i: usize)
     flipped(file, statement, i, 32);
     flipped(file, statement, i, 64);
     flipped(file, statement, i, 128);
-    show::text(b"\n");
+    vector_text::text(b"\n");
 }
 
 fn every_bit(file: [u8; 131], statement: [u8; 32]) {
@@ -77,24 +77,24 @@ fn cut(bytes: &[u8], size: usize, statement: [u8; 32]) {
 // The file of the first vector whole, empty, a byte short and with a byte more; then with each bit changed.
 fn small(line: &[u8]) {
     let mut space = [0u8; 132];
-    vectors::decode(vectors::field(line, 0), &mut space);
+    vector_text::decode(vector_text::field(line, 0), &mut space);
     let mut file = [0u8; 131];
-    vectors::decode(vectors::field(line, 0), &mut file);
-    let statement = vectors::digest(vectors::field(line, 1));
-    show::text(b"lengths");
+    vector_text::decode(vector_text::field(line, 0), &mut file);
+    let statement = vector_text::digest(vector_text::field(line, 1));
+    vector_text::text(b"lengths");
     cut(&space, 131, statement);
     cut(&space, 0, statement);
     cut(&space, 130, statement);
     cut(&space, 132, statement);
-    show::text(b"\n");
+    vector_text::text(b"\n");
     every_bit(file, statement);
 }
 
 // The line behind the comment.
 fn first(text: &[u8]) {
-    let comment = vectors::line_end(text, 0);
+    let comment = vector_text::line_end(text, 0);
     if comment < text.len() {
-        let end = vectors::line_end(text, comment + 1);
+        let end = vector_text::line_end(text, comment + 1);
         small(&text[comment + 1..end]);
     }
 }
@@ -103,12 +103,12 @@ fn first(text: &[u8]) {
 fn challenged(n: u64, i: u64) {
     let c = challenge(n, hash(b"challenged"), hash(b"root"), i);
     let outcome = c.outcome;
-    show::text(b"challenge");
+    vector_text::text(b"challenge");
     column(n);
     column(i);
     column(outcome_number(outcome));
     column(c.leaf);
-    show::text(b"\n");
+    vector_text::text(b"\n");
 }
 
 fn challenges_at(n: u64) {
@@ -139,15 +139,15 @@ fn file_space() -> [u8; 262469] {
 
 // The outcome of writing a head to so many bytes, and the digest of the bytes afterwards.
 fn head(n: u64, t: u64, out: &mut [u8]) {
-    show::text(b"head");
+    vector_text::text(b"head");
     column(n);
     column(t);
     column(out.len() as u64);
     let outcome = write_head(hash(b"headed"), hash(b"root"), n, t, out);
     column(outcome_number(outcome));
-    show::text(b" ");
-    show::hex(&hash(out));
-    show::text(b"\n");
+    vector_text::text(b" ");
+    vector_text::hex(&hash(out));
+    vector_text::text(b"\n");
 }
 
 fn head_at(n: u64, t: u64, size: usize) {

@@ -25,8 +25,8 @@ use Rattle.tree.specs.Disagreement.{childrenKnown}
 use Rattle.tree.proofs.Clash.{children-known}
 use Rattle.label.specs.Rule.{stampRule}
 use Rattle.opening.specs.Rows.{openingSize}
-use Rattle.verify.specs.OpeningCheck.{givenBy}
-use Rattle.verify.proofs.Parts.{part-size, part-length}
+use Rattle.opening_check.specs.OpeningCheck.{givenBy}
+use Rattle.opening_check.proofs.Parts.{part-size, part-length}
 use Rattle.compare.specs.Table.{partOf, RowOf, TableOf}
 
 -- ---- parts of one width

@@ -17,7 +17,7 @@ use Rattle.tree.proofs.Clash.{children-count, children-sized, input-children, l
 use Rattle.label.specs.Rule.{stampRule}
 use Rattle.label.proofs.RuleLaws.{stamp-hash}
 use Rattle.opening.specs.Rows.{openingSize}
-use Rattle.verify.proofs.Parts.{part-length}
+use Rattle.opening_check.proofs.Parts.{part-length}
 use Rattle.compare.specs.declared.Pair.{Pair}
 use Rattle.compare.specs.declared.Pair.the-variants.{Agree, Disagree}
 use Rattle.compare.specs.FirstPair.{firstPair}
@@ -135,5 +135,10 @@ module _ (statement : List ℕ) (n : ℕ) (leaves openings first table : List �
       → Answers (Disagree i j l) first second
   disagree-answers i j l first second p f g =
       let e : firstDisagreement statement n leaves openings ≡ Disagree i j l = sym pair-known ∙ p in
-      let lies = pair-lies (tableDisagreement n leaves table) i j l n (length leaves) p in
-      (sym e, (rw e (f ∙ input-known i l (lies .first) (omega arith) (lies .level)), rw e (g ∙ input-known j l (omega arith) (lies .second) (lies .level))))
+      let lies = pair-lies (tableDisagreement n leaves table) i j l n (length leaves) p in (
+        sym e,
+        (
+          rw e (f ∙ input-known i l (lies .first) (omega arith) (lies .level)),
+          rw e (g ∙ input-known j l (omega arith) (lies .second) (lies .level)),
+        ),
+      )

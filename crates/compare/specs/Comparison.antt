@@ -11,10 +11,10 @@ use Rattle.refusal.specs.Row.{firstOf, outside, isDone}
 use Rattle.tree.specs.Labels.{Rule}
 use Rattle.tree.specs.Openings.{Given, inputAt}
 use Rattle.tree.specs.Disagreement.{wayNode, disagreeAt}
-use Rattle.ways.specs.Planning.{every, isLeaf}
+use Rattle.chain_theory.specs.Planning.{every, isLeaf}
 use Rattle.label.specs.Rule.{stampRule}
 use Rattle.opening.specs.Rows.{openingSize}
-use Rattle.verify.specs.OpeningCheck.{givenBy}
+use Rattle.opening_check.specs.OpeningCheck.{givenBy}
 use Rattle.compare.specs.declared.Pair.{Pair}
 use Rattle.compare.specs.declared.Pair.the-variants.{Agree, Disagree}
 use Rattle.compare.specs.FirstPair.{firstPair}

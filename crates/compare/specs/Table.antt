@@ -15,7 +15,7 @@ use Rattle.tree.specs.Openings.{Given}
 use Rattle.tree.specs.Disagreement.{shared, childrenKnown}
 use Rattle.label.specs.Rule.{stampRule}
 use Rattle.opening.specs.Rows.{openingSize}
-use Rattle.verify.specs.OpeningCheck.{givenBy}
+use Rattle.opening_check.specs.OpeningCheck.{givenBy}
 use Rattle.compare.specs.Comparison.{leafOf}
 
 -- what the checks leave: so many leaves, and their openings end to end

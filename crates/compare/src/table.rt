@@ -10,12 +10,12 @@ ghost use Rattle.tree.specs.Labels.{labelBy};
 ghost use Rattle.tree.specs.Openings.{childLabels};
 ghost use Rattle.label.specs.Rule.{stampRule};
 ghost use Rattle.opening.specs.Rows.{openingSize};
-ghost use Rattle.verify.specs.OpeningCheck.{givenBy};
+ghost use Rattle.opening_check.specs.OpeningCheck.{givenBy};
 ghost use Rattle.compare.specs.Comparison.{leafOf};
 ghost use Rattle.compare.specs.Table.{Sized, RowOf, TableOf, cell};
 use base::put;
 use label::label;
-use verify::label_at;
+use opening_check::label_at;
 
 // Room for 200 openings of depth 40. Alone, since a proof over so long a literal is slow.
 pub fn empty_table() -> [u8; 512000]

@@ -1,25 +1,25 @@
 // The comparison of openings made by hand: a tree's own, and with bytes changed. A changed byte changes the computed labels above
 // it, so each clash reaches the root, which is the smallest level. The stored output has an independent model's answers.
 ghost use Prim.Native.Nat.{_≤_};
-use carried::finished;
-use carried::hash;
 use compare::Pair;
 use compare::compare;
 use opening::Opening;
 use refusal::outcome_number;
-use show::column;
+use vector_runs::finished;
+use vector_runs::hash;
+use vector_text::column;
 
 fn digest(bytes: &[u8]) {
-    show::text(b" ");
-    show::hex(&hash(bytes));
+    vector_text::text(b" ");
+    vector_text::hex(&hash(bytes));
 }
 
 // The pair's numbers and level.
 fn pair_line(pair: Pair) {
     match pair {
-        Pair::Agree => show::text(b" agree"),
+        Pair::Agree => vector_text::text(b" agree"),
         Pair::Disagree(i, j, level) => {
-            show::text(b" clash");
+            vector_text::text(b" clash");
             column(i);
             column(j);
             column(level);
@@ -38,7 +38,7 @@ fn answer(statement: [u8; 32], depth: u64, leaves: &[u64], openings: &[u8]) {
     let second = compared.second;
     digest(&first);
     digest(&second);
-    show::text(b"\n");
+    vector_text::text(b"\n");
 }
 
 // The opening of a leaf of the tree of depth 3, whose store is whole, put at a place.
@@ -83,7 +83,7 @@ fn first_of(depth: u64, count: usize, size: usize, leaves: [u64; 8], openings: [
 
 // The first openings with a byte changed in two places, which is in none if they are 1,024.
 fn changed(name: &[u8], count: usize, leaves: [u64; 8], at: usize, other: usize) {
-    show::text(name);
+    vector_text::text(name);
     let mut openings = eight(leaves);
     if at < 1024 {
         openings[at] = openings[at] ^ 1;
@@ -145,7 +145,7 @@ fn several() {
 
 // The checks of the comparison: these numbers, the first leaf and so many bytes.
 fn edge(depth: u64, count: usize, leaf: u64, size: usize) {
-    show::text(b"edge");
+    vector_text::text(b"edge");
     column(depth);
     column(count as u64);
     column(leaf);
@@ -179,9 +179,9 @@ fn two_hundred_and_one() -> [u64; 201] {
 // 201 leaves are refused before their positions and the bytes are looked at; 200 are not.
 fn many() {
     let leaves = two_hundred_and_one();
-    show::text(b"201 leaves");
+    vector_text::text(b"201 leaves");
     answer(hash(b"compared"), 3, &leaves, b"");
-    show::text(b"200 leaves");
+    vector_text::text(b"200 leaves");
     answer(hash(b"compared"), 3, &leaves[1..], b"");
 }
 
@@ -197,7 +197,7 @@ fn patterned(openings: &mut [u8]) {
 }
 
 fn deep(leaf: u64, other: u64) {
-    show::text(b"deep");
+    vector_text::text(b"deep");
     let leaves = [leaf, other];
     let mut openings = [0u8; 2624];
     patterned(&mut openings);

@@ -9,11 +9,11 @@ use Rattle.refusal.specs.Row.{isDone}
 use Rattle.tree.specs.Walk.{nodesIn}
 use Rattle.run.specs.Rows.{continueRow}
 use Rattle.run.specs.Steps.{steps, labelsIn, advanced}
-use Rattle.reached.specs.Calls.{total, afterCalls}
-use Rattle.reached.specs.Runs.{Startable, atStart}
-use Rattle.reached.proofs.Calls.{calls-reach, calls-report}
-use Rattle.reached.proofs.StartLaws.{start-done, started-done}
-use Rattle.reached.proofs.RunLaws.{continue-reached, labels-reached, advanced-reached}
+use Rattle.run_theory.specs.Calls.{total, afterCalls}
+use Rattle.run_theory.specs.Runs.{Startable, atStart}
+use Rattle.run_theory.proofs.Calls.{calls-reach, calls-report}
+use Rattle.run_theory.proofs.StartLaws.{start-done, started-done}
+use Rattle.run_theory.proofs.RunLaws.{continue-reached, labels-reached, advanced-reached}
 use Rattle.demands.specs.Demand1.{CarriedOut, startedRun, InBounds, LabellingEnds}
 
 -- over the states that calls go through
@@ -59,7 +59,9 @@ pub startable : (n m store : ℕ) → InBounds n m store → Startable n m store
 startable n m store bounds =
     record { positive = bounds .depth .0; shallow = bounds .depth .1; memory = bounds .memory; enough = bounds .room }
 
-pub run-started : (statement : List ℕ) (n m : ℕ) (store : List ℕ) → InBounds n m (length store) → startedRun statement n m store ≡ atStart statement n m store
+pub run-started :
+    (statement : List ℕ) (n m : ℕ) (store : List ℕ) → InBounds n m (length store)
+    → startedRun statement n m store ≡ atStart statement n m store
 unfolding atStart
 run-started statement n m store bounds =
     rw (started-done n m (length store) statement (start-done n m (length store) (startable n m (length store) bounds)))

@@ -28,17 +28,17 @@ use Rattle.opening.specs.Possible.{openOf}
 use Rattle.opening.specs.declared.Opening.{Opening}
 use Rattle.opening.specs.Rows.{openingSize, nodesAnew, openRow, reopenRow}
 use Rattle.opening.specs.Steps as openings
-use Rattle.verify.specs.OpeningCheck.{givenBy, leafWrong, rootWrong, openingRow}
-use Rattle.proof.specs.Challenge.{challengeRow, challenged}
-use Rattle.proof.specs.Layout.{fileSize, headRow, headWritten}
-use Rattle.ways.specs.Ways.{chain}
-use Rattle.ways.specs.Planning.{every, isLeaf}
+use Rattle.opening_check.specs.OpeningCheck.{givenBy, leafWrong, rootWrong, openingRow}
+use Rattle.proof_file.specs.Challenge.{challengeRow, challenged}
+use Rattle.proof_file.specs.Layout.{fileSize, headRow, headWritten}
+use Rattle.chain_theory.specs.Ways.{chain}
+use Rattle.chain_theory.specs.Planning.{every, isLeaf}
 use Rattle.chain.specs.PlanRow.{planRow, plannedCount, plannedList}
 use Rattle.writing.specs.declared.Writing.{Writing}
 use Rattle.writing.specs.Rows.{writeRow, rewriteRow}
 use Rattle.writing.specs.Steps as writings
 use Rattle.demands.specs.Rows.{IsFirst, Outside, Impossible, planningChain, ImpossibleFile}
-use Rattle.reached.proofs.Idle.{run-none, run-same, opening-none, opening-same}
+use Rattle.run_theory.proofs.Idle.{run-none, run-same, opening-none, opening-same}
 use Rattle.demands.specs.Demand1.{HashingPortion, HashingEnd, HashingWhole, StartingRun, ContinuingRun, StartingOpening, ContinuingOpening, AChallenge, WritingHead, OneOpening, PlanningChain, StartingFile, ContinuingFile}
 use Rattle.demands.proofs.Decisions.{Decides, decides-outside, decides-lt, decides-le, decides-eq, decides-differ, decides-both, decides-either, decides-some, decides-under, Decided, is-first}
 

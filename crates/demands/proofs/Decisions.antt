@@ -14,7 +14,7 @@ use Rattle.base.proofs.ChoiceLaws.{both-first, both-second, true-false}
 use Rattle.base.proofs.ListsLaws.{tells-bytes, test-false}
 use Rattle.refusal.specs.Row.{firstOf, outside, either}
 use Rattle.refusal.proofs.RowLaws.{NoneHolds, numbered, none-holds, row-passed}
-use Rattle.ways.specs.Planning.{every}
+use Rattle.chain_theory.specs.Planning.{every}
 use Rattle.demands.specs.Rows.{Row, IsFirst, Outside}
 
 -- ---- rows as tests

@@ -18,22 +18,22 @@ use Rattle.run.specs.Steps as runs
 use Rattle.run.specs.Steps.{Stamped}
 use Rattle.opening.specs.Rows.{nodesAnew}
 use Rattle.opening.specs.Steps as openings
-use Rattle.proof.specs.Challenge.{challengeInput, challengeLeaf, challenged}
-use Rattle.proof.specs.Layout.{fileSize}
-use Rattle.reached.specs.Calls.{total, afterCalls}
-use Rattle.reached.specs.Runs.{atStart, called, reachedAt}
-use Rattle.reached.specs.Openings.{Openable, newOpen}
-use Rattle.reached.proofs.RunLaws.{run-reached, called-cut, finished-store}
-use Rattle.reached.proofs.OpeningCalls.{started-fits, startedOut-fits}
-use Rattle.reached.proofs.Finished.{finished-length, finished-opening}
-use Rattle.accepted.specs.IsProof.{IsDepth, IsCount}
-use Rattle.accepted.specs.TreeFile.{treeFile, openingOf}
-use Rattle.proof.proofs.Leaves.{challengeLeaf-small}
-use Rattle.accepted.proofs.RowLaws.{challenge-done, opening-done, done-opening}
-use Rattle.accepted.proofs.TreeFile.{opening-size, opening-right, length-treeFile}
-use Rattle.accepted.proofs.Accepted.{exactly-proofs}
-use Rattle.filed.specs.Filed.{fileFrom}
-use Rattle.filed.proofs.Finished.{run-to-file, run-to-file-accepted}
+use Rattle.proof_file.specs.Challenge.{challengeInput, challengeLeaf, challenged}
+use Rattle.proof_file.specs.Layout.{fileSize}
+use Rattle.run_theory.specs.Calls.{total, afterCalls}
+use Rattle.run_theory.specs.Runs.{atStart, called, reachedAt}
+use Rattle.run_theory.specs.Openings.{Openable, newOpen}
+use Rattle.run_theory.proofs.RunLaws.{run-reached, called-cut, finished-store}
+use Rattle.run_theory.proofs.OpeningCalls.{started-fits, startedOut-fits}
+use Rattle.run_theory.proofs.Finished.{finished-length, finished-opening}
+use Rattle.check_theory.specs.IsProof.{IsDepth, IsCount}
+use Rattle.check_theory.specs.TreeFile.{treeFile, openingOf}
+use Rattle.proof_file.proofs.Leaves.{challengeLeaf-small}
+use Rattle.check_theory.proofs.RowLaws.{challenge-done, opening-done, done-opening}
+use Rattle.check_theory.proofs.TreeFile.{opening-size, opening-right, length-treeFile}
+use Rattle.check_theory.proofs.Accepted.{exactly-proofs}
+use Rattle.writing_theory.specs.Filed.{fileFrom}
+use Rattle.writing_theory.proofs.Finished.{run-to-file, run-to-file-accepted}
 use Rattle.demands.specs.Demand1.{InBounds, startedOpening}
 use Rattle.demands.specs.Demand2.{StatementIs, LabelsAre, runFrom, RunLabels, ChallengeIs, openingFrom, OpeningIs, filedFrom, FileIs, Demand2}
 use Rattle.demands.proofs.Carrying.{startable, run-started}
@@ -70,7 +70,9 @@ module _ (statement : List ℕ) (n m : ℕ) (store : List ℕ) (bounds : InBound
   run-at budgets = run-steps budgets ∙ run-reached statement n m store (bounds .depth .1) (min (total budgets) (nodesIn n)) (omega arith)
 
   -- a finished run
-  run-finished : (budgets : List ℕ) → nodesIn n ≤ total budgets → runFrom statement n m store budgets ≡ runs.steps (nodesIn n) (atStart statement n m store)
+  run-finished :
+      (budgets : List ℕ) → nodesIn n ≤ total budgets
+      → runFrom statement n m store budgets ≡ runs.steps (nodesIn n) (atStart statement n m store)
   run-finished budgets all =
       let whole : min (total budgets) (nodesIn n) ≡ nodesIn n = omega arith in
       run-steps budgets ∙ rw whole

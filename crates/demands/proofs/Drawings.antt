@@ -6,11 +6,11 @@ use native.Mathlib.Omega.{arith}
 use mathlib.Core.List.{List, [], _∷_, _++_}
 use lib.Dec.{lit≤}
 use lib.ListN.{length, getD}
-use Rattle.proof.specs.FileCheck.{fileCheck}
+use Rattle.proof_file.specs.FileCheck.{fileCheck}
 use Rattle.draw.specs.Drawing.{DrawingAnswer, notDrawn, drawnChain, drawnClash, drawingOf}
-use Rattle.drawn.specs.Demand3.{IsAccepted, NoneDisagree, chainLength, ListShort}
-use Rattle.drawn.proofs.Openings.{some-none}
-use Rattle.drawn.proofs.Demand3.{chain-exactly, clash-exactly, refused-exactly, refused-untouched}
+use Rattle.draw_theory.specs.Demand3.{IsAccepted, NoneDisagree, chainLength, ListShort}
+use Rattle.draw_theory.proofs.Openings.{some-none}
+use Rattle.draw_theory.proofs.Demand3.{chain-exactly, clash-exactly, refused-exactly, refused-untouched}
 use Rattle.demands.specs.Rows.{Row, IsFirst, behind, foundIn, fileOpenings, aFile, drawingChain}
 use Rattle.demands.specs.Demand1.{drawingNumber, DrawingChain}
 use Rattle.demands.proofs.Files.{a-file}
@@ -50,7 +50,9 @@ module _ (bytes statement : List ℕ) (n t : ℕ) (small : (j : ℕ) → getD by
   Short = NoneDisagree bytes statement n t × (length list < chainLength bytes statement n t)
 
   -- a file that is accepted
-  behind-file : IsAccepted bytes statement n t → (answer : ℕ) → IsFirst (foundIn 0 ((Short, 16) ∷ [])) answer → IsFirst (drawingChain bytes statement n t (length list)) answer
+  behind-file :
+      IsAccepted bytes statement n t → (answer : ℕ) → IsFirst (foundIn 0 ((Short, 16) ∷ [])) answer
+      → IsFirst (drawingChain bytes statement n t (length list)) answer
   behind-file accepted answer first =
       passes-first (aFile bytes statement n t) (foundIn 0 ((Short, 16) ∷ [])) answer (file-positive bytes statement n t)
       (rw accepted at (a-file bytes statement n t)) first

@@ -15,11 +15,11 @@ use Rattle.base.proofs.ListsLaws.{tells-bytes, test-same}
 use Rattle.refusal.specs.Row.{outside}
 use Rattle.groups.specs.Reading.{Answer, value, refused, ended, readFrom, readAt}
 use Rattle.groups.proofs.Steps.{read-none, read-end, read-last, read-more, lt-or-le}
-use Rattle.verify.specs.OpeningCheck.{rightRow}
-use Rattle.proof.specs.Head.{HeadAnswer, numbers, notRead, checked, headOf, lengthFrom, statementAt}
-use Rattle.proof.specs.HeadSteps.{countFrom, depthFrom}
-use Rattle.proof.specs.FileCheck as files
-use Rattle.proof.specs.FileCheck.{opened, openingsFrom, wanted, fileCheck}
+use Rattle.opening_check.specs.OpeningCheck.{rightRow}
+use Rattle.proof_file.specs.Head.{HeadAnswer, numbers, notRead, checked, headOf, lengthFrom, statementAt}
+use Rattle.proof_file.specs.HeadSteps.{countFrom, depthFrom}
+use Rattle.proof_file.specs.FileCheck as files
+use Rattle.proof_file.specs.FileCheck.{opened, openingsFrom, wanted, fileCheck}
 use Rattle.demands.specs.Rows.{Row, IsFirst, Outside, byteAt, valueAt, behind, foundIn, fileOpenings, fileRest, aFile}
 use Rattle.demands.specs.Demand1.{headNumber, AHead, AFile}
 use Rattle.demands.proofs.Decisions.{Decides, decides-not, decides-eq, decides-outside, decides-lt, decides-differ, Decided}

@@ -26,9 +26,9 @@ use Rattle.opening.specs.Rows.{openingSize, nodesAnew, reopenRow}
 use Rattle.opening.specs.Steps.{labelIn, ancestor, beside, placed, copied, copiedAll, Open, front, stepped, steps, labelsIn, advanced}
 use Rattle.opening.specs.Possible.{openingOf, openOf}
 use Rattle.opening.proofs.StepLaws.{anew-few, next-below}
-use Rattle.reached.specs.Openings.{Openable}
-use Rattle.reached.proofs.Anew.{beside-inside}
-use Rattle.reached.proofs.OpeningCalls.{open-fits, reopen-fits, started-fits, startedOut-fits}
+use Rattle.run_theory.specs.Openings.{Openable}
+use Rattle.run_theory.proofs.Anew.{beside-inside}
+use Rattle.run_theory.proofs.OpeningCalls.{open-fits, reopen-fits, started-fits, startedOut-fits}
 use Rattle.demands.specs.Demand1.{startedOpening, InBounds, OpeningEnds}
 use Rattle.demands.proofs.Carrying.{carried-by}
 
@@ -73,7 +73,9 @@ module _
     where
       go :
           (t : Bool) → eqb m n ≡ t
-          → length (pick t (placed n leaf (copied n leaf store out m) (node n leaf) (labelIn store (node n leaf))) (copied n leaf store out m)) ≡ length out
+          → length
+          (pick t (placed n leaf (copied n leaf store out m) (node n leaf) (labelIn store (node n leaf)))
+          (copied n leaf store out m)) ≡ length out
       go true e =
           let before : length (copied n leaf store out m) ≡ length out = length-copied m (omega arith) in
           let same : m ≡ n = eqb-true m n e in

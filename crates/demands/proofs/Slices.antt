@@ -11,8 +11,8 @@ use Rattle.refusal.specs.declared.Check.{Check}
 use Rattle.refusal.specs.declared.Check.the-variants.{Accepted, Rejected}
 use Rattle.refusal.specs.Number.{codeOf}
 use Rattle.refusal.proofs.Bounds.{number-some}
-use Rattle.proof.specs.FileCheck.{fileCheck}
-use Rattle.accepted.specs.IsProof.{IsProof}
+use Rattle.proof_file.specs.FileCheck.{fileCheck}
+use Rattle.check_theory.specs.IsProof.{IsProof}
 use Rattle.demands.proofs.Demand2.{demand2}
 
 module _ (bytes statement : List ℕ) (n t : ℕ) (small : (j : ℕ) → getD bytes j 0 < 256) (check : Check)

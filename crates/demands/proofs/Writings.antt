@@ -18,16 +18,16 @@ use Rattle.opening.specs.declared.Opening.{Opening}
 use Rattle.opening.specs.Rows.{openingSize, nodesAnew}
 use Rattle.opening.specs.Steps as openings
 use Rattle.opening.specs.Possible.{openingOf, openOf}
-use Rattle.proof.specs.Challenge.{challengeLeaf}
-use Rattle.proof.specs.Layout.{head, headSize, openingFrom, fileSize}
-use Rattle.proof.proofs.Leaves.{challengeLeaf-small}
-use Rattle.accepted.proofs.Reading.{length-head}
+use Rattle.proof_file.specs.Challenge.{challengeLeaf}
+use Rattle.proof_file.specs.Layout.{head, headSize, openingFrom, fileSize}
+use Rattle.proof_file.proofs.Leaves.{challengeLeaf-small}
+use Rattle.check_theory.proofs.Reading.{length-head}
 use Rattle.writing.specs.Rows.{rewriteRow}
 use Rattle.writing.specs.Steps.{Written, partOf, begun, mayFollow, followed, newWriting, stepped, steps, remaining, labelsIn, advanced}
-use Rattle.filed.specs.Filed.{Writable}
-use Rattle.filed.proofs.Laid.{size-next, size-fits, size-from, part-size}
-use Rattle.filed.proofs.Places.{behind-place}
-use Rattle.filed.proofs.Rows.{write-done, started-done, rewrite-done}
+use Rattle.writing_theory.specs.Filed.{Writable}
+use Rattle.writing_theory.proofs.Laid.{size-next, size-fits, size-from, part-size}
+use Rattle.writing_theory.proofs.Places.{behind-place}
+use Rattle.writing_theory.proofs.Rows.{write-done, started-done, rewrite-done}
 use Rattle.writing.proofs.StepLaws.{followed-stays, steps-add}
 use Rattle.demands.specs.Demand1.{startedFile, InBounds, WritingEnds}
 use Rattle.demands.proofs.Carrying.{carried-by}
@@ -62,7 +62,9 @@ module _ (statement root : List ℕ) (n m t size : ℕ) (store : List ℕ) (boun
   anew = nodesAnew n m
 
   -- ---- opening q + 1 is begun
-  begun-at : (q : ℕ) (file : List ℕ) → q < t → length file ≡ size → WritingAt statement root n m t size q 0 (begun statement root n m t store (q + 1) file)
+  begun-at :
+      (q : ℕ) (file : List ℕ) → q < t → length file ≡ size
+      → WritingAt statement root n m t size q 0 (begun statement root n m t store (q + 1) file)
   unfolding begun
   begun-at q file few long =
       let leaf : ℕ = challengeLeaf n statement root (q + 1) in
@@ -108,7 +110,9 @@ module _ (statement root : List ℕ) (n m t size : ℕ) (store : List ℕ) (boun
       opening-more statement n m (at .leaf) (openingSize n) store r o (omega (arith, bounds .memory)) (omega arith) small
       (record { held = at .held; out = part; is = refl; length = before }) in
       record {
-        before = writingOf root t q (openingOf statement n m (at .leaf) (suc r) (made .held)) (written (at .file) (openingFrom n (headSize n t) (q + 1)) (made .out));
+        before =
+            writingOf root t q (openingOf statement n m (at .leaf) (suc r) (made .held))
+            (written (at .file) (openingFrom n (headSize n t) (q + 1)) (made .out));
         is = rw (at .is) (stepped-fields (at .leaf) q r (at .held) (at .file) ∙ rw (made .is));
         at =
             record {
@@ -216,7 +220,8 @@ module _
   unfolding newWriting
   new-reached =
       follows statement root n m t (length file) store bounds fits t 0 0 0
-      (begun statement root n m t store 1 (written file 0 (head statement root n t))) (omega (arith, count .0)) (omega arith) (omega arith) (omega arith)
+      (begun statement root n m t store 1 (written file 0 (head statement root n t))) (omega (arith, count .0)) (omega arith)
+      (omega arith) (omega arith)
       (begun-at statement root n m t (length file) store bounds fits 0 (written file 0 (head statement root n t)) (omega (arith, count .0)) head-fits)
 
   start-reached : Reached statement root n m t (length file) store bounds fits 0 start

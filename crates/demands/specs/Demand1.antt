@@ -19,20 +19,20 @@ use Rattle.opening.specs.Rows.{openRow, reopenRow}
 use Rattle.opening.specs.Steps as openings
 use Rattle.opening.specs.Steps.{Open, noOpening}
 use Rattle.opening.specs.Possible.{openOf}
-use Rattle.reached.specs.Calls.{total, afterCalls, labelsOver}
-use Rattle.verify.specs.OpeningCheck.{openingRow}
-use Rattle.proof.specs.Challenge.{challengeRow, challenged}
-use Rattle.proof.specs.Layout.{fileSize, headRow, headWritten}
-use Rattle.proof.specs.Head as read
-use Rattle.proof.specs.Head.{HeadAnswer, notRead, headOf}
-use Rattle.proof.specs.FileCheck.{fileCheck}
+use Rattle.run_theory.specs.Calls.{total, afterCalls, labelsOver}
+use Rattle.opening_check.specs.OpeningCheck.{openingRow}
+use Rattle.proof_file.specs.Challenge.{challengeRow, challenged}
+use Rattle.proof_file.specs.Layout.{fileSize, headRow, headWritten}
+use Rattle.proof_file.specs.Head as read
+use Rattle.proof_file.specs.Head.{HeadAnswer, notRead, headOf}
+use Rattle.proof_file.specs.FileCheck.{fileCheck}
 use Rattle.writing.specs.declared.Writing.{Writing}
 use Rattle.writing.specs.Rows.{writeRow, rewriteRow}
 use Rattle.writing.specs.Steps as writings
 use Rattle.writing.specs.Steps.{Written, noWriting}
 use Rattle.chain.specs.PlanRow.{planRow, plannedCount, plannedList}
-use Rattle.ways.specs.Ways.{chain}
-use Rattle.ways.specs.Counts.{leavesOpened}
+use Rattle.chain_theory.specs.Ways.{chain}
+use Rattle.chain_theory.specs.Counts.{leavesOpened}
 use Rattle.planning.specs.Input.{numbers}
 use Rattle.planning.specs.Output.{refusedText, headText, nodesText, printed}
 use Rattle.compare.specs.declared.Pair.the-variants.{Agree}
@@ -188,7 +188,8 @@ pub record PlanningProgram (input : List ℕ) : Type 0 where
   pub done :
       number ≡ 0
       → printed input
-      ≡ headText (getD (numbers input) 0 0) (leavesOpened (drop 1 (numbers input))) (length (chain (getD (numbers input) 0 0) (drop 1 (numbers input))))
+      ≡ headText (getD (numbers input) 0 0) (leavesOpened (drop 1 (numbers input)))
+      (length (chain (getD (numbers input) 0 0) (drop 1 (numbers input))))
       ++ nodesText (chain (getD (numbers input) 0 0) (drop 1 (numbers input)))
 
 -- comparing lends nothing to write to

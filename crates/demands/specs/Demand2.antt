@@ -15,15 +15,15 @@ use Rattle.label.specs.Rule.{stampRule}
 use Rattle.run.specs.Steps as runs
 use Rattle.run.specs.Steps.{Stamped}
 use Rattle.opening.specs.Steps as openings
-use Rattle.verify.specs.OpeningCheck.{givenBy, openingRow}
-use Rattle.proof.specs.Challenge.{challengeWord, bigEndianValue, challenged}
-use Rattle.proof.specs.Layout.{fileSize, file}
-use Rattle.proof.specs.FileCheck.{fileCheck}
-use Rattle.reached.specs.Reached.{runAfter, storeAfter}
-use Rattle.reached.specs.Calls.{total, afterCalls}
-use Rattle.accepted.specs.IsProof.{IsDepth, IsCount, RightAlone, IsProof}
-use Rattle.accepted.specs.TreeFile.{treeOpenings}
-use Rattle.filed.specs.Filed.{fileFrom}
+use Rattle.opening_check.specs.OpeningCheck.{givenBy, openingRow}
+use Rattle.proof_file.specs.Challenge.{challengeWord, bigEndianValue, challenged}
+use Rattle.proof_file.specs.Layout.{fileSize, file}
+use Rattle.proof_file.specs.FileCheck.{fileCheck}
+use Rattle.run_theory.specs.Reached.{runAfter, storeAfter}
+use Rattle.run_theory.specs.Calls.{total, afterCalls}
+use Rattle.check_theory.specs.IsProof.{IsDepth, IsCount, RightAlone, IsProof}
+use Rattle.check_theory.specs.TreeFile.{treeOpenings}
+use Rattle.writing_theory.specs.Filed.{fileFrom}
 use Rattle.demands.specs.Demand1.{InBounds, startedRun, startedOpening}
 
 -- ---- 'Statement, labels, challenges, openings and verdict are those of the paper over SHA-256, laid out as document 01 says.'
@@ -100,7 +100,9 @@ pub record Demand2 : Type 0 where
       → InBounds n m (length store) → leaf < 2 ^ n → 32 * (n + 1) ≤ length out
       → 2 ^ (n + 1) - 1 ≤ total labelling → 2 ^ (n - m + 1) - 2 ≤ total budgets
       → OpeningIs statement n leaf out (openingFrom (runFrom statement n m store labelling) statement n m leaf out budgets)
-  pub verdict : (statement : List ℕ) (n leaf : ℕ) (root bytes : List ℕ) → openingRow statement n leaf root bytes ≡ 0 ↔ RightAlone statement n leaf root bytes
+  pub verdict :
+      (statement : List ℕ) (n leaf : ℕ) (root bytes : List ℕ) → openingRow statement n leaf root bytes ≡ 0
+      ↔ RightAlone statement n leaf root bytes
   pub file :
       (statement : List ℕ) (n m t : ℕ) (store file labelling budgets : List ℕ) → length statement ≡ 32
       → InBounds n m (length store) → IsCount t → fileSize n t ≤ length file

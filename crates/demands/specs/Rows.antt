@@ -11,14 +11,14 @@ use Rattle.label.specs.Rule.{stampRule}
 use Rattle.groups.specs.Groups.{groupsOf}
 use Rattle.run.specs.declared.Run.{Run}
 use Rattle.opening.specs.declared.Opening.{Opening}
-use Rattle.verify.specs.OpeningCheck.{givenBy}
-use Rattle.proof.specs.Challenge.{challengeLeaf}
-use Rattle.proof.specs.Layout.{fileSize}
-use Rattle.proof.specs.Head.{statementAt, rootAt, openingAt}
-use Rattle.ways.specs.Ways.{chain}
+use Rattle.opening_check.specs.OpeningCheck.{givenBy}
+use Rattle.proof_file.specs.Challenge.{challengeLeaf}
+use Rattle.proof_file.specs.Layout.{fileSize}
+use Rattle.proof_file.specs.Head.{statementAt, rootAt, openingAt}
+use Rattle.chain_theory.specs.Ways.{chain}
 use Rattle.planning.specs.Input.{numbers}
 use Rattle.writing.specs.declared.Writing.{Writing}
-use Rattle.drawn.specs.Demand3.{NoneDisagree, chainLength}
+use Rattle.draw_theory.specs.Demand3.{NoneDisagree, chainLength}
 
 -- a row: its conditions, each with the number answered, in the order listed
 abbrev pub Row : Type 1

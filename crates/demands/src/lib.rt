@@ -4,10 +4,10 @@ ghost use mathlib.Core.Path.{_≡_};
 ghost use mathlib.Core.Bool.{true};
 ghost use mathlib.Core.Logic.{_↔_};
 ghost use lib.ListN.{length};
-ghost use Rattle.accepted.specs.IsProof.{IsProof};
+ghost use Rattle.check_theory.specs.IsProof.{IsProof};
 ghost use Rattle.draw.specs.Drawing.{drawingAnswer, drawingOf};
 ghost use Rattle.demands.specs.Demand3.{Drawn};
-use proof::check_file;
+use proof_file::check_file;
 use refusal::Check;
 
 // Demand 2: a file is accepted exactly if it is a proof.

@@ -15,16 +15,16 @@ use Rattle.refusal.specs.Number.{numberOf, codeOf}
 use Rattle.refusal.specs.Row.{isDone}
 use Rattle.refusal.proofs.Bounds.{number-some}
 use Rattle.refusal.proofs.RowLaws.{some-refused}
-use Rattle.ways.specs.Ways.{chain}
-use Rattle.ways.specs.Planning.{every, isLeaf}
+use Rattle.chain_theory.specs.Ways.{chain}
+use Rattle.chain_theory.specs.Planning.{every, isLeaf}
 use Rattle.opening.specs.Rows.{openingSize}
-use Rattle.verify.proofs.Ranges.{in-range}
-use Rattle.proof.specs.Layout.{headNumbers}
-use Rattle.proof.specs.Head.{headOf, lengthFrom, rootAt}
-use Rattle.proof.specs.FileCheck.{foundIn, fileCheck}
-use Rattle.accepted.specs.IsProof.{IsDepth, IsCount, IsProof}
-use Rattle.accepted.proofs.Soundness.{accepted-proof}
-use Rattle.accepted.proofs.Completeness.{file-head, file-size}
+use Rattle.opening_check.proofs.Ranges.{in-range}
+use Rattle.proof_file.specs.Layout.{headNumbers}
+use Rattle.proof_file.specs.Head.{headOf, lengthFrom, rootAt}
+use Rattle.proof_file.specs.FileCheck.{foundIn, fileCheck}
+use Rattle.check_theory.specs.IsProof.{IsDepth, IsCount, IsProof}
+use Rattle.check_theory.proofs.Soundness.{accepted-proof}
+use Rattle.check_theory.proofs.Completeness.{file-head, file-size}
 use Rattle.chain.specs.Place.{leavesRow}
 use Rattle.chain.proofs.Rows.{row-done}
 use Rattle.compare.specs.declared.Pair.{Pair}
@@ -75,7 +75,9 @@ module _ (bytes statement : List ℕ) (n t : ℕ) (small : (j : ℕ) → getD by
   unfolding leavesOf
   leaves-known at root leaves e f g = g ∙ rw (f, e)
 
-  pub openings-known : (at : ℕ) (openings : List ℕ) → at ≡ numbersEnd (headOf bytes) → openings ≡ take (length bytes - (at + 64)) (drop (at + 64) bytes)
+  pub openings-known :
+      (at : ℕ) (openings : List ℕ) → at ≡ numbersEnd (headOf bytes)
+      → openings ≡ take (length bytes - (at + 64)) (drop (at + 64) bytes)
       → openings ≡ openingsOf bytes
   unfolding openingsOf
   openings-known at openings e f = f ∙ rest-of bytes (at + 64) ∙ rw e
@@ -111,7 +113,10 @@ module _ (bytes statement : List ℕ) (n t : ℕ) (small : (j : ℕ) → getD by
       (size-right n (leavesOf bytes statement n t) (length (openingsOf bytes)) leaves-row (omega (arith, openings-length))
       (omega (arith, openings-length))))
 
-  drawing-by : (list : ℕ) → drawingOf bytes statement n t list ≡ drawnFrom (pairOf bytes statement n t) (length (chain n (leavesOf bytes statement n t))) list
+  drawing-by :
+      (list : ℕ)
+      → drawingOf bytes statement n t list
+      ≡ drawnFrom (pairOf bytes statement n t) (length (chain n (leavesOf bytes statement n t))) list
   unfolding drawingOf
   drawing-by list = rw ok
 

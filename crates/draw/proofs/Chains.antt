@@ -13,13 +13,13 @@ use Rattle.refusal.specs.declared.Outcome.the-variants.{Refused}
 use Rattle.refusal.specs.Number.{numberOf, outcomeNumber}
 use Rattle.refusal.proofs.Bounds.{number-some}
 use Rattle.refusal.proofs.RowLaws.{refused-number, not-done}
-use Rattle.ways.specs.Ways.{chain, chainCodes}
+use Rattle.chain_theory.specs.Ways.{chain, chainCodes}
 use Rattle.chain.specs.Place.{leavesRow}
 use Rattle.chain.specs.PlanRow.{planRow, plannedCount, plannedList}
 use Rattle.chain.proofs.Rows.{list-check}
 use Rattle.compare.specs.declared.Pair.{Pair}
 use Rattle.compare.specs.declared.Pair.the-variants.{Agree, Disagree}
-use Rattle.proof.specs.FileCheck.{foundIn}
+use Rattle.proof_file.specs.FileCheck.{foundIn}
 use Rattle.draw.specs.Drawing.{DrawingAnswer, notDrawn, drawnChain, drawnFrom, listAfter, clashPair}
 
 -- what is drawn of leaves, and the list afterwards

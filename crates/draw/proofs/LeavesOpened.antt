@@ -10,14 +10,14 @@ use lib.ListN.{length, take, drop, set}
 use lib.Seq.{take-suc-set, append-snoc, drop-set-lt, drop-drop}
 use Rattle.base.specs.Bytes.{zeros}
 use Rattle.base.proofs.Zeros.{drop-zeros}
-use Rattle.ways.specs.Planning.{every, isLeaf}
-use Rattle.ways.proofs.Lists.{every-both}
-use Rattle.proof.specs.declared.HeadNumbers.{HeadNumbers}
-use Rattle.proof.specs.Challenge.{challengeLeaf, challenged}
-use Rattle.proof.specs.Head.{HeadAnswer, headAnswer}
-use Rattle.accepted.specs.IsProof.{IsDepth}
-use Rattle.accepted.proofs.RowLaws.{challenge-done}
-use Rattle.proof.proofs.Leaves.{challengeLeaf-small}
+use Rattle.chain_theory.specs.Planning.{every, isLeaf}
+use Rattle.chain_theory.proofs.Lists.{every-both}
+use Rattle.proof_file.specs.declared.HeadNumbers.{HeadNumbers}
+use Rattle.proof_file.specs.Challenge.{challengeLeaf, challenged}
+use Rattle.proof_file.specs.Head.{HeadAnswer, headAnswer}
+use Rattle.check_theory.specs.IsProof.{IsDepth}
+use Rattle.check_theory.proofs.RowLaws.{challenge-done}
+use Rattle.proof_file.proofs.Leaves.{challengeLeaf-small}
 use Rattle.draw.specs.Drawing.{leavesFrom, numbersEnd}
 
 pub end-known : (head told : HeadNumbers) (read : HeadAnswer) → headAnswer head ≡ read → head ≡ told → numbersEnd (headAnswer told) ≡ numbersEnd read
@@ -42,7 +42,9 @@ module _ (n : ℕ) (statement root : List ℕ) where
     pub leaves-none : leavesFrom n statement root 1 (count - 0) ≡ leavesFrom n statement root 1 count
     leaves-none = let all : count - 0 ≡ count = omega arith in rw all
 
-    pub leaves-more : (leaves : List ℕ) (i leaf : ℕ) → IsDepth n → count ≤ 200 → length leaves ≡ 200 → i < count → leaf ≡ challenged n statement root (i + 1)
+    pub leaves-more :
+        (leaves : List ℕ) (i leaf : ℕ) → IsDepth n → count ≤ 200 → length leaves ≡ 200 → i < count
+        → leaf ≡ challenged n statement root (i + 1)
         → take i leaves ++ leavesFrom n statement root (i + 1) (count - i) ≡ leavesFrom n statement root 1 count
         → take (i + 1) (set leaves i leaf) ++ leavesFrom n statement root (i + 1 + 1) (count - (i + 1)) ≡ leavesFrom n statement root 1 count
     unfolding leavesFrom challenged

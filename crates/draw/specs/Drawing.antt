@@ -7,10 +7,10 @@ use Rattle.base.specs.Choice.{pick}
 use Rattle.base.specs.Bytes.{zeros, written}
 use Rattle.refusal.specs.Number.{numberOf}
 use Rattle.refusal.specs.Row.{isDone}
-use Rattle.ways.specs.Ways.{chain, chainCodes}
-use Rattle.proof.specs.Challenge.{challengeLeaf}
-use Rattle.proof.specs.Head.{HeadAnswer, numbers, notRead, headOf, rootAt}
-use Rattle.proof.specs.FileCheck.{foundIn, fileCheck}
+use Rattle.chain_theory.specs.Ways.{chain, chainCodes}
+use Rattle.proof_file.specs.Challenge.{challengeLeaf}
+use Rattle.proof_file.specs.Head.{HeadAnswer, numbers, notRead, headOf, rootAt}
+use Rattle.proof_file.specs.FileCheck.{foundIn, fileCheck}
 use Rattle.compare.specs.declared.Pair.{Pair}
 use Rattle.compare.specs.declared.Pair.the-variants.{Agree, Disagree}
 use Rattle.compare.specs.Comparison.{firstDisagreement, firstInput, secondInput}

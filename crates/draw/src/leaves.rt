@@ -3,11 +3,11 @@ ghost use mathlib.Core.Path.{_≡_};
 ghost use Prim.Native.Nat.{_-_, _≤_};
 ghost use lib.ListN.{take, drop};
 ghost use Rattle.base.specs.Bytes.{zeros};
-ghost use Rattle.proof.specs.Head.{headOf};
+ghost use Rattle.proof_file.specs.Head.{headOf};
 ghost use Rattle.draw.specs.Drawing.{leavesFrom, numbersEnd};
-use proof::HeadNumbers;
-use proof::challenge;
-use proof::read_head;
+use proof_file::HeadNumbers;
+use proof_file::challenge;
+use proof_file::read_head;
 
 // Where the head's numbers end; 0 if they cannot be read.
 pub fn numbers_end(file: &[u8]) -> usize

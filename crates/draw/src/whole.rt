@@ -1,8 +1,8 @@
 // Document 01, 'Drawing the chain': all file checks, then the comparison, then the chain.
 ghost use mathlib.Core.Path.{_≡_};
 ghost use lib.ListN.{length};
-ghost use Rattle.ways.specs.Ways.{chain, chainCodes};
-ghost use Rattle.proof.specs.FileCheck.{fileCheck};
+ghost use Rattle.chain_theory.specs.Ways.{chain, chainCodes};
+ghost use Rattle.proof_file.specs.FileCheck.{fileCheck};
 ghost use Rattle.chain.specs.Place.{leavesRow};
 ghost use Rattle.compare.specs.declared.Pair.the-variants.{Agree};
 ghost use Rattle.draw.specs.Drawing.{drawingAnswer, drawnFrom, listAfter, drawingOf, drawnList, firstDrawn, secondDrawn};
@@ -13,10 +13,10 @@ use crate::leaves::numbers_end;
 use chain::plan;
 use compare::Pair;
 use compare::compare;
-use proof::check_file;
+use opening_check::label_at;
+use proof_file::check_file;
 use refusal::Check;
 use refusal::Outcome;
-use verify::label_at;
 
 // The chain of leaves, where no pair disagrees. Its callers know that they are leaves.
 fn draw_chain(depth: u64, leaves: &[u64], list: &mut [u64]) -> Drawing

@@ -1,9 +1,9 @@
 // Refusals of starting and continuing to write a file, at their edges. The stored output has an independent model's answers.
-use carried::hash;
 use opening::Opening;
 use refusal::outcome_number;
-use show::column;
-use show::flag;
+use vector_runs::hash;
+use vector_text::column;
+use vector_text::flag;
 use writing::Writing;
 
 // What starting answers, and whether the file is changed.
@@ -11,7 +11,7 @@ fn starts(n: u64, m: u64, t: u64, store: &[u8], file: &mut [u8]) {
     let before = hash(file);
     let start = Writing::start([7u8; 32], [8u8; 32], n, m, t, store, file);
     let outcome = start.outcome;
-    show::text(b": start");
+    vector_text::text(b": start");
     column(outcome_number(outcome));
     flag(check::same(&before, &hash(file)));
 }
@@ -41,9 +41,9 @@ fn continues(writing: Writing, store: &[u8], file: &mut [u8]) {
     let before = hash(file);
     let step = writing.advance(1, store, file);
     let outcome = step.outcome;
-    show::text(b" continue");
+    vector_text::text(b" continue");
     column(outcome_number(outcome));
-    show::text(b" labels");
+    vector_text::text(b" labels");
     column(step.labels);
     flag(check::same(&before, &hash(file)));
     let after = step.writing;
@@ -68,8 +68,8 @@ fn whole(writing: Writing) {
 }
 
 fn digest(bytes: &[u8]) {
-    show::text(b" ");
-    show::hex(&hash(bytes));
+    vector_text::text(b" ");
+    vector_text::hex(&hash(bytes));
 }
 
 fn starts_at(n: u64, m: u64, t: u64, store: usize, file: usize) {
@@ -98,7 +98,7 @@ fn continues_at(writing: Writing, store: usize, file: usize) {
 
 // Starting with these numbers, and continuing opening `number` with `made` labels made.
 fn edge(n: u64, m: u64, t: u64, number: u64, leaf: u64, made: u64, store: usize, file: usize) {
-    show::text(b"edge");
+    vector_text::text(b"edge");
     column(n);
     column(m);
     column(t);
@@ -109,7 +109,7 @@ fn edge(n: u64, m: u64, t: u64, number: u64, leaf: u64, made: u64, store: usize,
     column(file as u64);
     starts_at(n, m, t, store, file);
     continues_at(under_way(n, m, t, number, leaf, made), store, file);
-    show::text(b"\n");
+    vector_text::text(b"\n");
 }
 
 fn starting() {

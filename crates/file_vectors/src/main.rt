@@ -2,13 +2,13 @@
 // checked; and their openings read as parts. The stored output has the shared files' digests and an independent model's answers.
 mod parts; // parts.rt: openings read as parts
 
-use carried::finished;
-use carried::hash;
+use opening_check::label_at;
 use parts::every_part;
-use proof::check_file_code;
+use proof_file::check_file_code;
 use refusal::outcome_number;
-use show::column;
-use verify::label_at;
+use vector_runs::finished;
+use vector_runs::hash;
+use vector_text::column;
 use writing::Writing;
 
 // Calls with one budget until no label is left, at most 1,000 calls; prints how many made labels, and how many they made.
@@ -51,18 +51,18 @@ fn write(
     let root = label_at(store, 0);
     let start = Writing::start(statement, root, depth, memory, count, store, &mut file);
     let outcome = start.outcome;
-    show::text(b" start");
+    vector_text::text(b" start");
     column(outcome_number(outcome));
     let writing = start.writing;
     write_on(writing, budget, store, &mut file);
-    show::text(b" ");
-    show::hex(&hash(&file));
+    vector_text::text(b" ");
+    vector_text::hex(&hash(&file));
     checked(&file, size, statement, depth, count);
 }
 
 fn level(statement: [u8; 32], depth: u64, memory: u64, count: u64, size: usize) {
     let store = finished(statement, depth, memory);
-    show::text(b"file");
+    vector_text::text(b"file");
     column(depth);
     column(count);
     column(memory);
@@ -77,18 +77,18 @@ fn level(statement: [u8; 32], depth: u64, memory: u64, count: u64, size: usize) 
         size,
         &store,
     );
-    show::text(b"\n");
+    vector_text::text(b"\n");
 }
 
 // At the smallest memory level, a middle one and the greatest.
 fn vector(line: &[u8]) {
     let mut report = [0u8; 64];
-    let length = vectors::decode(vectors::field(line, 0), &mut report);
+    let length = vector_text::decode(vector_text::field(line, 0), &mut report);
     let statement = hash(&report[..length]);
-    let depth = vectors::decimal(vectors::field(line, 1));
-    let count = vectors::decimal(vectors::field(line, 2));
+    let depth = vector_text::decimal(vector_text::field(line, 1));
+    let count = vector_text::decimal(vector_text::field(line, 2));
     let mut file = [0u8; 1024];
-    let size = vectors::decode(vectors::field(line, 3), &mut file);
+    let size = vector_text::decode(vector_text::field(line, 3), &mut file);
     level(statement, depth, 0, count, size);
     level(statement, depth, depth / 2, count, size);
     level(statement, depth, depth, count, size);
@@ -98,9 +98,9 @@ fn vector(line: &[u8]) {
 fn every_line(text: &[u8]) {
     let mut at: usize = 0;
     while at < text.len() {
-        let end = vectors::line_end(text, at);
+        let end = vector_text::line_end(text, at);
         let line = &text[at..end];
-        if !vectors::is_comment(line) {
+        if !vector_text::is_comment(line) {
             vector(line);
         }
         at = end + 1;

@@ -1,17 +1,17 @@
 // Openings of a file read as parts of its bytes.
-use carried::hash;
-use proof::opening_part;
-use show::column;
+use proof_file::opening_part;
+use vector_runs::hash;
+use vector_text::column;
 
 // The length and digest of opening i.
 fn part(file: &[u8], i: u64) {
     let bytes = opening_part(file, i);
-    show::text(b"part");
+    vector_text::text(b"part");
     column(i);
     column(bytes.len() as u64);
-    show::text(b" ");
-    show::hex(&hash(bytes));
-    show::text(b"\n");
+    vector_text::text(b" ");
+    vector_text::hex(&hash(bytes));
+    vector_text::text(b"\n");
 }
 
 // Openings 0 to count + 1, of which the first and the last are none.

@@ -16,10 +16,14 @@ use Rattle.groups.proofs.Steps.{groups-last, groups-more}
 
 -- laying a number's groups: one more, and the last
 module _ (bytes : List ℕ) (i rest value : ℕ) (within : i < length bytes) where
-  pub laid-more : (left next : ℕ) → left ≡ suc next → 128 ≤ rest → take i bytes ++ groups left rest ≡ groupsOf value → take (i + 1) (set bytes i (128 + rest % 128)) ++ groups next (rest / 128) ≡ groupsOf value
+  pub laid-more :
+      (left next : ℕ) → left ≡ suc next → 128 ≤ rest → take i bytes ++ groups left rest ≡ groupsOf value
+      → take (i + 1) (set bytes i (128 + rest % 128)) ++ groups next (rest / 128) ≡ groupsOf value
   laid-more left next n h e = rw (add-one i, take-suc-set bytes i (128 + rest % 128) within, append-assoc) (rw (n, groups-more next rest h) at e)
 
-  pub laid-last : (left next : ℕ) → left ≡ suc next → rest < 128 → take i bytes ++ groups left rest ≡ groupsOf value → take (i + 1) (set bytes i rest) ≡ groupsOf value
+  pub laid-last :
+      (left next : ℕ) → left ≡ suc next → rest < 128 → take i bytes ++ groups left rest ≡ groupsOf value
+      → take (i + 1) (set bytes i rest) ≡ groupsOf value
   laid-last left next n h e = rw (add-one i, take-suc-set bytes i rest within) (rw (n, groups-last next rest h) at e)
 
 -- as many bytes as were taken

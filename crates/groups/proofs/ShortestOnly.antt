@@ -35,7 +35,10 @@ record Rest (bytes : List ℕ) (at i low weight left sum end : ℕ) : Type 0 whe
   pub several : both (eqb x 0) (ltb 0 i) ≡ false
   pub shortest : Shortest bytes at left x end
 
-rest-last : (bytes : List ℕ) (at i low weight left total end : ℕ) → at < length bytes → getD bytes at 0 < 128 → both (eqb (getD bytes at 0) 0) (ltb 0 i) ≡ false → total ≡ low + getD bytes at 0 % 128 * weight → end ≡ at + 1 → Rest bytes at i low weight (suc left) total end
+rest-last :
+    (bytes : List ℕ) (at i low weight left total end : ℕ) → at < length bytes → getD bytes at 0 < 128
+    → both (eqb (getD bytes at 0) 0) (ltb 0 i) ≡ false → total ≡ low + getD bytes at 0 % 128 * weight → end ≡ at + 1
+    → Rest bytes at i low weight (suc left) total end
 rest-last bytes at i low weight left total end here h s v e = record {
   x = getD bytes at 0;
   total = v ∙ rw (small (getD bytes at 0) h);
@@ -59,7 +62,10 @@ not-zero : (x i : ℕ) → both (eqb x 0) (ltb 0 (i + 1)) ≡ false → 0 < x
 not-zero zero i s = let impossible : true ≡ false = sym (lt-ltb 0 (i + 1) (omega arith)) ∙ s in let no : _≡_ {A = ℕ} 0 1 = cc in absurd (omega arith)
 not-zero (suc x) i s = omega arith
 
-rest-more : (bytes : List ℕ) (at i low weight left total end : ℕ) → at < length bytes → 128 ≤ getD bytes at 0 → getD bytes at 0 < 256 → Rest bytes (at + 1) (i + 1) (low + getD bytes at 0 % 128 * weight) (weight * 128) left total end → Rest bytes at i low weight (suc left) total end
+rest-more :
+    (bytes : List ℕ) (at i low weight left total end : ℕ) → at < length bytes → 128 ≤ getD bytes at 0 → getD bytes at 0 < 256
+    → Rest bytes (at + 1) (i + 1) (low + getD bytes at 0 % 128 * weight) (weight * 128) left total end
+    → Rest bytes at i low weight (suc left) total end
 rest-more bytes at i low weight left total end here h b r =
     let byte = getD bytes at 0 in
     let pos = not-zero (r .x) i (r .several) in

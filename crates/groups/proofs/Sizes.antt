@@ -12,7 +12,9 @@ use Rattle.groups.proofs.Steps.{groups-last, groups-more, rest-below, t
 pub length-groups-le : (k x : ℕ) → length (groups k x) ≤ k
 unfolding groups
 length-groups-le zero x = omega arith
-length-groups-le (suc k) x = ⊎-elim (λ h. rw (groups-last k x h) (omega arith)) (λ h. rw (groups-more k x h) (omega (arith, length-groups-le k (x / 128)))) (lt-or-le x 128)
+length-groups-le (suc k) x =
+    ⊎-elim (λ h. rw (groups-last k x h) (omega arith)) (λ h. rw (groups-more k x h) (omega (arith, length-groups-le k (x / 128))))
+    (lt-or-le x 128)
 
 -- at least one group
 pub length-groups-pos : (k x : ℕ) → 0 < k → 0 < length (groups k x)
@@ -24,14 +26,21 @@ pub groups-bytes : (k x i : ℕ) → getD (groups k x) i 0 < 256
 unfolding groups
 groups-bytes zero x i = omega arith
 groups-bytes (suc k) x zero = ⊎-elim (λ h. rw (groups-last k x h) (omega arith)) (λ h. rw (groups-more k x h) (omega arith)) (lt-or-le x 128)
-groups-bytes (suc k) x (suc i) = ⊎-elim (λ h. rw (groups-last k x h) (omega arith)) (λ h. rw (groups-more k x h) (groups-bytes k (x / 128) i)) (lt-or-le x 128)
+groups-bytes (suc k) x (suc i) =
+    ⊎-elim (λ h. rw (groups-last k x h) (omega arith)) (λ h. rw (groups-more k x h) (groups-bytes k (x / 128) i)) (lt-or-le x 128)
 
 -- a number that k groups hold has the same groups where more are allowed
 pub groups-enough : (k more x : ℕ) → 0 < k → x < 128 ^ k → groups (k + more) x ≡ groups k x
 groups-enough zero more x p h = absurd (omega arith)
 groups-enough (suc k) more x p h =
     ⊎-elim (λ l. rw (suc-add k more, groups-last (k + more) x l, groups-last k x l))
-    (λ m. rw (suc-add k more, groups-more (k + more) x m, groups-more k x m, groups-enough k more (x / 128) (omega (arith, two-left (suc k) x m h)) (rest-below (suc k) k x refl h)))
+    (λ m.
+    rw (
+      suc-add k more,
+      groups-more (k + more) x m,
+      groups-more k x m,
+      groups-enough k more (x / 128) (omega (arith, two-left (suc k) x m h)) (rest-below (suc k) k x refl h),
+    ))
     (lt-or-le x 128)
 
 -- the groups of a number do not depend on how many are allowed

@@ -44,7 +44,8 @@ unfolding readFrom
 read-end bytes at i low left next n e = rw (n, le-leb (length bytes) at e)
 
 -- reading a byte of group i: the last, and one with another after it
-module _ (bytes : List ℕ) (at i low left next byte weight : ℕ) (n : left ≡ suc next) (here : at < length bytes) (b : byte ≡ getD bytes at 0) (w : weight ≡ 128 ^ i) where
+module _ (bytes : List ℕ) (at i low left next byte weight : ℕ) (n : left ≡ suc next) (here : at < length bytes)
+    (b : byte ≡ getD bytes at 0) (w : weight ≡ 128 ^ i) where
   pub read-last : byte < 128 → readFrom bytes at i low left ≡ ended byte i (low + byte % 128 * weight) (at + 1)
   unfolding readFrom
   read-last h = rw (n, w, ← b, lt-leb (length bytes) at here, lt-ltb byte 128 h)
@@ -95,7 +96,9 @@ pub next-weight : (weight i : ℕ) → weight ≡ 128 ^ i → weight * 128 ≡ 1
 next-weight weight i w = rw (w, add-one i) (omega arith)
 
 -- what reading from the start gives
-pub read-whole : (bytes : List ℕ) (at limit most : ℕ) (answer : Answer) → limit ≡ most → readFrom bytes at 0 0 limit ≡ answer → answer ≡ readAt bytes at most
+pub read-whole :
+    (bytes : List ℕ) (at limit most : ℕ) (answer : Answer) → limit ≡ most → readFrom bytes at 0 0 limit ≡ answer
+    → answer ≡ readAt bytes at most
 unfolding readAt
 read-whole bytes at limit most answer l r = rw (← l) (sym r)
 

@@ -63,7 +63,10 @@ module _ (statement : List ℕ) (level position : ℕ) (front rest : List ℕ) (
     filled b4 b5 e4 e5 =
         let n : length (heads ++ front) ≡ 41 + length front = rw (length-append, length-head 1344 room statement level position whole small) in
         let a : b4 ≡ (heads ++ front) ++ zeros (1344 - (41 + length front)) =
-        e4 ∙ filled-more 1344 b3 heads front 41 (after-head 1344 room statement level position whole small place b1 b2 b3 e e1 e2 e3) (length-head 1344 room statement level position whole small) (omega arith) in
+        e4
+        ∙ filled-more 1344 b3 heads front 41
+        (after-head 1344 room statement level position whole small place b1 b2 b3 e e1 e2 e3)
+        (length-head 1344 room statement level position whole small) (omega arith) in
         let b : b5 ≡ (heads ++ front ++ rest) ++ zeros (1344 - size) =
         e5 ∙ (rw sized at (filled-more 1344 b4 (heads ++ front) rest (41 + length front) a n (omega arith))) in
         let input : take size b5 ≡ heads ++ front ++ rest =

@@ -61,6 +61,8 @@ module _ (input : List ℕ) (len : ℕ) (small : len ≤ 1321) (front : input �
   laid-padded =
       let marked : length (written input len (128 ∷ [])) ≡ 1344 = length-written input len (128 ∷ []) (omega (arith, length-front)) ∙ length-front in
       let bits : length (bigEndian 8 (8 * len)) ≡ 8 = length-bigEndian 8 (8 * len) in
-      let whole : length laid ≡ 1344 = length-written (written input len (128 ∷ [])) (paddedSize len - 8) (bigEndian 8 (8 * len)) (omega arith) ∙ marked in
-      let size : length (padded (take len input)) ≡ paddedSize len = ap length (sym padded-buffer) ∙ length-take-le (paddedSize len) laid (omega arith) in
+      let whole : length laid ≡ 1344 =
+      length-written (written input len (128 ∷ [])) (paddedSize len - 8) (bigEndian 8 (8 * len)) (omega arith) ∙ marked in
+      let size : length (padded (take len input)) ≡ paddedSize len =
+      ap length (sym padded-buffer) ∙ length-take-le (paddedSize len) laid (omega arith) in
       sym (take-append-drop (paddedSize len) laid) ∙ rw (zeros-behind, padded-buffer, size)

@@ -59,7 +59,9 @@ turned height level position made h l p left half w small =
     }
 
 pub walking-turn : (height level position made h l p left half : ℕ) → Walking height level position made h l p left half → left < 2 * half
-    → (1 ≤ h) × Walking height level position made (h - 1) (l + 1) (pick (ltb left half) (2 * p) (2 * p + 1)) (pick (ltb left half) left (left - half)) (half / 2)
+    → (1 ≤ h)
+    × Walking height level position made (h - 1) (l + 1) (pick (ltb left half) (2 * p) (2 * p + 1))
+    (pick (ltb left half) left (left - half)) (half / 2)
 walking-turn height level position made zero l p left half w small = absurd (omega (arith, w .halves))
 walking-turn height level position made (suc h) l p left half w small =
     let e : suc h - 1 ≡ h = omega arith in

@@ -24,7 +24,8 @@ unfolding written
 laid text part after at l h k e =
     let n : length (take at text) ≡ at = length-take-le at text (omega arith) in
     rw (added-fits (take at text) part (omega arith), e)
-    (take-at (take at text ++ part) (drop (at + length part) text) (at + length part) (length-append (take at text) part ∙ ap (λ (k : ℕ). k + length part) n))
+    (take-at (take at text ++ part) (drop (at + length part) text) (at + length part)
+    (length-append (take at text) part ∙ ap (λ (k : ℕ). k + length part) n))
 
 -- what does not fit changes nothing
 pub laid-none : (text part : List ℕ) (at : ℕ) → length text ≡ 8192 → 8192 < at → take at text ≡ added (take at text) part
@@ -46,7 +47,9 @@ laid-full text part at l h k =
     rw (lt-leb (length (take at text) + length part) 8192 (omega arith))
 
 -- hexadecimal
-pub hex-turn : (line bytes : List ℕ) (i : ℕ) → i < length bytes → addedHex line (drop i bytes) ≡ addedHex (added line (hexByte (getD bytes i 0))) (drop (i + 1) bytes)
+pub hex-turn :
+    (line bytes : List ℕ) (i : ℕ) → i < length bytes
+    → addedHex line (drop i bytes) ≡ addedHex (added line (hexByte (getD bytes i 0))) (drop (i + 1) bytes)
 hex-turn line bytes i h = rw (add-one i, drop-cons bytes i 0 h) (unfold addedHex in refl)
 
 pub hex-end : (line bytes : List ℕ) (i : ℕ) → length bytes ≤ i → addedHex line (drop i bytes) ≡ line
@@ -88,7 +91,9 @@ more {line} {next} {text} {n} part k s e h r =
       size = omega (arith, s .size, length-append text part);
     }
 
-pub more-hex : {line next text : List ℕ} {n : ℕ} (bytes : List ℕ) (k : ℕ) → Short line text n → next ≡ addedHex line bytes → length bytes ≤ k → n + 2 * k ≤ 8192
+pub more-hex :
+    {line next text : List ℕ} {n : ℕ} (bytes : List ℕ) (k : ℕ) → Short line text n → next ≡ addedHex line bytes → length bytes ≤ k
+    → n + 2 * k ≤ 8192
     → Short next (text ++ hexOf bytes) (n + 2 * k)
 more-hex {line} {next} {text} {n} bytes k s e h r =
     record {

@@ -1,5 +1,6 @@
 // Lines of text, built in a place of 8,192 bytes and written in one piece.
 mod adding; // adding.rt: a line under way
+mod saying; // saying.rt: lines to a descriptor
 mod texts; // texts.rt: the lines that the program prints
 
 pub use adding::add;
@@ -7,6 +8,10 @@ pub use adding::add_hex;
 pub use adding::add_line;
 pub use adding::add_number;
 pub use adding::empty;
+pub use saying::complain;
+pub use saying::complain_of;
+pub use saying::say;
+pub use saying::say_text;
 pub use texts::accepted;
 pub use texts::clash;
 pub use texts::fact;

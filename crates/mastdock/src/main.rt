@@ -1,4 +1,4 @@
 // The program: does what its arguments ask, with answers on standard output, and progress and complaints on standard error.
 fn main() {
-    week::run_arguments(1, 2);
+    commands::run_arguments(1, 2);
 }

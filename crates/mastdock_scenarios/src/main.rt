@@ -36,7 +36,7 @@ fn part_words(words: &[u8], line: &mut [u8]) -> usize
 
 fn command(line: &[u8], size: usize, out: i32, err: i32) {
     if size <= line.len() {
-        week::command(&line[..size], out, err);
+        commands::command(&line[..size], out, err);
     }
 }
 
@@ -129,20 +129,20 @@ fn long_paths() {
 // No proof whose openings clash is known: the lines are shown with made-up inputs.
 fn clash() {
     say(b"> a clash\n");
-    judge::say_clash(2, 5, 1, [10u8; 105], [171u8; 105], 1);
+    commands::say_clash(2, 5, 1, [10u8; 105], [171u8; 105], 1);
 }
 
 // The words of this program's own arguments, which are one too many.
 fn surplus() {
     say(b"> this program's arguments: seal report x.proof 3 2 1 4\n");
-    week::run_arguments(1, 1);
+    commands::run_arguments(1, 1);
 }
 
 fn main() {
     make_files();
     surplus();
     say(b"> mastdock\n");
-    week::command(b"", 1, 1);
+    commands::command(b"", 1, 1);
     run_file();
     long_paths();
     clash();

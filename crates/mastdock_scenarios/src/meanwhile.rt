@@ -3,10 +3,10 @@ use crate::make;
 use crate::run;
 use crate::say;
 use crate::streams::show;
-use files::Part;
-use files::keep_proof;
-use files::make_part;
-use files::take_room;
+use commands::Part;
+use commands::keep_proof;
+use commands::make_part;
+use commands::take_room;
 use lines::add;
 use lines::empty;
 

@@ -93,7 +93,7 @@ pub fn closed() {
     say(b"> standard input and standard error are closed\n");
     libc::close(0);
     libc::close(2);
-    if standard_streams::occupy() {
+    if descriptors::occupy() {
         opened();
     }
     make(b"last", b"", false);

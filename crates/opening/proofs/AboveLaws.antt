@@ -76,7 +76,10 @@ above-more n leaf l store len len′ bytes bytes′ level room fits so e f =
     let bit : p % 2 ≤ 1 = omega arith in
     let end : len + length (leftLabel store (l + 1) p) ≡ len′ = omega arith in
     record {
-      laid = e ∙ rw (front-more n leaf l store level, ← end) (filled-more 640 bytes (front n l leaf store) (leftLabel store (l + 1) p) len (so .laid) (so .whole) (omega arith));
+      laid =
+          e
+          ∙ rw (front-more n leaf l store level, ← end)
+          (filled-more 640 bytes (front n l leaf store) (leftLabel store (l + 1) p) len (so .laid) (so .whole) (omega arith));
       whole = rw (front-more n leaf l store level) (length-append (front n l leaf store) (leftLabel store (l + 1) p) ∙ omega (arith, so .whole));
       counted = omega (arith, ones-more n leaf l level, so .counted);
     }

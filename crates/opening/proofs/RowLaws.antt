@@ -25,7 +25,15 @@ anew-nodes n m = omega arith
 
 pub possible : (n m leaf : ℕ) → outside 1 maxDepth n ≡ false → memoryOver n m ≡ false → leb (2 ^ n) leaf ≡ false → Possible n m leaf
 possible n m leaf d o l =
-    record { some = depth-some n d; deep = depth-inside n d; above = memory-below n m o; kept = memory-inside n m o; inside = leb-false (2 ^ n) leaf l }
+    record {
+      some =
+          depth-some n d;
+      deep = depth-inside n d;
+      above = memory-below n m o;
+      kept = memory-inside n m o;
+      inside = leb-false
+          (2 ^ n) leaf l;
+    }
 
 -- an opening that can be, with a store and an output that are long enough
 pub record Ready (n m leaf store out : ℕ) : Type 0 where

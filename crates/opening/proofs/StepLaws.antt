@@ -22,7 +22,9 @@ anew-few n m k few = omega arith
 pub anew-small : (n m : ℕ) → n ≤ 40 → nodesAnew n m < 2 ^ 41
 anew-small n m deep = omega (arith, pow-mono {i = n - m + 1} {j = 41} (omega arith))
 
-not-top : (h k depth height across : ℕ) → height + depth ≡ h → across < 2 ^ depth → (across ≡ 0 → height ≡ h → k + 1 ≡ nodesIn h) → k + 1 < nodesIn h → 1 ≤ depth
+not-top :
+    (h k depth height across : ℕ) → height + depth ≡ h → across < 2 ^ depth → (across ≡ 0 → height ≡ h → k + 1 ≡ nodesIn h)
+    → k + 1 < nodesIn h → 1 ≤ depth
 not-top h k zero height across fits inside top few = absurd (omega (arith, top (omega arith) (omega arith)))
 not-top h k (suc depth) height across fits inside top few = omega arith
 

@@ -1,11 +1,11 @@
 // The openings of the shared files' challenges, made at every memory level.
-use carried::finished;
-use carried::hash;
-use carried::open_to_end;
 use opening::Opening;
-use proof::challenge;
+use opening_check::label_at;
+use proof_file::challenge;
 use sha256::Hash;
-use verify::label_at;
+use vector_runs::finished;
+use vector_runs::hash;
+use vector_runs::open_to_end;
 
 // The hash state with so many bytes more.
 fn taken(state: Hash, bytes: &[u8], size: usize) -> Hash {
@@ -65,23 +65,23 @@ fn column(
     count: u64,
     store: [u8; 4064],
 ) {
-    show::text(b" ");
-    show::hex(&all(statement, root, depth, memory, budget, count, &store));
+    vector_text::text(b" ");
+    vector_text::hex(&all(statement, root, depth, memory, budget, count, &store));
 }
 
 fn level(statement: [u8; 32], depth: u64, memory: u64, count: u64) {
     let store = finished(statement, depth, memory);
     let root = label_at(&store, 0);
-    show::text(b"file depth ");
-    show::number(depth);
-    show::text(b" count ");
-    show::number(count);
-    show::text(b" memory ");
-    show::number(memory);
+    vector_text::text(b"file depth ");
+    vector_text::number(depth);
+    vector_text::text(b" count ");
+    vector_text::number(count);
+    vector_text::text(b" memory ");
+    vector_text::number(memory);
     column(statement, root, depth, memory, 1000, count, store);
     column(statement, root, depth, memory, 7, count, store);
     column(statement, root, depth, memory, 1, count, store);
-    show::text(b"\n");
+    vector_text::text(b"\n");
 }
 
 fn levels(statement: [u8; 32], depth: u64, count: u64) {
@@ -97,9 +97,9 @@ fn levels(statement: [u8; 32], depth: u64, count: u64) {
 
 fn vector(line: &[u8]) {
     let mut report = [0u8; 64];
-    let size = vectors::decode(vectors::field(line, 0), &mut report);
-    let depth = vectors::decimal(vectors::field(line, 1));
-    let count = vectors::decimal(vectors::field(line, 2));
+    let size = vector_text::decode(vector_text::field(line, 0), &mut report);
+    let depth = vector_text::decimal(vector_text::field(line, 1));
+    let count = vector_text::decimal(vector_text::field(line, 2));
     levels(hash(&report[..size]), depth, count);
 }
 
@@ -107,9 +107,9 @@ fn vector(line: &[u8]) {
 pub fn every_line(text: &[u8]) {
     let mut at: usize = 0;
     while at < text.len() {
-        let end = vectors::line_end(text, at);
+        let end = vector_text::line_end(text, at);
         let line = &text[at..end];
-        if !vectors::is_comment(line) {
+        if !vector_text::is_comment(line) {
             vector(line);
         }
         at = end + 1;

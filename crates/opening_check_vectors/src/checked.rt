@@ -1,11 +1,11 @@
 // Openings checked upward to the root: as they were made, of a wrong length, and with a byte of each label changed.
 ghost use Prim.Native.Nat.{_≤_};
-use carried::finished;
-use carried::hash;
 use opening::Opening;
+use opening_check::check_opening;
+use opening_check::label_at;
 use refusal::outcome_number;
-use verify::check_opening;
-use verify::label_at;
+use vector_runs::finished;
+use vector_runs::hash;
 
 // The opening of a leaf, over output bytes that held something else.
 fn opened(statement: [u8; 32], depth: u64, memory: u64, leaf: u64, store: &[u8]) -> [u8; 1313] {
@@ -20,8 +20,8 @@ fn opened(statement: [u8; 32], depth: u64, memory: u64, leaf: u64, store: &[u8])
 fn answer(statement: [u8; 32], depth: u64, leaf: u64, root: [u8; 32], out: &[u8], size: usize) {
     if size <= out.len() {
         let outcome = check_opening(statement, depth, leaf, root, &out[..size]);
-        show::text(b" ");
-        show::number(outcome_number(outcome));
+        vector_text::text(b" ");
+        vector_text::number(outcome_number(outcome));
     }
 }
 
@@ -67,16 +67,16 @@ fn leaf_checked(
 {
     let size = 32 * (depth + 1) as usize;
     let out = opened(statement, depth, memory, leaf, store);
-    show::text(b"leaf ");
-    show::number(leaf);
+    vector_text::text(b"leaf ");
+    vector_text::number(leaf);
     answer(statement, depth, leaf, root, &out, size);
     answer(statement, depth, leaf, root, &out, size - 1);
     answer(statement, depth, leaf, root, &out, size + 1);
     answer(statement, depth, leaf ^ 1, root, &out, size);
     answer(statement, depth, leaf, statement, &out, size);
-    show::text(b" changed");
+    vector_text::text(b" changed");
     each_changed(statement, depth, leaf, root, out);
-    show::text(b"\n");
+    vector_text::text(b"\n");
 }
 
 // Every leaf.
@@ -101,11 +101,11 @@ fn leaves_checked(
 fn level_checked(depth: u64, memory: u64, leaves: u64)
     requires { ⌜ depth ≤ 6 ⌝ }
 {
-    show::text(b"depth ");
-    show::number(depth);
-    show::text(b" memory ");
-    show::number(memory);
-    show::text(b"\n");
+    vector_text::text(b"depth ");
+    vector_text::number(depth);
+    vector_text::text(b" memory ");
+    vector_text::number(memory);
+    vector_text::text(b"\n");
     let statement = hash(b"openings");
     let store = finished(statement, depth, memory);
     let root = label_at(&store, 0);

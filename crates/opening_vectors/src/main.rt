@@ -1,12 +1,12 @@
 // Every leaf of small trees opened at every memory level and several budgets, and each refusal at its edge. The stored output
 // has the digests of an independent model's openings.
-use carried::finished;
-use carried::hash;
-use carried::open_to_end;
 use opening::Opening;
 use refusal::outcome_number;
 use sha256::Hash;
-use show::flag;
+use vector_runs::finished;
+use vector_runs::hash;
+use vector_runs::open_to_end;
+use vector_text::flag;
 
 // The hash state with one more opening, made over output bytes that held something else, with a byte behind it.
 fn one(
@@ -56,22 +56,22 @@ fn column(
     leaves: u64,
     store: [u8; 4064],
 ) {
-    show::text(b" ");
-    show::hex(&all_leaves(statement, depth, memory, budget, leaves, &store));
+    vector_text::text(b" ");
+    vector_text::hex(&all_leaves(statement, depth, memory, budget, leaves, &store));
 }
 
 // One depth and memory level: the digest over every leaf's opening and number of labels made.
 fn level(depth: u64, memory: u64, leaves: u64) {
     let statement = hash(b"openings");
     let store = finished(statement, depth, memory);
-    show::text(b"depth ");
-    show::number(depth);
-    show::text(b" memory ");
-    show::number(memory);
+    vector_text::text(b"depth ");
+    vector_text::number(depth);
+    vector_text::text(b" memory ");
+    vector_text::number(memory);
     column(statement, depth, memory, 1000, leaves, store);
     column(statement, depth, memory, 3, leaves, store);
     column(statement, depth, memory, 1, leaves, store);
-    show::text(b"\n");
+    vector_text::text(b"\n");
 }
 
 fn depth(n: u64, leaves: u64) {
@@ -90,8 +90,8 @@ fn starts(n: u64, m: u64, leaf: u64, store: &[u8], out: &mut [u8]) {
     let before = hash(out);
     let start = Opening::start([7u8; 32], n, m, leaf, store, out);
     let outcome = start.outcome;
-    show::text(b": start ");
-    show::number(outcome_number(outcome));
+    vector_text::text(b": start ");
+    vector_text::number(outcome_number(outcome));
     flag(check::same(&before, &hash(out)));
 }
 
@@ -109,10 +109,10 @@ fn continues(n: u64, m: u64, leaf: u64, made: u64, store: &[u8], out: &mut [u8])
     };
     let step = opening.advance(1, store, out);
     let outcome = step.outcome;
-    show::text(b" continue ");
-    show::number(outcome_number(outcome));
-    show::text(b" labels ");
-    show::number(step.labels);
+    vector_text::text(b" continue ");
+    vector_text::number(outcome_number(outcome));
+    vector_text::text(b" labels ");
+    vector_text::number(step.labels);
     flag(check::same(&before, &hash(out)));
 }
 
@@ -141,20 +141,20 @@ fn continues_at(n: u64, m: u64, leaf: u64, made: u64, store: usize, out: usize) 
 }
 
 fn edge_at(n: u64, m: u64, leaf: u64, made: u64, store: usize, out: usize) {
-    show::number(n);
-    show::text(b" ");
-    show::number(m);
-    show::text(b" ");
-    show::number(leaf);
-    show::text(b" ");
-    show::number(made);
-    show::text(b" ");
-    show::number(store as u64);
-    show::text(b" ");
-    show::number(out as u64);
+    vector_text::number(n);
+    vector_text::text(b" ");
+    vector_text::number(m);
+    vector_text::text(b" ");
+    vector_text::number(leaf);
+    vector_text::text(b" ");
+    vector_text::number(made);
+    vector_text::text(b" ");
+    vector_text::number(store as u64);
+    vector_text::text(b" ");
+    vector_text::number(out as u64);
     starts_at(n, m, leaf, store, out);
     continues_at(n, m, leaf, made, store, out);
-    show::text(b"\n");
+    vector_text::text(b"\n");
 }
 
 fn edges() {

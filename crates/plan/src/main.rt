@@ -1,6 +1,6 @@
 // The planning program: reads standard input, answers on standard output.
 fn main() {
-    if standard_streams::occupy() {
+    if descriptors::occupy() {
         plan_command::plan(0, 1, 2);
     }
 }

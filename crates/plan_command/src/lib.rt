@@ -4,7 +4,7 @@ ghost use mathlib.Core.Path.{_≡_};
 ghost use Rattle.base.specs.Bytes.{zeros};
 ghost use Rattle.base.specs.Limits.{maxInput};
 ghost use Rattle.planning.specs.Output.{maxOutput};
-use whole_input::read_whole;
+use descriptors::read_whole;
 
 // One byte more than an input may have.
 fn input_space() -> [u8; 65537]

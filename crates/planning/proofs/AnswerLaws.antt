@@ -19,9 +19,9 @@ use Rattle.refusal.specs.declared.Outcome.the-variants.{Done, Refused}
 use Rattle.refusal.specs.Number.{numberOf, outcomeNumber}
 use Rattle.refusal.proofs.RowLaws.{NoneHolds, none-holds, is-done, refused-number, not-done}
 use Rattle.tree.specs.Nodes.{Node, node, root}
-use Rattle.ways.specs.Ways.{chain, code, chainCodes}
-use Rattle.ways.specs.Counts.{leavesOpened}
-use Rattle.ways.proofs.Once.{chain-at, same-code}
+use Rattle.chain_theory.specs.Ways.{chain, code, chainCodes}
+use Rattle.chain_theory.specs.Counts.{leavesOpened}
+use Rattle.chain_theory.proofs.Once.{chain-at, same-code}
 use Rattle.chain.specs.PlanRow.{planRow, plannedCount, plannedList}
 use Rattle.chain.proofs.Rows.{leavesChecks}
 use Rattle.chain.proofs.Writing.{written-none, written-append}
@@ -106,7 +106,9 @@ plan-wrote n leaves codes done are d e f k m q i different w end p t room =
     ))
 
 -- what planning into a list of 6,855 places answers
-pub done-row : (n : ℕ) (leaves : List ℕ) (o : Outcome) (list : ℕ) → list ≡ 6855 → outcomeNumber o ≡ planRow n leaves list → o ≡ Done → planRow n leaves places ≡ 0
+pub done-row :
+    (n : ℕ) (leaves : List ℕ) (o : Outcome) (list : ℕ) → list ≡ 6855 → outcomeNumber o ≡ planRow n leaves list → o ≡ Done
+    → planRow n leaves places ≡ 0
 done-row n leaves o list e p q = rw (← e) (is-done o (planRow n leaves list) p q)
 
 pub done-count : (n : ℕ) (leaves : List ℕ) (list count : ℕ) → list ≡ 6855 → planRow n leaves places ≡ 0 → count ≡ plannedCount n leaves list
@@ -118,9 +120,13 @@ pub done-codes : (n : ℕ) (leaves list codes : List ℕ) (count : ℕ) → leng
     → count ≡ length (chain n leaves) → codes ≡ plannedList n leaves list → take count codes ≡ chainCodes n leaves
 unfolding plannedList written chainCodes
 done-codes n leaves list codes count e d c p =
-    rw (p, e, d) (ap (take count) (append-assoc [] (map code (chain n leaves)) _) ∙ take-at (map code (chain n leaves)) _ count (length-map (chain n leaves) code ∙ sym c))
+    rw (p, e, d)
+    (ap (take count) (append-assoc [] (map code (chain n leaves)) _)
+    ∙ take-at (map code (chain n leaves)) _ count (length-map (chain n leaves) code ∙ sym c))
 
-refused-text : (n : ℕ) (leaves : List ℕ) (o : Outcome) (why : Refusal) (list k : ℕ) → list ≡ 6855 → outcomeNumber o ≡ planRow n leaves list → o ≡ Refused why
+refused-text :
+    (n : ℕ) (leaves : List ℕ) (o : Outcome) (why : Refusal) (list k : ℕ) → list ≡ 6855 → outcomeNumber o ≡ planRow n leaves list
+    → o ≡ Refused why
     → k ≡ numberOf why → planText n leaves ≡ refusedText k
 unfolding planText
 refused-text n leaves o why list k a p q r =
@@ -131,6 +137,8 @@ pub refused-wrote : (n : ℕ) (leaves d e : List ℕ) (o : Outcome) (why : Refus
     → o ≡ Refused why → k ≡ numberOf why → Wrote d 0 (refusedText k) e m → Wrote d 0 (planText n leaves) e m
 refused-wrote n leaves d e o why list k m a p q r w = rw (refused-text n leaves o why list k a p q r) w
 
-pub done-wrote : (n : ℕ) (leaves d e : List ℕ) (m : ℕ) → planRow n leaves places ≡ 0 → Wrote d 0 (answerText n leaves 0) e m → Wrote d 0 (planText n leaves) e m
+pub done-wrote :
+    (n : ℕ) (leaves d e : List ℕ) (m : ℕ) → planRow n leaves places ≡ 0 → Wrote d 0 (answerText n leaves 0) e m
+    → Wrote d 0 (planText n leaves) e m
 unfolding planText
 done-wrote n leaves d e m a w = rw a w

@@ -13,7 +13,7 @@ use Rattle.base.specs.Bytes.{written}
 use Rattle.base.specs.Limits.{maxDepth, maxChallenges, maxInput}
 use Rattle.base.proofs.ChoiceLaws.{both-first, both-second}
 use Rattle.refusal.specs.Row.{either, outside}
-use Rattle.ways.specs.Planning.{every}
+use Rattle.chain_theory.specs.Planning.{every}
 use Rattle.chain.specs.PlanRow.{planRow}
 use Rattle.chain.proofs.Rows.{too-high}
 use Rattle.planning.specs.Input.{readable, fits, numbers, unreadable}
@@ -44,7 +44,8 @@ module _ (bytes : List ℕ) where
   pub no-number : length (numbers bytes) ≡ 0 → unreadable bytes ≡ true
   unfolding unreadable
   no-number h =
-      none (ltb maxInput (length bytes)) (every readable bytes) (eqb (length (numbers bytes)) 0) (every fits (numbers bytes)) (eq-eqb (length (numbers bytes)) 0 h)
+      none (ltb maxInput (length bytes)) (every readable bytes) (eqb (length (numbers bytes)) 0) (every fits (numbers bytes))
+      (eq-eqb (length (numbers bytes)) 0 h)
 
   pub good-input : length bytes ≤ maxInput → allFit false 0 bytes ≡ true → 0 < length (numbers bytes) → unreadable bytes ≡ false
   unfolding unreadable allFit numbers

@@ -10,9 +10,9 @@ use borrow.Author.Tests.{le-ltb, leb-true, not-false}
 use Rattle.base.specs.Limits.{maxDepth, maxChallenges}
 use Rattle.base.proofs.ChoiceLaws.{both-second, true-false}
 use Rattle.refusal.specs.Row.{firstOf, outside}
-use Rattle.ways.specs.Ways.{chain}
-use Rattle.ways.specs.Planning.{every, isLeaf}
-use Rattle.ways.proofs.Bound.{chain-bound, leavesOpened-le}
+use Rattle.chain_theory.specs.Ways.{chain}
+use Rattle.chain_theory.specs.Planning.{every, isLeaf}
+use Rattle.chain_theory.proofs.Bound.{chain-bound, leavesOpened-le}
 use Rattle.chain.specs.PlanRow.{planRow}
 use Rattle.planning.specs.Output.{places}
 

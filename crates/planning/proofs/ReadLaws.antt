@@ -13,7 +13,7 @@ use Rattle.base.specs.Choice.{pick, both}
 use Rattle.base.specs.Bytes.{written}
 use Rattle.base.proofs.ChoiceLaws.{both-first, both-second, both-false}
 use Rattle.chain.proofs.Writing.{written-none}
-use Rattle.ways.specs.Planning.{every}
+use Rattle.chain_theory.specs.Planning.{every}
 use Rattle.planning.specs.Input.{isDigit, readable, fits, numbersFrom, numbers}
 use Rattle.planning.specs.Steps.{goesOn, nextValue, Step, Wrote, allFit, ended}
 use Rattle.planning.proofs.Laying.{one-byte}
@@ -82,7 +82,9 @@ all-on b v bs h g =
 too-large : (v : ℕ) (bs : List ℕ) → fits v ≡ false → every fits (numbersFrom true v bs) ≡ false
 unfolding numbersFrom every
 too-large v [] h = rw h
-too-large v (b ∷ bs) h = go (isDigit b) (too-large (10 * v + (b - 48)) bs (le-ltb (10 * v + (b - 48)) (2 ^ 64) (omega (arith, ltb-false v (2 ^ 64) h))))
+too-large v (b ∷ bs) h =
+    go (isDigit b)
+    (too-large (10 * v + (b - 48)) bs (le-ltb (10 * v + (b - 48)) (2 ^ 64) (omega (arith, ltb-false v (2 ^ 64) h))))
   where
     go : (d : Bool) → every fits (numbersFrom true (10 * v + (b - 48)) bs) ≡ false
         → every fits (pick d (numbersFrom true (10 * v + (b - 48)) bs) (v ∷ numbersFrom false 0 bs)) ≡ false
@@ -124,7 +126,9 @@ module _ (bytes : List ℕ) (i b v : ℕ) (h : i < length bytes) (e : b ≡ getD
   here : drop i bytes ≡ b ∷ drop (i + 1) bytes
   here = rw (add-one i, e) (drop-cons bytes i 0 h)
 
-  pub all-turn : (next : ℕ) → fits v ≡ true → goesOn b v ≡ true → next ≡ nextValue b v → allFit true next (drop (i + 1) bytes) ≡ allFit true v (drop i bytes)
+  pub all-turn :
+      (next : ℕ) → fits v ≡ true → goesOn b v ≡ true → next ≡ nextValue b v
+      → allFit true next (drop (i + 1) bytes) ≡ allFit true v (drop i bytes)
   all-turn next f g q = rw (here, q) (sym (all-on b v (drop (i + 1) bytes) f g))
 
   pub all-stop : goesOn b v ≡ false → allFit true v (drop i bytes) ≡ false
@@ -188,7 +192,9 @@ first-full list rest all r h l k e =
     let t : take 202 all ≡ take r list = ap (take 202) (sym e) ∙ take-at (take r list) rest 202 (omega arith) in
     (sym t, sym (ap length t ∙ n))
 
-pub first-all : (list all : List ℕ) (r : ℕ) → r ≤ length list → length list ≡ 202 → take r list ≡ all → (take r list ≡ take 202 all) × (r ≡ length (take 202 all))
+pub first-all :
+    (list all : List ℕ) (r : ℕ) → r ≤ length list → length list ≡ 202 → take r list ≡ all
+    → (take r list ≡ take 202 all) × (r ≡ length (take 202 all))
 first-all list all r h l e =
     let n : length (take r list) ≡ r = length-take-le r list h in
     let m : length all ≡ r = sym (ap length e) ∙ n in

@@ -7,7 +7,7 @@ use lib.ListN.{length}
 use Rattle.base.specs.Choice.{pick, both}
 use Rattle.base.specs.Limits.{maxInput}
 use Rattle.refusal.specs.Row.{either}
-use Rattle.ways.specs.Planning.{every}
+use Rattle.chain_theory.specs.Planning.{every}
 
 abbrev pub isDigit : ℕ → Bool
 isDigit b = both (leb 48 b) (leb b 57)

@@ -7,8 +7,8 @@ use Rattle.base.specs.Choice.{pick}
 use Rattle.base.specs.Bytes.{joined}
 use Rattle.refusal.specs.Row.{isDone}
 use Rattle.tree.specs.Nodes.{Node}
-use Rattle.ways.specs.Ways.{chain}
-use Rattle.ways.specs.Counts.{leavesOpened}
+use Rattle.chain_theory.specs.Ways.{chain}
+use Rattle.chain_theory.specs.Counts.{leavesOpened}
 use Rattle.chain.specs.PlanRow.{planRow}
 use Rattle.planning.specs.Ascii.{ascii}
 use Rattle.planning.specs.Input.{numbers, unreadable}

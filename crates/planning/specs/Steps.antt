@@ -6,7 +6,7 @@ use mathlib.Core.List.{List, [], _∷_}
 use lib.ListN.{length}
 use Rattle.base.specs.Bytes.{written}
 use Rattle.base.specs.Choice.{pick, both}
-use Rattle.ways.specs.Planning.{every}
+use Rattle.chain_theory.specs.Planning.{every}
 use Rattle.planning.specs.Input.{isDigit, readable, fits, numbersFrom}
 
 -- a byte that can be read after a value, and the value after it

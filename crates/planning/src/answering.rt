@@ -12,7 +12,7 @@ ghost use lib.Dec.{leb};
 ghost use lib.ListN.{length};
 ghost use Rattle.base.specs.Bytes.{written};
 ghost use Rattle.base.specs.Choice.{pick};
-ghost use Rattle.ways.specs.Ways.{chainCodes};
+ghost use Rattle.chain_theory.specs.Ways.{chainCodes};
 ghost use Rattle.chain.specs.PlanRow.{planRow};
 ghost use Rattle.planning.specs.Output.{places, maxOutput, answerText, planText, printed};
 ghost use Rattle.planning.specs.Steps.{Wrote};

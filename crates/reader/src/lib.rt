@@ -2,13 +2,13 @@
 // apart and calls one with a plain slice.
 use groups::Cursor;
 use groups::Number;
-use proof::HeadNumbers;
+use proof_file::HeadNumbers;
 ghost use mathlib.Core.Path.{_≡_};
 ghost use Prim.Native.Nat.{_+_, min};
 ghost use lib.ListN.{length};
 ghost use Rattle.groups.specs.Groups.{maxGroups};
 ghost use Rattle.groups.specs.Reading.{answerOf, readAt};
-ghost use Rattle.proof.specs.Head.{headAnswer, headOf, partStart, openingPart};
+ghost use Rattle.proof_file.specs.Head.{headAnswer, headOf, partStart, openingPart};
 ghost use Rattle.reader.specs.Moving.{placeAfter};
 
 // The caller's bytes and a place in them.
@@ -67,14 +67,14 @@ pub fn after_number<'a>(r: Reader<'a>, most: usize) -> Reader<'a>
 pub fn head<'a>(r: Reader<'a>) -> HeadNumbers
     ensures { λ h. ⌜ headAnswer h ≡ headOf (now (r .entry .src)) ⌝ }
 {
-    proof::read_head(r.src)
+    proof_file::read_head(r.src)
 }
 
 // Opening i, from 1, as that part of the caller's bytes; empty where there is none.
 pub fn opening<'a>(r: Reader<'a>, i: u64) -> &'a [u8]
     ensures { λ s. ⌜ (now s ≡ openingPart (now (r .entry .src)) i) × (s .ptr ≡ (r .entry .src .ptr .0, r .entry .src .ptr .1 + partStart (now (r .entry .src)) i (headOf (now (r .entry .src))))) ⌝ }
 {
-    proof::opening_part(r.src, i)
+    proof_file::opening_part(r.src, i)
 }
 
 // The number that the bytes begin with.

@@ -1,12 +1,12 @@
 // Starting and continuing a run at the edges of each refusal: the whole run and store before and after. The stored output has an
 // independent model's answers.
 use base::big_endian;
-use carried::hash;
 use refusal::outcome_number;
 use run::Advanced;
 use run::Run;
 use sha256::Hash;
-use show::flag;
+use vector_runs::hash;
+use vector_text::flag;
 
 // Room for memory level 14.
 fn dirty_store() -> [u8; 1048544] {
@@ -42,14 +42,14 @@ fn same_run(a: Run, b: Run) -> bool {
 // The store's digest, and whether it is the one before.
 fn store_line(before: [u8; 32], store: &[u8]) {
     let after = hash(store);
-    show::text(b" store ");
-    show::hex(&after);
+    vector_text::text(b" store ");
+    vector_text::hex(&after);
     flag(check::same(&before, &after));
 }
 
 fn run_line(run: Run) {
-    show::text(b" run ");
-    show::hex(&run_digest(run));
+    vector_text::text(b" run ");
+    vector_text::hex(&run_digest(run));
 }
 
 // What starting answers, the run beside it, and whether the store is changed.
@@ -58,8 +58,8 @@ fn starts(depth: u64, memory: u64, store: &[u8]) {
     let start = Run::start([7u8; 32], depth, memory, store);
     let outcome = start.outcome;
     let run = start.run;
-    show::text(b": start ");
-    show::number(outcome_number(outcome));
+    vector_text::text(b": start ");
+    vector_text::number(outcome_number(outcome));
     run_line(run);
     store_line(before, store);
 }
@@ -67,10 +67,10 @@ fn starts(depth: u64, memory: u64, store: &[u8]) {
 fn answered(before: Run, step: Advanced) {
     let outcome = step.outcome;
     let after = step.run;
-    show::text(b" continue ");
-    show::number(outcome_number(outcome));
-    show::text(b" labels ");
-    show::number(step.labels);
+    vector_text::text(b" continue ");
+    vector_text::number(outcome_number(outcome));
+    vector_text::text(b" labels ");
+    vector_text::number(step.labels);
     run_line(after);
     flag(same_run(before, after));
 }
@@ -93,17 +93,17 @@ fn continues(depth: u64, memory: u64, made: u64, store: &mut [u8]) {
 
 // Starting and continuing with these numbers and a store of this length.
 fn edge(depth: u64, memory: u64, made: u64, store: &mut [u8]) {
-    show::text(b"n ");
-    show::number(depth);
-    show::text(b" m ");
-    show::number(memory);
-    show::text(b" made ");
-    show::number(made);
-    show::text(b" store ");
-    show::number(store.len() as u64);
+    vector_text::text(b"n ");
+    vector_text::number(depth);
+    vector_text::text(b" m ");
+    vector_text::number(memory);
+    vector_text::text(b" made ");
+    vector_text::number(made);
+    vector_text::text(b" store ");
+    vector_text::number(store.len() as u64);
     starts(depth, memory, store);
     continues(depth, memory, made, store);
-    show::text(b"\n");
+    vector_text::text(b"\n");
 }
 
 // The same with a store of this length.

@@ -1,9 +1,9 @@
 // Runs to their end at several budgets and memory levels. The stored output has the roots and store digests of the shared
 // vectors, and of an independent model.
-use carried::hash;
-use carried::run_to_end;
 use run::Run;
-use vectors::wide;
+use vector_runs::hash;
+use vector_runs::run_to_end;
+use vector_text::wide;
 
 // Room for memory level 14 and a byte more, which no run may touch.
 fn dirty_store() -> [u8; 1048545] {
@@ -13,21 +13,21 @@ fn dirty_store() -> [u8; 1048545] {
 // The first bytes of the held labels, and the digest of all places.
 fn first_bytes(held: &[u8], count: usize) {
     if count <= held.len() {
-        show::hex(&held[..count]);
+        vector_text::hex(&held[..count]);
     }
-    show::text(b" held ");
-    show::hex(&hash(held));
+    vector_text::text(b" held ");
+    vector_text::hex(&hash(held));
 }
 
 // The root, the digest of the held labels, of the store, and the byte behind the store.
 fn line(run: Run, store: &[u8]) {
     let held = run.held;
-    show::text(b" made ");
-    show::number(run.made);
-    show::text(b" root ");
+    vector_text::text(b" made ");
+    vector_text::number(run.made);
+    vector_text::text(b" root ");
     first_bytes(&held, 32);
-    show::text(b" store ");
-    show::hex(&hash(store));
+    vector_text::text(b" store ");
+    vector_text::hex(&hash(store));
 }
 
 fn to_end(statement: [u8; 32], depth: u64, memory: u64, budget: u64, size: usize) {
@@ -35,24 +35,24 @@ fn to_end(statement: [u8; 32], depth: u64, memory: u64, budget: u64, size: usize
         return;
     }
     let mut space = dirty_store();
-    show::text(b"budget ");
-    show::number(budget);
+    vector_text::text(b"budget ");
+    vector_text::number(budget);
     let start = Run::start(statement, depth, memory, &space[..size]);
     let run = start.run;
     let end = run_to_end(run, 131071, budget, &mut space);
     line(end, &space[..size]);
-    show::text(b" behind ");
-    show::number(wide(space[size]));
-    show::text(b"\n");
+    vector_text::text(b" behind ");
+    vector_text::number(wide(space[size]));
+    vector_text::text(b"\n");
 }
 
 fn vector(report: &[u8], depth: u64, memory: u64, size: usize) {
     let statement = hash(report);
-    show::text(b"depth ");
-    show::number(depth);
-    show::text(b" memory ");
-    show::number(memory);
-    show::text(b"\n");
+    vector_text::text(b"depth ");
+    vector_text::number(depth);
+    vector_text::text(b" memory ");
+    vector_text::number(memory);
+    vector_text::text(b"\n");
     to_end(statement, depth, memory, 1000000, size);
     to_end(statement, depth, memory, 1000, size);
     to_end(statement, depth, memory, 1, size);

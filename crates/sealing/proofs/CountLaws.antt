@@ -5,7 +5,7 @@ use native.Mathlib.Nat.{mul-le-mul}
 use native.Mathlib.Omega.{arith}
 use Rattle.run.proofs.StepLaws.{small-nodes}
 use Rattle.opening.specs.Rows.{nodesAnew}
-use Rattle.reached.proofs.Anew.{anew-count}
+use Rattle.run_theory.proofs.Anew.{anew-count}
 use Rattle.sealing.specs.Portions.{portionOf}
 
 pub small-anew : (n m t x : ℕ) → n ≤ 40 → t ≤ 200 → x ≡ nodesAnew n m → t * x ≤ 200 * 2 ^ 42

@@ -7,13 +7,13 @@ use lib.ListN.{length, take, drop}
 use Rattle.tree.specs.Walk.{nodesIn}
 use Rattle.run.specs.declared.Run.{Run}
 use Rattle.run.specs.Steps.{Stamped, steps}
-use Rattle.reached.specs.Runs.{Startable, atStart}
-use Rattle.reached.specs.Openings.{HoldsLabels}
-use Rattle.reached.proofs.RunLaws.{run-reached}
-use Rattle.reached.proofs.Finished.{finished-length}
-use Rattle.accepted.specs.TreeFile.{rootOf}
-use Rattle.filed.specs.Filed.{Writable}
-use Rattle.filed.proofs.Finished.{finished-holds, finished-root}
+use Rattle.run_theory.specs.Runs.{Startable, atStart}
+use Rattle.run_theory.specs.Openings.{HoldsLabels}
+use Rattle.run_theory.proofs.RunLaws.{run-reached}
+use Rattle.run_theory.proofs.Finished.{finished-length}
+use Rattle.check_theory.specs.TreeFile.{rootOf}
+use Rattle.writing_theory.specs.Filed.{Writable}
+use Rattle.writing_theory.proofs.Finished.{finished-holds, finished-root}
 
 pub startable : (n m t store file : ℕ) → Writable n m t store file → Startable n m store
 startable n m t store file w =

@@ -6,9 +6,9 @@ use lib.ListN.{length}
 use Rattle.tree.specs.Walk.{nodesIn}
 use Rattle.run.specs.declared.Run.{Run}
 use Rattle.run.specs.Steps.{Stamped, stamped, started, steps, labelsIn, advanced}
-use Rattle.reached.specs.Runs.{Startable, atStart}
-use Rattle.reached.proofs.StartLaws.{start-done, started-done}
-use Rattle.reached.proofs.RunLaws.{labels-reached, advanced-reached}
+use Rattle.run_theory.specs.Runs.{Startable, atStart}
+use Rattle.run_theory.proofs.StartLaws.{start-done, started-done}
+use Rattle.run_theory.proofs.RunLaws.{labels-reached, advanced-reached}
 
 module _ (statement : List ℕ) (n m : ℕ) (store : List ℕ) (startable : Startable n m (length store)) (run : Run)
     (start : run ≡ started statement n m (length store)) where

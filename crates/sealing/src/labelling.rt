@@ -4,11 +4,11 @@ ghost use Prim.Native.Nat.{_≤_};
 ghost use lib.ListN.{length};
 ghost use Rattle.tree.specs.Walk.{nodesIn};
 ghost use Rattle.run.specs.Steps.{steps};
-ghost use Rattle.reached.specs.Runs.{Startable, atStart};
+ghost use Rattle.run_theory.specs.Runs.{Startable, atStart};
 use run::Run;
 
 pub fn show_progress(made: u64, all: u64, err: i32) {
-    files::say(err, lines::progress(made, all));
+    lines::say(err, lines::progress(made, all));
 }
 
 // A run from its start to its end, by calls with one budget.

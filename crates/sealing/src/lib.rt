@@ -8,16 +8,16 @@ ghost use mathlib.Core.List.{_++_};
 ghost use Prim.Native.Nat.{_+_};
 ghost use lib.ListN.{length, drop};
 ghost use Rattle.tree.specs.Walk.{nodesIn};
-ghost use Rattle.proof.specs.Layout.{fileSize};
+ghost use Rattle.proof_file.specs.Layout.{fileSize};
 ghost use Rattle.run.specs.Steps.{steps};
-ghost use Rattle.reached.specs.Runs.{atStart};
-ghost use Rattle.accepted.specs.TreeFile.{rootOf, treeFile};
-ghost use Rattle.filed.specs.Filed.{Writable, labelsAnew};
+ghost use Rattle.run_theory.specs.Runs.{atStart};
+ghost use Rattle.check_theory.specs.TreeFile.{rootOf, treeFile};
+ghost use Rattle.writing_theory.specs.Filed.{Writable, labelsAnew};
 use labelling::label_tree;
 use opening_all::write_openings;
+use opening_check::label_at;
 pub use portions::all_labels;
 use portions::portion_of;
-use verify::label_at;
 
 // The root, and how many labels were made.
 pub struct Made {

@@ -3,10 +3,10 @@ ghost use mathlib.Core.Path.{_≡_};
 ghost use mathlib.Core.List.{_++_};
 ghost use Prim.Native.Nat.{_+_, _^_, _≤_, _<_};
 ghost use lib.ListN.{length, drop};
-ghost use Rattle.proof.specs.Layout.{fileSize};
-ghost use Rattle.reached.specs.Openings.{HoldsLabels};
-ghost use Rattle.accepted.specs.TreeFile.{rootOf, treeFile};
-ghost use Rattle.filed.specs.Filed.{Writable, labelsAnew};
+ghost use Rattle.proof_file.specs.Layout.{fileSize};
+ghost use Rattle.run_theory.specs.Openings.{HoldsLabels};
+ghost use Rattle.check_theory.specs.TreeFile.{rootOf, treeFile};
+ghost use Rattle.writing_theory.specs.Filed.{Writable, labelsAnew};
 use crate::labelling::show_progress;
 use writing::Writing;
 

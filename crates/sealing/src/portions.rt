@@ -2,7 +2,7 @@
 ghost use mathlib.Core.Path.{_≡_};
 ghost use Prim.Native.Nat.{_+_, _^_, _≤_, _<_};
 ghost use Rattle.tree.specs.Walk.{nodesIn};
-ghost use Rattle.filed.specs.Filed.{labelsAnew};
+ghost use Rattle.writing_theory.specs.Filed.{labelsAnew};
 ghost use Rattle.sealing.specs.Portions.{portionOf};
 
 // The labels of the tree, and those made anew for the openings.

@@ -206,5 +206,6 @@ module _ (s : Hash) (bytes : List ℕ) (size : length (s .tail) ≡ 64) (more : 
       let k : 64 * blocks (waiting ++ bytes) ≡ length (waiting ++ bytes) = omega arith in
       ap (λ (t : Hash). t .words)
       (from-start
-      ∙ ap (pushedAll (cleared (s .words) (s .taken - s .taken % 64))) (sym (take-all (64 * blocks (waiting ++ bytes)) (waiting ++ bytes) (omega arith)))
+      ∙ ap (pushedAll (cleared (s .words) (s .taken - s .taken % 64)))
+      (sym (take-all (64 * blocks (waiting ++ bytes)) (waiting ++ bytes) (omega arith)))
       ∙ pushedAll-blocks (s .words) (s .taken - s .taken % 64) (waiting ++ bytes) (blocks (waiting ++ bytes)) (omega arith) (omega arith))

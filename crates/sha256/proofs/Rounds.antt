@@ -68,14 +68,22 @@ extended-next w x f =
     let e5 : extended (listOf w) 5 ≡ listOf w ++ (x .w0 ∷ x .w1 ∷ x .w2 ∷ x .w3 ∷ x .w4 ∷ []) = grow (listOf w) 4 e4 (f .w4) in
     let e6 : extended (listOf w) 6 ≡ listOf w ++ (x .w0 ∷ x .w1 ∷ x .w2 ∷ x .w3 ∷ x .w4 ∷ x .w5 ∷ []) = grow (listOf w) 5 e5 (f .w5) in
     let e7 : extended (listOf w) 7 ≡ listOf w ++ (x .w0 ∷ x .w1 ∷ x .w2 ∷ x .w3 ∷ x .w4 ∷ x .w5 ∷ x .w6 ∷ []) = grow (listOf w) 6 e6 (f .w6) in
-    let e8 : extended (listOf w) 8 ≡ listOf w ++ (x .w0 ∷ x .w1 ∷ x .w2 ∷ x .w3 ∷ x .w4 ∷ x .w5 ∷ x .w6 ∷ x .w7 ∷ []) = grow (listOf w) 7 e7 (f .w7) in
-    let e9 : extended (listOf w) 9 ≡ listOf w ++ (x .w0 ∷ x .w1 ∷ x .w2 ∷ x .w3 ∷ x .w4 ∷ x .w5 ∷ x .w6 ∷ x .w7 ∷ x .w8 ∷ []) = grow (listOf w) 8 e8 (f .w8) in
-    let e10 : extended (listOf w) 10 ≡ listOf w ++ (x .w0 ∷ x .w1 ∷ x .w2 ∷ x .w3 ∷ x .w4 ∷ x .w5 ∷ x .w6 ∷ x .w7 ∷ x .w8 ∷ x .w9 ∷ []) = grow (listOf w) 9 e9 (f .w9) in
-    let e11 : extended (listOf w) 11 ≡ listOf w ++ (x .w0 ∷ x .w1 ∷ x .w2 ∷ x .w3 ∷ x .w4 ∷ x .w5 ∷ x .w6 ∷ x .w7 ∷ x .w8 ∷ x .w9 ∷ x .w10 ∷ []) = grow (listOf w) 10 e10 (f .w10) in
-    let e12 : extended (listOf w) 12 ≡ listOf w ++ (x .w0 ∷ x .w1 ∷ x .w2 ∷ x .w3 ∷ x .w4 ∷ x .w5 ∷ x .w6 ∷ x .w7 ∷ x .w8 ∷ x .w9 ∷ x .w10 ∷ x .w11 ∷ []) = grow (listOf w) 11 e11 (f .w11) in
-    let e13 : extended (listOf w) 13 ≡ listOf w ++ (x .w0 ∷ x .w1 ∷ x .w2 ∷ x .w3 ∷ x .w4 ∷ x .w5 ∷ x .w6 ∷ x .w7 ∷ x .w8 ∷ x .w9 ∷ x .w10 ∷ x .w11 ∷ x .w12 ∷ []) = grow (listOf w) 12 e12 (f .w12) in
-    let e14 : extended (listOf w) 14 ≡ listOf w ++ (x .w0 ∷ x .w1 ∷ x .w2 ∷ x .w3 ∷ x .w4 ∷ x .w5 ∷ x .w6 ∷ x .w7 ∷ x .w8 ∷ x .w9 ∷ x .w10 ∷ x .w11 ∷ x .w12 ∷ x .w13 ∷ []) = grow (listOf w) 13 e13 (f .w13) in
-    let e15 : extended (listOf w) 15 ≡ listOf w ++ (x .w0 ∷ x .w1 ∷ x .w2 ∷ x .w3 ∷ x .w4 ∷ x .w5 ∷ x .w6 ∷ x .w7 ∷ x .w8 ∷ x .w9 ∷ x .w10 ∷ x .w11 ∷ x .w12 ∷ x .w13 ∷ x .w14 ∷ []) = grow (listOf w) 14 e14 (f .w14) in
+    let e8 : extended (listOf w) 8 ≡ listOf w ++ (x .w0 ∷ x .w1 ∷ x .w2 ∷ x .w3 ∷ x .w4 ∷ x .w5 ∷ x .w6 ∷ x .w7 ∷ []) =
+    grow (listOf w) 7 e7 (f .w7) in
+    let e9 : extended (listOf w) 9 ≡ listOf w ++ (x .w0 ∷ x .w1 ∷ x .w2 ∷ x .w3 ∷ x .w4 ∷ x .w5 ∷ x .w6 ∷ x .w7 ∷ x .w8 ∷ []) =
+    grow (listOf w) 8 e8 (f .w8) in
+    let e10 : extended (listOf w) 10 ≡ listOf w ++ (x .w0 ∷ x .w1 ∷ x .w2 ∷ x .w3 ∷ x .w4 ∷ x .w5 ∷ x .w6 ∷ x .w7 ∷ x .w8 ∷ x .w9 ∷ []) =
+    grow (listOf w) 9 e9 (f .w9) in
+    let e11 : extended (listOf w) 11 ≡ listOf w ++ (x .w0 ∷ x .w1 ∷ x .w2 ∷ x .w3 ∷ x .w4 ∷ x .w5 ∷ x .w6 ∷ x .w7 ∷ x .w8 ∷ x .w9 ∷ x .w10 ∷ []) =
+    grow (listOf w) 10 e10 (f .w10) in
+    let e12 : extended (listOf w) 12 ≡ listOf w ++ (x .w0 ∷ x .w1 ∷ x .w2 ∷ x .w3 ∷ x .w4 ∷ x .w5 ∷ x .w6 ∷ x .w7 ∷ x .w8 ∷ x .w9 ∷ x .w10 ∷ x .w11 ∷ []) =
+    grow (listOf w) 11 e11 (f .w11) in
+    let e13 : extended (listOf w) 13 ≡ listOf w ++ (x .w0 ∷ x .w1 ∷ x .w2 ∷ x .w3 ∷ x .w4 ∷ x .w5 ∷ x .w6 ∷ x .w7 ∷ x .w8 ∷ x .w9 ∷ x .w10 ∷ x .w11 ∷ x .w12 ∷ []) =
+    grow (listOf w) 12 e12 (f .w12) in
+    let e14 : extended (listOf w) 14 ≡ listOf w ++ (x .w0 ∷ x .w1 ∷ x .w2 ∷ x .w3 ∷ x .w4 ∷ x .w5 ∷ x .w6 ∷ x .w7 ∷ x .w8 ∷ x .w9 ∷ x .w10 ∷ x .w11 ∷ x .w12 ∷ x .w13 ∷ []) =
+    grow (listOf w) 13 e13 (f .w13) in
+    let e15 : extended (listOf w) 15 ≡ listOf w ++ (x .w0 ∷ x .w1 ∷ x .w2 ∷ x .w3 ∷ x .w4 ∷ x .w5 ∷ x .w6 ∷ x .w7 ∷ x .w8 ∷ x .w9 ∷ x .w10 ∷ x .w11 ∷ x .w12 ∷ x .w13 ∷ x .w14 ∷ []) =
+    grow (listOf w) 14 e14 (f .w14) in
     grow (listOf w) 15 e15 (f .w15)
 
 schedule-sixteens : (w x y z : Block) → Follows w x → Follows x y → Follows y z

@@ -49,9 +49,9 @@ fn whole(message: &[u8]) -> [u8; 32] {
 }
 
 fn line(name: &[u8], digest: [u8; 32]) {
-    show::text(name);
-    show::hex(&digest);
-    show::text(b"\n");
+    vector_text::text(name);
+    vector_text::hex(&digest);
+    vector_text::text(b"\n");
 }
 
 // The three ways.
@@ -65,8 +65,8 @@ fn three(message: &[u8]) {
 
 fn shared(message: &mut [u8], len: u64) {
     fill(message, len);
-    show::number(len);
-    show::text(b"\n");
+    vector_text::number(len);
+    vector_text::text(b"\n");
     three(message);
 }
 
@@ -77,19 +77,19 @@ fn letters() -> [u8; 1000000] {
 
 fn million() {
     let message = letters();
-    show::text(b"one million letters a\n");
+    vector_text::text(b"one million letters a\n");
     three(&message);
 }
 
 // FIPS 180-4's examples of one and two blocks, and the empty message.
 fn examples() {
-    show::text(b"the empty message\n");
+    vector_text::text(b"the empty message\n");
     three(b"");
-    show::text(b"abc\n");
+    vector_text::text(b"abc\n");
     three(b"abc");
-    show::text(b"448 bits\n");
+    vector_text::text(b"448 bits\n");
     three(b"abcdbcdecdefdefgefghfghighijhijkijkljklmklmnlmnomnopnopq");
-    show::text(b"896 bits\n");
+    vector_text::text(b"896 bits\n");
     three(
         b"abcdefghbcdefghicdefghijdefghijkefghijklfghijklmghijklmnhijklmnoijklmnopjklmnopqklmnopqrlmnopqrsmnopqrstnopqrstu",
     );
@@ -105,21 +105,21 @@ fn at_count(taken: u64) -> Hash {
 
 // A portion and then the end, from a state: both outcomes' numbers, and what the state has taken.
 fn limit(taken: u64, part: &[u8]) {
-    show::number(taken);
-    show::text(b" portion ");
+    vector_text::number(taken);
+    vector_text::text(b" portion ");
     let step = at_count(taken).update(part);
     let outcome = step.outcome;
-    show::number(outcome_number(outcome));
+    vector_text::number(outcome_number(outcome));
     let hash = step.hash;
-    show::text(b" taken ");
-    show::number(hash.taken);
+    vector_text::text(b" taken ");
+    vector_text::number(hash.taken);
     let end = hash.finish();
     let ended = end.outcome;
-    show::text(b" end ");
-    show::number(outcome_number(ended));
-    show::text(b" ");
-    show::hex(&end.digest);
-    show::text(b"\n");
+    vector_text::text(b" end ");
+    vector_text::number(outcome_number(ended));
+    vector_text::text(b" ");
+    vector_text::hex(&end.digest);
+    vector_text::text(b"\n");
 }
 
 // The message of the shared vectors of this length, if there is room for it.

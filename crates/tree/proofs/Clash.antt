@@ -170,7 +170,8 @@ module _ (r : Rule) (n x : ℕ) (given₁ : Given) (y : ℕ) (given₂ : Given) 
 
     agree-children :
         (k : ℕ) → suc k + l ≡ n → disagreeAt r n x given₁ y given₂ l ≡ false → x / 2 ^ k ≡ y / 2 ^ k →
-        childLabels (odd (x / 2 ^ k)) (computed r n x given₁ k) (given₁ (suc k)) ≡ childLabels (odd (x / 2 ^ k)) (computed r n y given₂ k) (given₂ (suc k))
+        childLabels (odd (x / 2 ^ k)) (computed r n x given₁ k) (given₁ (suc k))
+        ≡ childLabels (odd (x / 2 ^ k)) (computed r n y given₂ k) (given₂ (suc k))
     agree-children k c e p = sym (children-known r n x given₁ k l c) ∙ agree-labels e ∙ rw p (children-known r n y given₂ k l c)
 
   pub unshared-agrees : (l : ℕ) → shared n x y l ≡ false → disagreeAt r n x given₁ y given₂ l ≡ false

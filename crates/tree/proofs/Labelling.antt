@@ -124,7 +124,9 @@ module _ (r : Rule) (n : ℕ) (f : Node → Label) (meets : IsLabelling r n f) w
       f (leftChild v) ≡ label r n (leftChild v) → f (rightChild v) ≡ label r n (rightChild v) → f v ≡ label r n v
   same-inner v h b left right = rw (meets v (omega arith, b), parents-inner n v h, left, right, label-inner r n v h)
 
-  above-right : (v : Node) → SameAbove (v .level) (v .position) → f (leftChild v) ≡ label r n (leftChild v) → SameAbove (v .level + 1) (2 * v .position + 1)
+  above-right :
+      (v : Node) → SameAbove (v .level) (v .position) → f (leftChild v) ≡ label r n (leftChild v)
+      → SameAbove (v .level + 1) (2 * v .position + 1)
   unfolding SameAbove
   above-right v above left = simp (siblings-right, map-append, above, left)
 
@@ -138,7 +140,8 @@ module _ (r : Rule) (n : ℕ) (f : Node → Label) (meets : IsLabelling r n f) w
       let left : f (leftChild v) ≡ label r n (leftChild v) =
       same-below h (leftChild v) (omega arith) (child-below (v .level) (v .position) (2 * v .position) b (omega arith)) (above-left v above) in
       let right : f (rightChild v) ≡ label r n (rightChild v) =
-      same-below h (rightChild v) (omega arith) (child-below (v .level) (v .position) (2 * v .position + 1) b (omega arith)) (above-right v above left) in
+      same-below h (rightChild v) (omega arith) (child-below (v .level) (v .position) (2 * v .position + 1) b (omega arith))
+      (above-right v above left) in
       same-inner v (omega arith) b left right
 
   above-child : (l p : ℕ) (b : Bool) → odd p ≡ b → suc l ≤ n → p < 2 ^ suc l → SameAbove l (p / 2) → SameAbove (suc l) p
@@ -151,7 +154,8 @@ module _ (r : Rule) (n : ℕ) (f : Node → Label) (meets : IsLabelling r n f) w
       let twice : 2 * (p / 2) + 1 ≡ p = omega arith in
       let half : p / 2 < 2 ^ l = omega arith in
       let left : f (node (l + 1) (2 * (p / 2))) ≡ label r n (node (l + 1) (2 * (p / 2))) =
-      same-below (n - suc l) (node (l + 1) (2 * (p / 2))) (omega arith) (child-below l (p / 2) (2 * (p / 2)) half (omega arith)) (above-left (node l (p / 2)) above) in
+      same-below (n - suc l) (node (l + 1) (2 * (p / 2))) (omega arith) (child-below l (p / 2) (2 * (p / 2)) half (omega arith))
+      (above-left (node l (p / 2)) above) in
       rw (add-one l, twice) at (above-right (node l (p / 2)) above left)
 
   same-above : (l p : ℕ) → l ≤ n → p < 2 ^ l → SameAbove l p

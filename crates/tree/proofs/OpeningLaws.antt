@@ -90,7 +90,8 @@ module _ (r : Rule) (n leaf : ℕ) (given : Given) where
 
   pub known-children :
       (h l : ℕ) → suc h + l ≡ n →
-      map (known r n leaf given) (parents n (node l (leaf / 2 ^ suc h))) ≡ childLabels (odd (leaf / 2 ^ h)) (computed r n leaf given h) (given (suc h))
+      map (known r n leaf given) (parents n (node l (leaf / 2 ^ suc h)))
+      ≡ childLabels (odd (leaf / 2 ^ h)) (computed r n leaf given h) (given (suc h))
   known-children h l e =
       rw (parents-inner n (node l (leaf / 2 ^ suc h)) (omega arith)) (known-pair h l e)
 
@@ -141,7 +142,9 @@ module _ (r : Rule) (n leaf : ℕ) (given : Given) where
 
 -- ---- nodes on the way
 pub way-position : (n leaf : ℕ) (v : Node) → onWay n leaf v ≡ true → v .position ≡ leaf / 2 ^ (n - v .level)
-way-position n leaf v e = eqb-true (v .position) (leaf / 2 ^ (n - v .level)) (both-second (leb (v .level) n) (eqb (v .position) (leaf / 2 ^ (n - v .level))) e)
+way-position n leaf v e =
+    eqb-true (v .position) (leaf / 2 ^ (n - v .level))
+    (both-second (leb (v .level) n) (eqb (v .position) (leaf / 2 ^ (n - v .level))) e)
 
 pub way-level : (n leaf : ℕ) (v : Node) → onWay n leaf v ≡ true → v .level ≤ n
 way-level n leaf v e = leb-true (v .level) n (both-first (leb (v .level) n) (eqb (v .position) (leaf / 2 ^ (n - v .level))) e)

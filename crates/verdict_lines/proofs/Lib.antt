@@ -1,1 +1,2 @@
 pub mod TellingLaws
+pub mod ChainLaws

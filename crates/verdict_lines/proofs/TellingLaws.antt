@@ -80,7 +80,9 @@ pub plain-short : (number size : ℕ) → length (plainText number size) ≤ 100
 unfolding plainText shortTable
 plain-short number size = go (eqb size 0) (words-short number plainTable refl)
   where
-    go : (b : Bool) → length (wordsFor number plainTable) ≤ 100 → length (pick b (ascii "the proof file is empty\n") (wordsFor number plainTable)) ≤ 100
+    go :
+        (b : Bool) → length (wordsFor number plainTable) ≤ 100
+        → length (pick b (ascii "the proof file is empty\n") (wordsFor number plainTable)) ≤ 100
     go true h = omega arith
     go false h = h
 
@@ -164,7 +166,9 @@ judged-short (Chain nodes) n t size = omega (arith, accepted-short n t nodes)
 judged-short (Clash i j l) n t size = no-chain-short n t
 
 -- each function's lines
-pub refusal-told : {all one two' : List ℕ} (number opening size : ℕ) → all ≡ added one two' → one ≡ plainText number size → two' ≡ rejectedText number opening
+pub refusal-told :
+    {all one two' : List ℕ} (number opening size : ℕ) → all ≡ added one two' → one ≡ plainText number size
+    → two' ≡ rejectedText number opening
     → all ≡ refusalText number opening size
 unfolding refusalText
 refusal-told number opening size e p q =

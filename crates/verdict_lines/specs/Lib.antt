@@ -1,2 +1,3 @@
 pub mod Plain
 pub mod Verdict
+pub mod Text

@@ -49,7 +49,8 @@ module _ (n t m : ℕ) where
       go true e = verify-seal e
       go false e =
           verify-as-seal (valueOf (wordAt 3 line)) (valueOf (wordAt 4 line))
-          (row-passed (wantedRow (valueOf (wordAt 3 line)) (valueOf (wordAt 4 line))) (VerifyAs (valueOf (wordAt 3 line)) (valueOf (wordAt 4 line))) e .1)
+          (row-passed (wantedRow (valueOf (wordAt 3 line)) (valueOf (wordAt 4 line)))
+          (VerifyAs (valueOf (wordAt 3 line)) (valueOf (wordAt 4 line))) e .1)
 
   same-row : (a b c : ℕ) → sealRow a b c ≡ Right → Seal a b c ≡ Seal n t m → sealRow n t m ≡ Right
   same-row a b c e f =

@@ -43,7 +43,9 @@ unfolding wordCount
 counts-none line i h = rw (drop-of-length-le line h)
 
 -- one word passed
-pub passed : (line : List ℕ) (left at end : ℕ) → 0 < left → end ≡ at + upTo (drop at line) → after (left - 1) (drop (end + 1) line) ≡ after left (drop at line)
+pub passed :
+    (line : List ℕ) (left at end : ℕ) → 0 < left → end ≡ at + upTo (drop at line)
+    → after (left - 1) (drop (end + 1) line) ≡ after left (drop at line)
 passed line zero at end h e = absurd (omega arith)
 passed line (suc left) at end h e =
     let one : suc left - 1 ≡ left = omega arith in
@@ -56,7 +58,9 @@ after-nil zero = refl
 after-nil (suc k) = rw (drop-nil {A = ℕ} (upTo [] + 1)) (after-nil k)
 
 -- the line ends before the words do
-pub passed-all : (line : List ℕ) (left at end : ℕ) → 0 < left → end ≡ at + upTo (drop at line) → length line ≤ end → drop end line ≡ after left (drop at line)
+pub passed-all :
+    (line : List ℕ) (left at end : ℕ) → 0 < left → end ≡ at + upTo (drop at line) → length line ≤ end
+    → drop end line ≡ after left (drop at line)
 passed-all line left at end h e k =
     rw (drop-of-length-le line k, ← passed line left at end h e) (sym (rw (drop-of-length-le line (more end k)) (after-nil (left - 1))))
   where
@@ -67,7 +71,9 @@ pub passed-none : (line : List ℕ) (left at : ℕ) → left ≤ 0 → after lef
 passed-none line zero at h = unfold after in refl
 passed-none line (suc left) at h = absurd (omega arith)
 
-pub word-is : (line : List ℕ) (i from end : ℕ) → drop from line ≡ after i line → end ≡ from + upTo (drop from line) → take (end - from) (drop from line) ≡ wordAt i line
+pub word-is :
+    (line : List ℕ) (i from end : ℕ) → drop from line ≡ after i line → end ≡ from + upTo (drop from line)
+    → take (end - from) (drop from line) ≡ wordAt i line
 unfolding wordAt
 word-is line i from end e f =
     let n : end - from ≡ upTo (drop from line) = omega arith in
@@ -81,7 +87,9 @@ module _ (line word : List ℕ) (at : ℕ) where
       rw (le-ltb (at + length word) (length line) h)
       (record { out = sym (written-none line at); next = omega arith })
 
-  pub joins-one : (e f : List ℕ) (m k : ℕ) → at + length word < length line → e ≡ written line at word → m ≡ at + length word → f ≡ set e m 0 → k ≡ m + 1
+  pub joins-one :
+      (e f : List ℕ) (m k : ℕ) → at + length word < length line → e ≡ written line at word → m ≡ at + length word → f ≡ set e m 0
+      → k ≡ m + 1
       → Wrote line at (endedWord (length line) at word) f k
   unfolding endedWord
   joins-one e f m k h p q r s =

@@ -10,7 +10,7 @@ use crate::Words;
 use crate::parting::word;
 use crate::parting::word_count;
 use crate::values::value;
-use verify::beyond;
+use opening_check::beyond;
 
 fn is_word(word: &[u8], name: &[u8]) -> bool
     ensures { λ r. ⌜ r ≡ sameBytes (now (word .entry)) (now (name .entry)) ⌝ }
@@ -18,7 +18,7 @@ fn is_word(word: &[u8], name: &[u8]) -> bool
     if word.len() != name.len() {
         return false;
     }
-    verify::same(word, name)
+    opening_check::same(word, name)
 }
 
 fn kind_of(word: &[u8]) -> u64

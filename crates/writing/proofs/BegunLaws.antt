@@ -5,17 +5,17 @@ use Prim.Native.Nat.{ℕ, _+_, _-_, _^_, _≤_, _<_}
 use native.Mathlib.Omega.{arith}
 use lib.ListN.{length, take, drop}
 use Rattle.base.specs.Bytes.{written}
-use Rattle.verify.proofs.Parts.{part-size, part-length}
+use Rattle.opening_check.proofs.Parts.{part-size, part-length}
 use Rattle.opening.specs.declared.Opening.{Opening}
 use Rattle.opening.specs.Rows.{openingSize, nodesAnew}
 use Rattle.opening.specs.Steps as openings
 use Rattle.opening.specs.Possible.{openOf}
-use Rattle.proof.specs.Challenge.{challengeLeaf, challenged}
-use Rattle.proof.specs.Layout.{head, headSize, openingFrom, headWritten}
-use Rattle.reached.specs.Openings.{Openable}
-use Rattle.reached.proofs.OpeningCalls.{started-fits, startedOut-fits}
-use Rattle.proof.proofs.Leaves.{challengeLeaf-small}
-use Rattle.accepted.proofs.RowLaws.{challenge-done, head-done}
+use Rattle.proof_file.specs.Challenge.{challengeLeaf, challenged}
+use Rattle.proof_file.specs.Layout.{head, headSize, openingFrom, headWritten}
+use Rattle.run_theory.specs.Openings.{Openable}
+use Rattle.run_theory.proofs.OpeningCalls.{started-fits, startedOut-fits}
+use Rattle.proof_file.proofs.Leaves.{challengeLeaf-small}
+use Rattle.check_theory.proofs.RowLaws.{challenge-done, head-done}
 use Rattle.writing.specs.declared.Writing.{Writing}
 use Rattle.writing.specs.Possible.{Room, Ready, writingOf, writtenOf, labelled}
 use Rattle.writing.specs.Steps.{Written, begun, followed, newWriting}

@@ -181,7 +181,8 @@ some-labelled store file w ready (suc k) some few w₁ w₂ file₁ file₂ e₁
     let under : writtenOf w₁ file₁ ≡ labelled store (suc k) (writtenOf w file) = both-known e₁ f₁ in
     let count : w₁ .count ≡ w .count = ap (λ (v : Writing). v .count) e₁ ∙ labelled-count store (suc k) w file in
     let all : followed store (w₁ .count) (writtenOf w₁ file₁) ≡ steps store (suc k) (writtenOf w file) =
-    ap (λ (c : ℕ). followed store c (writtenOf w₁ file₁)) count ∙ ap (followed store (w .count)) under ∙ sym (steps-labelled store file w ready k few) in
+    ap (λ (c : ℕ). followed store c (writtenOf w₁ file₁)) count ∙ ap (followed store (w .count)) under
+    ∙ sym (steps-labelled store file w ready k few) in
     let left : remaining w₁ + suc k ≡ remaining w = rw e₁ (labelled-remaining store file w ready (suc k) few) in (
       e₂ ∙ ap (λ (s : Written). s .writing) all,
       (

@@ -17,8 +17,8 @@ use Rattle.opening.specs.Rows.{openingSize, nodesAnew}
 use Rattle.opening.specs.Possible.{openOf}
 use Rattle.opening.specs.Steps.{Open, ancestor, beside, placed, front, stepped, steps, labelsIn, advanced}
 use Rattle.opening.proofs.StepLaws.{anew-few, next-below}
-use Rattle.reached.specs.Openings.{Openable}
-use Rattle.reached.proofs.OpeningCalls.{reopen-fits}
+use Rattle.run_theory.specs.Openings.{Openable}
+use Rattle.run_theory.proofs.OpeningCalls.{reopen-fits}
 
 -- a label put in its place
 placed-length :
@@ -63,7 +63,10 @@ module _ (store : List ℕ) (s : Open) where
   made-after zero = sym (add-zero (s .opening .made))
   made-after (suc k) = rw (made-after k) (omega arith)
 
-  pub anew-kept : (k : ℕ) → nodesAnew (steps store k s .opening .depth) (steps store k s .opening .memory) ≡ nodesAnew (s .opening .depth) (s .opening .memory)
+  pub anew-kept :
+      (k : ℕ)
+      → nodesAnew (steps store k s .opening .depth) (steps store k s .opening .memory)
+      ≡ nodesAnew (s .opening .depth) (s .opening .memory)
   anew-kept k = rw (depth-kept k, memory-kept k)
 
 -- one step of an opening that has a node left

@@ -8,10 +8,10 @@ use lib.ListN.{length, take, drop, take-append-drop}
 use lib.Seq.{take-add, drop-drop, length-take-le}
 use Rattle.base.specs.Bytes.{written}
 use Rattle.base.proofs.WrittenLaws.{written-over}
-use Rattle.verify.proofs.Parts.{part-length}
+use Rattle.opening_check.proofs.Parts.{part-length}
 use Rattle.opening.specs.Rows.{openingSize}
-use Rattle.proof.specs.Layout.{headSize, openingFrom, fileSize}
-use Rattle.proof.proofs.HeadLaws.{opening-inside}
+use Rattle.proof_file.specs.Layout.{headSize, openingFrom, fileSize}
+use Rattle.proof_file.proofs.HeadLaws.{opening-inside}
 
 -- ---- where it lies
 module _ (n t i : ℕ) (low : 1 ≤ i) (high : i ≤ t) where

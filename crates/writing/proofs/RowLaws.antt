@@ -12,7 +12,7 @@ use Rattle.run.specs.Rows.{memoryOver, impossible}
 use Rattle.run.proofs.RowLaws.{neither}
 use Rattle.opening.specs.declared.Opening.{Opening}
 use Rattle.opening.specs.Rows.{nodesAnew}
-use Rattle.accepted.proofs.RowLaws.{bounds}
+use Rattle.check_theory.proofs.RowLaws.{bounds}
 use Rattle.writing.specs.declared.Writing.{Writing}
 use Rattle.writing.specs.Rows.{writeRow, rewriteRow}
 use Rattle.writing.specs.Possible.{stateOutside, writtenOf}

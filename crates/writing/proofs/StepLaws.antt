@@ -11,11 +11,11 @@ use lib.Dec.{ltb}
 use lib.ListN.{length}
 use Rattle.base.proofs.WrittenLaws.{written-here}
 use Rattle.groups.proofs.Steps.{lt-or-le}
-use Rattle.verify.proofs.Parts.{part-length}
+use Rattle.opening_check.proofs.Parts.{part-length}
 use Rattle.opening.specs.Rows.{openingSize, nodesAnew}
 use Rattle.opening.specs.Steps as openings
 use Rattle.opening.specs.Possible.{openOf}
-use Rattle.proof.specs.Layout.{headSize, openingFrom}
+use Rattle.proof_file.specs.Layout.{headSize, openingFrom}
 use Rattle.writing.specs.declared.Writing.{Writing}
 use Rattle.writing.specs.Possible.{Ready, writtenOf, labelled}
 use Rattle.writing.specs.Steps.{Written, partOf, mayFollow, followed, stepped, steps, remaining}

@@ -11,8 +11,8 @@ use Rattle.refusal.specs.Row.{isDone}
 use Rattle.opening.specs.declared.Opening.{Opening}
 use Rattle.opening.specs.Rows.{openingSize, nodesAnew}
 use Rattle.opening.specs.Steps as openings
-use Rattle.proof.specs.Challenge.{challengeLeaf}
-use Rattle.proof.specs.Layout.{head, headSize, openingFrom}
+use Rattle.proof_file.specs.Challenge.{challengeLeaf}
+use Rattle.proof_file.specs.Layout.{head, headSize, openingFrom}
 use Rattle.writing.specs.declared.Writing.{Writing}
 use Rattle.writing.specs.Rows.{writeRow, rewriteRow}
 

@@ -7,13 +7,13 @@ use crate::Writing;
 use crate::labels::may_follow;
 use opening::nodes_anew;
 use opening::not_possible;
-use proof::file_size;
+use opening_check::beyond;
+use proof_file::file_size;
 use refusal::Outcome;
 use refusal::Refusal;
 use run::depth_outside;
 use run::memory_over;
 use run::store_short;
-use verify::beyond;
 
 pub fn may_start(depth: u64, memory: u64, count: u64, store: usize, file: usize) -> Outcome
     ensures { λ r. ⌜ outcomeNumber r ≡ writeRow depth memory count store file ⌝ }

@@ -12,7 +12,7 @@ use crate::Writing;
 use crate::parts::begin;
 use crate::parts::label_part;
 use opening::nodes_anew;
-use proof::write_head;
+use proof_file::write_head;
 use run::smaller;
 
 // The opening under way is done and is not the last.

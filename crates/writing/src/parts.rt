@@ -3,13 +3,13 @@ ghost use mathlib.Core.Path.{_≡_};
 ghost use Prim.Native.Nat.{_+_, _≤_};
 ghost use lib.ListN.{length};
 ghost use Rattle.opening.specs.Rows.{openingSize, nodesAnew};
-ghost use Rattle.proof.specs.Layout.{headSize, openingFrom, fileSize};
+ghost use Rattle.proof_file.specs.Layout.{headSize, openingFrom, fileSize};
 ghost use Rattle.writing.specs.Possible.{Room, Ready, writtenOf, labelled};
 ghost use Rattle.writing.specs.Steps.{begun};
 use crate::Writing;
 use opening::Opening;
-use proof::challenge;
-use proof::file_size;
+use proof_file::challenge;
+use proof_file::file_size;
 
 // Where opening i begins: t + 1 − i openings before the file's end.
 fn part_start(n: u64, t: u64, i: u64) -> usize

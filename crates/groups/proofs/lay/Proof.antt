@@ -13,28 +13,11 @@ use Rattle.groups.proofs.lay.Statement.{statement}
 use Rattle.groups.proofs.lay.Tie as tie
 
 abbrev Inv-loop : tie.InvT-loop
-Inv-loop value bytes₀ rest₀ i₀ bytes rest i = (i < 10) × (length bytes ≡ 10) × (take i bytes ++ groups (10 - i) rest ≡ groupsOf value) × (rest < 128 ^ (10 - i))
+Inv-loop value bytes₀ rest₀ i₀ bytes rest i =
+    (i < 10) × (length bytes ≡ 10) × (take i bytes ++ groups (10 - i) rest ≡ groupsOf value) × (rest < 128 ^ (10 - i))
 
 abbrev μ-loop : tie.MeasureT-loop
 μ-loop value bytes₀ rest₀ i₀ bytes rest i = 10 - i
-
-loop-holds : tie.Need-loop-holds Inv-loop μ-loop
-loop-holds c = search needs
-
-add-bytes : tie.Need-add-bytes Inv-loop μ-loop
-add-bytes c = omega arith
-
-cast-bytes : tie.Need-cast-bytes Inv-loop μ-loop
-cast-bytes c = omega arith
-
-array-write-bytes : tie.Need-array-write-bytes Inv-loop μ-loop
-array-write-bytes c = omega arith
-
-add-i : tie.Need-add-i Inv-loop μ-loop
-add-i c = omega arith
-
-loop-less : tie.Need-loop-less Inv-loop μ-loop
-loop-less c = omega arith
 
 loop-again : tie.Need-loop-again Inv-loop μ-loop
 loop-again c =
@@ -45,35 +28,17 @@ loop-again c =
       rest-below (10 - l .i) (10 - (l .i + 1)) _ (omega arith) (l .inv .3),
     )
 
-cast-bytes-2 : tie.Need-cast-bytes-2 Inv-loop μ-loop
-cast-bytes-2 c = omega arith
-
-array-write-bytes-2 : tie.Need-array-write-bytes-2 Inv-loop μ-loop
-array-write-bytes-2 c = omega arith
-
-add-t15 : tie.Need-add-t15 Inv-loop μ-loop
-add-t15 c = omega arith
-
 returns : tie.Need-returns Inv-loop μ-loop
 returns c =
     let l = c .before .loop in
-    let laid = laid-last (l .bytes) (l .i) (l .rest) (c .before .before .args .value) (omega arith) _ (9 - l .i) (omega arith) (c .loop-test .left) (l .inv .2) in
+    let laid =
+    laid-last (l .bytes) (l .i) (l .rest) (c .before .before .args .value) (omega arith) _ (9 - l .i) (omega arith)
+    (c .loop-test .left) (l .inv .2) in
     (laid, taken-count _ _ _ (simp length-set (omega arith)) laid)
 
 pub lay-spec : {M : Type 1} → statement M
 lay-spec =
     tie.close
     (tie.spec
-    Inv-loop
-    μ-loop
-    loop-holds
-    add-bytes
-    cast-bytes
-    array-write-bytes
-    add-i
-    loop-less
-    loop-again
-    cast-bytes-2
-    array-write-bytes-2
-    add-t15
-    returns)
+    Inv-loop μ-loop (λ c. search needs) (λ c. omega arith) (λ c. omega arith) (λ c. omega arith) (λ c. omega arith)
+    (λ c. omega arith) loop-again (λ c. omega arith) (λ c. omega arith) (λ c. omega arith) returns)

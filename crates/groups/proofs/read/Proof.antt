@@ -37,14 +37,19 @@ returns-2 c =
     let l = c .before .before .before .before .before .before .loop in
     read-whole _ _ _ _ _ (a .ensures)
     (l .inv .4
-    ∙ read-tenth _ _ _ _ _ (c .before .before .wide .result) (omega (arith, c .before .if2 .taken)) (omega (arith, c .before .if2 .taken)) (omega arith) (c .before .before .wide .ensures .0)
+    ∙ read-tenth _ _ _ _ _ (c .before .before .wide .result) (omega (arith, c .before .if2 .taken))
+    (omega (arith, c .before .if2 .taken)) (omega arith) (c .before .before .wide .ensures .0)
     ∙ sym (c .tenth .ensures))
 
 mul-low : tie.Need-mul-low Inv-loop μ-loop
-mul-low c = let l = c .before .before .before .before .before .loop in omega (arith, added-below (c .before .wide .result) (l .low) (l .weight) (l .inv .3), weight-le _ _ (l .inv .2) (omega arith))
+mul-low c =
+    let l = c .before .before .before .before .before .loop in
+    omega (arith, added-below (c .before .wide .result) (l .low) (l .weight) (l .inv .3), weight-le _ _ (l .inv .2) (omega arith))
 
 add-low : tie.Need-add-low Inv-loop μ-loop
-add-low c = let l = c .before .before .before .before .before .loop in omega (arith, added-below (c .before .wide .result) (l .low) (l .weight) (l .inv .3), weight-le _ _ (l .inv .2) (omega arith))
+add-low c =
+    let l = c .before .before .before .before .before .loop in
+    omega (arith, added-below (c .before .wide .result) (l .low) (l .weight) (l .inv .3), weight-le _ _ (l .inv .2) (omega arith))
 
 returns-3 : tie.Need-returns-3 Inv-loop μ-loop
 returns-3 c =
@@ -52,7 +57,8 @@ returns-3 c =
     let l = c .before .before .before .before .before .before .before .loop in
     read-whole _ _ _ _ _ (a .ensures)
     (l .inv .4
-    ∙ read-last _ _ _ _ _ (a .result - (l .i + 1)) _ _ (omega arith) (omega arith) (c .before .before .before .wide .ensures .0) (l .inv .2) (c .before .if3 .taken)
+    ∙ read-last _ _ _ _ _ (a .result - (l .i + 1)) _ _ (omega arith) (omega arith) (c .before .before .before .wide .ensures .0)
+    (l .inv .2) (c .before .if3 .taken)
     ∙ sym (c .last .ensures))
 
 mul-weight : tie.Need-mul-weight Inv-loop μ-loop

@@ -4,9 +4,6 @@ use Rattle.groups.proofs.Steps.{tenth-one, tenth-other}
 use Rattle.groups.proofs.tenth.Statement.{statement}
 use Rattle.groups.proofs.tenth.Tie as tie
 
-add-t5 : tie.Need-add-t5
-add-t5 c = search needs
-
 returns : tie.Need-returns
 returns c = tenth-one _ _ _ (c .before .pre) (c .if1 .taken)
 
@@ -14,4 +11,4 @@ returns-2 : tie.Need-returns-2
 returns-2 c = tenth-other _ _ _ (c .if1 .left)
 
 pub tenth-spec : {M : Type 1} → statement M
-tenth-spec = tie.close (tie.spec add-t5 returns returns-2)
+tenth-spec = tie.close (tie.spec (λ c. search needs) returns returns-2)

@@ -8,12 +8,6 @@ use borrow.Author.Needs.{needs}
 use Rattle.groups.proofs.write.Statement.{statement}
 use Rattle.groups.proofs.write.Tie as tie
 
-lay-requires : tie.Need-lay-requires
-lay-requires c κs = search needs
-
-has-room-requires : tie.Need-has-room-requires
-has-room-requires c κs = search needs
-
 returns : tie.Need-returns
 returns c =
     let a =
@@ -31,7 +25,8 @@ slice-aggregate-put c = let laid = c .before .before .before .before .before .la
 put-requires : tie.Need-put-requires
 put-requires c κs =
     let laid = c .before .before .before .before .before .lay in
-    room-for (c .before .before .before .before .before .before .before .args .out .now) _ _ _ (laid .ensures .1) _ (laid .ensures .0) (sym (c .before .before .before .has-room .ensures) ∙ not-false _ (c .before .before .if1 .left))
+    room-for (c .before .before .before .before .before .before .before .args .out .now) _ _ _ (laid .ensures .1) _
+    (laid .ensures .0) (sym (c .before .before .before .has-room .ensures) ∙ not-false _ (c .before .before .if1 .left))
 
 same-length : tie.Need-same-length
 same-length c = c .before .before .put .kept .0
@@ -40,18 +35,15 @@ returns-2 : tie.Need-returns-2
 returns-2 c =
     let laid = c .before .before .before .before .before .before .before .before .lay in
     let put = c .before .before .put in
-    let done = groups-written _ _ _ _ (laid .ensures .1) _ (laid .ensures .0) (sym (c .before .before .before .before .before .before .has-room .ensures) ∙ not-false _ (c .before .before .before .before .before .if1 .left)) in
+    let done =
+    groups-written _ _ _ _ (laid .ensures .1) _ (laid .ensures .0)
+    (sym (c .before .before .before .before .before .before .has-room .ensures)
+    ∙ not-false _ (c .before .before .before .before .before .if1 .left)) in
     (done .row, (done .bytes, put .ensures ∙ done .output))
 
 pub write-spec : {M : Type 1} → statement M
 write-spec =
     tie.close
     (tie.spec
-    lay-requires
-    has-room-requires
-    returns
-    array-share-prefix-bytes
-    slice-aggregate-put
-    put-requires
-    same-length
-    returns-2)
+    (λ c κs. search needs) (λ c κs. search needs) returns array-share-prefix-bytes slice-aggregate-put put-requires
+    same-length returns-2)

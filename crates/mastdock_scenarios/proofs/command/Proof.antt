@@ -9,14 +9,8 @@ use Rattle.mastdock_scenarios.proofs.command.Tie as tie
 slice-aggregate-command : tie.Need-slice-aggregate-command
 slice-aggregate-command c = sym (length-take-le _ _ (omega arith))
 
-command-requires : tie.Need-command-requires
-command-requires c κs = search needs
-
-returns : tie.Need-returns
-returns c = search needs
-
-returns-2 : tie.Need-returns-2
-returns-2 c = search needs
-
 pub command-spec : {M : Type 1} → statement M
-command-spec = tie.close (tie.spec slice-aggregate-command command-requires returns returns-2)
+command-spec =
+    tie.close
+    (tie.spec
+    slice-aggregate-command (λ c κs. search needs) (λ c. search needs) (λ c. search needs))

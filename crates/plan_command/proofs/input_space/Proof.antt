@@ -3,8 +3,5 @@ use mathlib.Core.Path.{refl}
 use Rattle.plan_command.proofs.input_space.Statement.{statement}
 use Rattle.plan_command.proofs.input_space.Tie as tie
 
-returns : tie.Need-returns
-returns c = refl
-
 pub input-space-spec : {M : Type 1} → statement M
-input-space-spec = tie.close (tie.spec returns)
+input-space-spec = tie.close (tie.spec (λ c. refl))

@@ -1,4 +1,4 @@
--- `reader::head` meets its contract: a walk of its MIR, by hand. The struct is taken apart, and `proof::read_head` is called on the slice.
+-- `reader::head` meets its contract: a walk of its MIR, by hand. The struct is taken apart, and `proof_file::read_head` is called on the slice.
 -- What src owns goes to the callee beside the lifetime's token, which comes back. Of `read_head` only its contract is used.
 use mathlib.Core.Path.{_≡_, refl}
 use mathlib.Core.List.{[], _∷_}
@@ -34,14 +34,14 @@ use denote.Triple.Table.{entered, cited}
 use denote.Triple.Walked.{says, Stays, stay-none, walkOf, goes-none, Walks, ends-at, walked, walk-meets}
 use denote.Exit.{yes}
 use denote.Triple.Clauses.{ensured, lasts}
-use Rattle.proof.specs.Head.{HeadAnswer, headAnswer, headOf}
-use Rattle.proof.specs.declared.HeadNumbers.{HeadNumbers}
-use Rattle.proof.proofs.HeadNumbers as S
-use Rattle.proof.proofs.HeadNumbers.Laws as S′
-use Rattle.proof.proofs.read_head as callee
-use Rattle.proof.proofs.read_head.Symbol as callee-def
-use Rattle.proof.proofs.read_head.Symbol.{name as #proof·read-head}
-use Rattle.proof.proofs.read_head.Met as callee-thm
+use Rattle.proof_file.specs.Head.{HeadAnswer, headAnswer, headOf}
+use Rattle.proof_file.specs.declared.HeadNumbers.{HeadNumbers}
+use Rattle.proof_file.proofs.HeadNumbers as S
+use Rattle.proof_file.proofs.HeadNumbers.Laws as S′
+use Rattle.proof_file.proofs.read_head as callee
+use Rattle.proof_file.proofs.read_head.Symbol as callee-def
+use Rattle.proof_file.proofs.read_head.Symbol.{name as #proof·read-head}
+use Rattle.proof_file.proofs.read_head.Met as callee-thm
 use Rattle.reader.specs.declared.Reader.{Reader}
 use Rattle.reader.proofs.Reader.Laws as T′
 use Rattle.reader.proofs.Held.{B, D, L, srcVal, Own, SrcOwn, src-out}
@@ -58,7 +58,8 @@ module _ {M : Type 1} (𝓤 : URA M) (H : Heap 𝓤) (A : Atoms 𝓤) (mem : Mem
   abbrev ReadHead : Contract 𝓤
   ReadHead = tripleOf 𝓤 H A callee.signature (callee.spec 𝓤 H A mem run)
 
-module _ {M : Type 1} (𝓤 : URA M) (H : Heap 𝓤) (A : Atoms 𝓤) (W : Given 𝓤 H A) (mem : Memory → SProp 𝓤) (run : Routine → Fun 𝓤) (κ : Lft) (q : Share) (d : Reader) where
+module _ {M : Type 1} (𝓤 : URA M) (H : Heap 𝓤) (A : Atoms 𝓤) (W : Given 𝓤 H A) (mem : Memory → SProp 𝓤) (run : Routine → Fun 𝓤)
+    (κ : Lft) (q : Share) (d : Reader) where
   abbrev mach : Val
   mach = T′.lowered d
 
@@ -88,21 +89,32 @@ module _ {M : Type 1} (𝓤 : URA M) (H : Heap 𝓤) (A : Atoms 𝓤) (W : Given
       move ! (2 ∷ 0 ∷ []) $ use2 W (raw (ReadHead 𝓤 H A mem run .pre to)) asked $ frame ! $ done !
 
   -- of the callee's `ensured`, the clause alone: it has no `&mut`, so what is said of last values is dropped
-  said : (r : HeadNumbers) → ent 𝓤 (ensured 𝓤 H A callee.ended (callee.clauses 𝓤 H A mem run) (κ, tt) (d .src, tt) tt r) (fact 𝓤 (headAnswer r ≡ found))
+  said :
+      (r : HeadNumbers)
+      → ent 𝓤 (ensured 𝓤 H A callee.ended (callee.clauses 𝓤 H A mem run) (κ, tt) (d .src, tt) tt r)
+      (fact 𝓤 (headAnswer r ≡ found))
   said r = exE 𝓤 _ (λ ws. snd∗ 𝓤 (sem 𝓤 H A (lasts callee.ended (κ, tt) (d .src, tt) ws)) (fact 𝓤 (headAnswer r ≡ found)))
 
-  exits : (r : HeadNumbers) (u : Val) → headAnswer r ≡ found → ent 𝓤 (⋆ 𝓤 H A (‵ (S.the-row .own r (u ∷ [])) ∷ (‵ (flft κ q) ⊛ ‵ ftrue) ∷ ‵ (Own κ d) ∷ [])) (Post u)
+  exits :
+      (r : HeadNumbers) (u : Val) → headAnswer r ≡ found
+      → ent 𝓤 (⋆ 𝓤 H A (‵ (S.the-row .own r (u ∷ [])) ∷ (‵ (flft κ q) ⊛ ‵ ftrue) ∷ ‵ (Own κ d) ∷ [])) (Post u)
   exits r u e =
       qed W (‵ (S.the-row .own r (u ∷ [])) ∷ (‵ (flft κ q) ⊛ ‵ ftrue) ∷ ‵ (Own κ d) ∷ []) ∵
-      suffices ! _ (ends-at 𝓤 H A head.ended stayed (head.clauses 𝓤 H A mem run) W (((κ, tt), (q, tt), tt, (d, tt), (mach ∷ [], tt)), tt) u r (tt, tt) (tt, tt)) $ says ! e $
+      suffices ! _
+      (ends-at 𝓤 H A head.ended stayed (head.clauses 𝓤 H A mem run) W (((κ, tt), (q, tt), tt, (d, tt), (mach ∷ [], tt)), tt) u
+      r (tt, tt) (tt, tt)) $ says ! e $
       move ! (1 ∷ []) $ frame ! $ nothing ! $ move ! (2 ∷ 0 ∷ []) $ fjoin ! $ frame ! $ done !
 
   module _ (C : Calls 𝓤 H) (Λ : Loops 𝓤 H) (fm : FmC 𝓤 H (W .laws) C) (known : Triple 𝓤 (C #proof·read-head) (ReadHead 𝓤 H A mem run)) where
-    walk : Holds (hasTy (T′.mir (named 0)) mach) × WT mach → ent 𝓤 (onEntry 𝓤 H A head.signature (κ, tt) (q, tt) (d, tt) (mach ∷ [], tt)) (WpFn 𝓤 H C Λ code.function (mach ∷ []) Post)
+    walk :
+        Holds (hasTy (T′.mir (named 0)) mach) × WT mach
+        → ent 𝓤 (onEntry 𝓤 H A head.signature (κ, tt) (q, tt) (d, tt) (mach ∷ [], tt))
+        (WpFn 𝓤 H C Λ code.function (mach ∷ []) Post)
     walk wt =
         qed W (raw (onEntry 𝓤 H A head.signature (κ, tt) (q, tt) (d, tt) (mach ∷ [], tt)) ∷ []) ∵ enter ! C Λ code.function (mach ∷ []) _ $
         alloc1 ! (λ l₀. alloc1 ! (λ l₁. alloc1 ! (λ l₂. alloc0 ! $ params1 ! $ pass1 ! (init ! 2 refl wt) $ pass0 ! $
-        assigns ! (of-opd ! (load ! (from ! (fld ! refl (stop !))) (look-in ! 2 (sub ! 0 refl (whole !))))) (from ! (stop !)) (init ! 0 refl (tt, wt .1 .0)) $
+        assigns ! (of-opd ! (load ! (from ! (fld ! refl (stop !))) (look-in ! 2 (sub ! 0 refl (whole !))))) (from ! (stop !))
+        (init ! 0 refl (tt, wt .1 .0)) $
         move ! (6 ∷ []) $ use1 W (raw (ReadHead 𝓤 H A mem run .pre to) ⊛ ‵ (Own κ d)) apart $ split ! $
         calls-at ! fm (ReadHead 𝓤 H A mem run) known to (and-then ! (load ! (from ! (stop !)) (look ! 2 refl)) (no-more !)) (λ u.
         use1 W (later (some (λ (r : HeadNumbers). ((‵ (flft κ q) ⊛ ‵ ftrue) ⊛ ‵ (S.the-row .own r (u ∷ []))) ⊛ raw (ensured 𝓤 H A callee.ended (callee.clauses 𝓤 H A mem run) (κ, tt) (d .src, tt) tt r)))) (id⊢ 𝓤 _) $ await ! tt $ pick ! (λ r.
@@ -116,13 +128,20 @@ module _ {M : Type 1} (𝓤 : URA M) (H : Heap 𝓤) (A : Atoms 𝓤) (W : Given
 module _ {M : Type 1} (𝓤 : URA M) (H : Heap 𝓤) (A : Atoms 𝓤) (W : Given 𝓤 H A) (mem : Memory → SProp 𝓤) (run : Routine → Fun 𝓤) where
   head-walks : (C : Calls 𝓤 H) (Λ : Loops 𝓤 H) → FmC 𝓤 H (W .laws) C → Triple 𝓤 (C #proof·read-head) (ReadHead 𝓤 H A mem run)
       → Walks 𝓤 H A head.ended stayed (WpFn 𝓤 H C Λ code.function) (head.clauses 𝓤 H A mem run)
-  head-walks C Λ fm known = walked 𝓤 H A head.ended stayed (head.clauses 𝓤 H A mem run) (WpFn 𝓤 H C Λ code.function) (λ κs. (LL.vals (D κs) (L κs), tt)) (λ κs. (LL.tells (D κs) (L κs), tt))
-      (λ κs qs bounds a g are. via 𝓤 _ (fst∗ 𝓤 _ (emp 𝓤)) (walk 𝓤 H A W mem run (κs .0) (qs .0) (a .0) C Λ fm known (LL.lawful (D κs) (L κs) 𝓤 H A W .typed (a .0) _ (are .0) .0)))
+  head-walks C Λ fm known =
+      walked 𝓤 H A head.ended stayed (head.clauses 𝓤 H A mem run) (WpFn 𝓤 H C Λ code.function) (λ κs. (LL.vals (D κs) (L κs), tt))
+      (λ κs. (LL.tells (D κs) (L κs), tt))
+      (λ κs qs bounds a g are.
+      via 𝓤 _ (fst∗ 𝓤 _ (emp 𝓤))
+      (walk 𝓤 H A W mem run (κs .0) (qs .0) (a .0) C Λ fm known
+      (LL.lawful (D κs) (L κs) 𝓤 H A W .typed (a .0) _ (are .0) .0)))
 
 head-meets : {M : Type 1} (𝓤 : URA M) (H : Heap 𝓤) (A : Atoms 𝓤) (W : Given 𝓤 H A) (mem : Memory → SProp 𝓤) (run : Routine → Fun 𝓤) (𝓣 : Tables 𝓤 H)
     → Triple 𝓤 (𝓣 .C #proof·read-head) (ReadHead 𝓤 H A mem run)
     → Meets 𝓤 H A head.signature (WpFn 𝓤 H (𝓣 .C) (𝓣 .Λ) code.function) (head.spec 𝓤 H A mem run)
-head-meets 𝓤 H A W mem run 𝓣 known = walk-meets 𝓤 H A head.ended stayed W (goes-none 𝓤 H A W 1 B yes (λ κs x f. refl), tt) (head.clauses 𝓤 H A mem run) (WpFn 𝓤 H (𝓣 .C) (𝓣 .Λ) code.function) (WpFn-mono 𝓤 H (W .laws) 𝓣 code.function)
+head-meets 𝓤 H A W mem run 𝓣 known =
+    walk-meets 𝓤 H A head.ended stayed W (goes-none 𝓤 H A W 1 B yes (λ κs x f. refl), tt) (head.clauses 𝓤 H A mem run)
+    (WpFn 𝓤 H (𝓣 .C) (𝓣 .Λ) code.function) (WpFn-mono 𝓤 H (W .laws) 𝓣 code.function)
     (head-walks 𝓤 H A W mem run (𝓣 .C) (𝓣 .Λ) (fmOf 𝓤 H (W .laws) 𝓣) known)
 
 pub head-spec : {M : Type 1} → stated.statement M

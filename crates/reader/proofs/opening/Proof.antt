@@ -1,4 +1,4 @@
--- `reader::opening` meets its contract: a walk of its MIR, by hand. The struct is taken apart, `proof::opening_part` is called on the slice and the number, and its part is handed back.
+-- `reader::opening` meets its contract: a walk of its MIR, by hand. The struct is taken apart, `proof_file::opening_part` is called on the slice and the number, and its part is handed back.
 -- What src owns goes to the callee beside the lifetime's token, which comes back. Of `opening_part` only its contract is used.
 use mathlib.Core.Path.{_≡_, refl}
 use Prim.Native.Nat.{ℕ, _+_, _<_, _^_}
@@ -35,11 +35,11 @@ use denote.Triple.Table.{entered, cited}
 use denote.Triple.Walked.{says, Stays, stay-none, walkOf, goes-none, Walks, ends-at, walked, walk-meets}
 use denote.Exit.{yes}
 use denote.Triple.Clauses.{ensured, lasts}
-use Rattle.proof.specs.Head.{headOf, partStart, openingPart}
-use Rattle.proof.proofs.opening_part as callee
-use Rattle.proof.proofs.opening_part.Symbol as callee-def
-use Rattle.proof.proofs.opening_part.Symbol.{name as #proof·opening-part}
-use Rattle.proof.proofs.opening_part.Met as callee-thm
+use Rattle.proof_file.specs.Head.{headOf, partStart, openingPart}
+use Rattle.proof_file.proofs.opening_part as callee
+use Rattle.proof_file.proofs.opening_part.Symbol as callee-def
+use Rattle.proof_file.proofs.opening_part.Symbol.{name as #proof·opening-part}
+use Rattle.proof_file.proofs.opening_part.Met as callee-thm
 use Rattle.reader.specs.declared.Reader.{Reader}
 use Rattle.reader.proofs.Reader.Laws as T′
 use Rattle.reader.proofs.Held.{B, D, L, srcVal, Own, SrcOwn, src-out}
@@ -56,7 +56,8 @@ module _ {M : Type 1} (𝓤 : URA M) (H : Heap 𝓤) (A : Atoms 𝓤) (mem : Mem
   abbrev OpeningPart : Contract 𝓤
   OpeningPart = tripleOf 𝓤 H A callee.signature (callee.spec 𝓤 H A mem run)
 
-module _ {M : Type 1} (𝓤 : URA M) (H : Heap 𝓤) (A : Atoms 𝓤) (W : Given 𝓤 H A) (mem : Memory → SProp 𝓤) (run : Routine → Fun 𝓤) (κ : Lft) (q : Share) (d : Reader) (m : ℕ) (ok : m < 2 ^ 64) where
+module _ {M : Type 1} (𝓤 : URA M) (H : Heap 𝓤) (A : Atoms 𝓤) (W : Given 𝓤 H A) (mem : Memory → SProp 𝓤) (run : Routine → Fun 𝓤)
+    (κ : Lft) (q : Share) (d : Reader) (m : ℕ) (ok : m < 2 ^ 64) where
   abbrev mach : Val
   mach = T′.lowered d
 
@@ -97,21 +98,33 @@ module _ {M : Type 1} (𝓤 : URA M) (H : Heap 𝓤) (A : Atoms 𝓤) (W : Given
       move ! (2 ∷ 0 ∷ []) $ use2 W (raw (OpeningPart 𝓤 H A mem run .pre to)) asked $ frame ! $ done !
 
   -- of the callee's `ensured`, the clauses alone: it has no `&mut`, so what is said of last values is dropped
-  said : (r : RefT (List ℕ)) → ent 𝓤 (ensured 𝓤 H A callee.ended (callee.clauses 𝓤 H A mem run) (κ, tt) (d .src, (m, tt)) tt r) (sep 𝓤 (fact 𝓤 (Same r)) (fact 𝓤 (Placed r)))
+  said :
+      (r : RefT (List ℕ))
+      → ent 𝓤 (ensured 𝓤 H A callee.ended (callee.clauses 𝓤 H A mem run) (κ, tt) (d .src, (m, tt)) tt r)
+      (sep 𝓤 (fact 𝓤 (Same r)) (fact 𝓤 (Placed r)))
   said r = exE 𝓤 _ (λ ws. snd∗ 𝓤 (sem 𝓤 H A (lasts callee.ended (κ, tt) (d .src, (m, tt)) ws)) (sep 𝓤 (fact 𝓤 (Same r)) (fact 𝓤 (Placed r))))
 
-  exits : (r : RefT (List ℕ)) (u : Val) → Same r × Placed r → ent 𝓤 (⋆ 𝓤 H A (‵ (S .own r (u ∷ [])) ∷ (‵ (flft κ q) ⊛ ‵ ftrue) ∷ ‵ (Own κ d) ∷ [])) (Post u)
+  exits :
+      (r : RefT (List ℕ)) (u : Val) → Same r × Placed r
+      → ent 𝓤 (⋆ 𝓤 H A (‵ (S .own r (u ∷ [])) ∷ (‵ (flft κ q) ⊛ ‵ ftrue) ∷ ‵ (Own κ d) ∷ [])) (Post u)
   exits r u e =
       qed W (‵ (S .own r (u ∷ [])) ∷ (‵ (flft κ q) ⊛ ‵ ftrue) ∷ ‵ (Own κ d) ∷ []) ∵
-      suffices ! _ (ends-at 𝓤 H A opening.ended stayed (opening.clauses 𝓤 H A mem run) W (((κ, tt), (q, tt), tt, (d, (m, tt)), at), tt) u r (tt, (tt, tt)) (tt, (tt, tt))) $ says ! e $
-      move ! (1 ∷ []) $ frame ! $ nothing ! $ owned ! u64 (Is u64) (uint-makes 𝓤 H A W w64) m _ (refl, ok) $ fjoin ! $ move ! (2 ∷ 0 ∷ []) $ fjoin ! $ frame ! $ done !
+      suffices ! _
+      (ends-at 𝓤 H A opening.ended stayed (opening.clauses 𝓤 H A mem run) W (((κ, tt), (q, tt), tt, (d, (m, tt)), at), tt) u r
+      (tt, (tt, tt)) (tt, (tt, tt))) $ says ! e $
+      move ! (1 ∷ []) $ frame ! $ nothing ! $ owned ! u64 (Is u64) (uint-makes 𝓤 H A W w64) m _ (refl, ok) $ fjoin ! $ move !
+      (2 ∷ 0 ∷ []) $ fjoin ! $ frame ! $ done !
 
   module _ (C : Calls 𝓤 H) (Λ : Loops 𝓤 H) (fm : FmC 𝓤 H (W .laws) C) (known : Triple 𝓤 (C #proof·opening-part) (OpeningPart 𝓤 H A mem run)) where
-    walk : Holds (hasTy (T′.mir (named 0)) mach) × WT mach → ent 𝓤 (onEntry 𝓤 H A opening.signature (κ, tt) (q, tt) (d, (m, tt)) at) (WpFn 𝓤 H C Λ code.function (mach ∷ vint w64 m ∷ []) Post)
+    walk :
+        Holds (hasTy (T′.mir (named 0)) mach) × WT mach
+        → ent 𝓤 (onEntry 𝓤 H A opening.signature (κ, tt) (q, tt) (d, (m, tt)) at)
+        (WpFn 𝓤 H C Λ code.function (mach ∷ vint w64 m ∷ []) Post)
     walk wt =
         qed W (raw (onEntry 𝓤 H A opening.signature (κ, tt) (q, tt) (d, (m, tt)) at) ∷ []) ∵ enter ! C Λ code.function (mach ∷ vint w64 m ∷ []) _ $
         alloc1 ! (λ l₀. alloc1 ! (λ l₁. alloc1 ! (λ l₂. alloc1 ! (λ l₃. alloc0 ! $ params1 ! $ pass1 ! (init ! 4 refl wt) $ pass1 ! (init ! 2 refl (tt, record { fits = ok })) $ pass0 ! $
-        assigns ! (of-opd ! (load ! (from ! (fld ! refl (stop !))) (look-in ! 4 (sub ! 0 refl (whole !))))) (from ! (stop !)) (init ! 0 refl (tt, wt .1 .0)) $
+        assigns ! (of-opd ! (load ! (from ! (fld ! refl (stop !))) (look-in ! 4 (sub ! 0 refl (whole !))))) (from ! (stop !))
+        (init ! 0 refl (tt, wt .1 .0)) $
         move ! (8 ∷ []) $ use1 W (raw (OpeningPart 𝓤 H A mem run .pre to) ⊛ ‵ (Own κ d)) apart $ split ! $
         -- [what the callee asks; what the struct owns; _3; …; _2; …; _1; …; room for _0; …]
         calls-at ! fm (OpeningPart 𝓤 H A mem run) known to (and-then ! (load ! (from ! (stop !)) (look ! 2 refl)) (and-then ! (load ! (from ! (stop !)) (look ! 4 refl)) (no-more !))) (λ u.
@@ -126,13 +139,23 @@ module _ {M : Type 1} (𝓤 : URA M) (H : Heap 𝓤) (A : Atoms 𝓤) (W : Given
 module _ {M : Type 1} (𝓤 : URA M) (H : Heap 𝓤) (A : Atoms 𝓤) (W : Given 𝓤 H A) (mem : Memory → SProp 𝓤) (run : Routine → Fun 𝓤) where
   opening-walks : (C : Calls 𝓤 H) (Λ : Loops 𝓤 H) → FmC 𝓤 H (W .laws) C → Triple 𝓤 (C #proof·opening-part) (OpeningPart 𝓤 H A mem run)
       → Walks 𝓤 H A opening.ended stayed (WpFn 𝓤 H C Λ code.function) (opening.clauses 𝓤 H A mem run)
-  opening-walks C Λ fm known = walked 𝓤 H A opening.ended stayed (opening.clauses 𝓤 H A mem run) (WpFn 𝓤 H C Λ code.function) (λ κs. (LL.vals (D κs) (L κs), (uint-vals w64, tt))) (λ κs. (LL.tells (D κs) (L κs), (uint-tells w64, tt)))
-      (λ κs qs bounds a g are. via 𝓤 _ (fst∗ 𝓤 _ (emp 𝓤)) (walk 𝓤 H A W mem run (κs .0) (qs .0) (a .0) (a .1 .0) (are .1 .0 .1) C Λ fm known (LL.lawful (D κs) (L κs) 𝓤 H A W .typed (a .0) _ (are .0) .0)))
+  opening-walks C Λ fm known =
+      walked 𝓤 H A opening.ended stayed (opening.clauses 𝓤 H A mem run) (WpFn 𝓤 H C Λ code.function)
+      (λ κs. (LL.vals (D κs) (L κs), (uint-vals w64, tt))) (λ κs. (LL.tells (D κs) (L κs), (uint-tells w64, tt)))
+      (λ κs qs bounds a g are.
+      via 𝓤 _ (fst∗ 𝓤 _ (emp 𝓤))
+      (walk 𝓤 H A W mem run (κs .0) (qs .0) (a .0) (a .1 .0) (are .1 .0 .1) C Λ fm known
+      (LL.lawful (D κs) (L κs) 𝓤 H A W .typed (a .0) _ (are .0) .0)))
 
-opening-meets : {M : Type 1} (𝓤 : URA M) (H : Heap 𝓤) (A : Atoms 𝓤) (W : Given 𝓤 H A) (mem : Memory → SProp 𝓤) (run : Routine → Fun 𝓤) (𝓣 : Tables 𝓤 H)
+opening-meets :
+    {M : Type 1} (𝓤 : URA M) (H : Heap 𝓤) (A : Atoms 𝓤) (W : Given 𝓤 H A) (mem : Memory → SProp 𝓤) (run : Routine → Fun 𝓤)
+    (𝓣 : Tables 𝓤 H)
     → Triple 𝓤 (𝓣 .C #proof·opening-part) (OpeningPart 𝓤 H A mem run)
     → Meets 𝓤 H A opening.signature (WpFn 𝓤 H (𝓣 .C) (𝓣 .Λ) code.function) (opening.spec 𝓤 H A mem run)
-opening-meets 𝓤 H A W mem run 𝓣 known = walk-meets 𝓤 H A opening.ended stayed W (goes-none 𝓤 H A W 1 B yes (λ κs x f. refl), (goes-none 𝓤 H A W 1 (λ _. u64) yes (λ κs x f. refl), tt)) (opening.clauses 𝓤 H A mem run) (WpFn 𝓤 H (𝓣 .C) (𝓣 .Λ) code.function) (WpFn-mono 𝓤 H (W .laws) 𝓣 code.function)
+opening-meets 𝓤 H A W mem run 𝓣 known =
+    walk-meets 𝓤 H A opening.ended stayed W
+    (goes-none 𝓤 H A W 1 B yes (λ κs x f. refl), (goes-none 𝓤 H A W 1 (λ _. u64) yes (λ κs x f. refl), tt))
+    (opening.clauses 𝓤 H A mem run) (WpFn 𝓤 H (𝓣 .C) (𝓣 .Λ) code.function) (WpFn-mono 𝓤 H (W .laws) 𝓣 code.function)
     (opening-walks 𝓤 H A W mem run (𝓣 .C) (𝓣 .Λ) (fmOf 𝓤 H (W .laws) 𝓣) known)
 
 pub opening-spec : {M : Type 1} → stated.statement M

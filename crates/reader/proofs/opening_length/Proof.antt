@@ -5,11 +5,8 @@ use lib.ListN.{length}
 use Rattle.reader.proofs.opening_length.Statement.{statement}
 use Rattle.reader.proofs.opening_length.Tie as tie
 
-opening-of-requires : tie.Need-opening-of-requires
-opening-of-requires c κs = search needs
-
 returns : tie.Need-returns
 returns c = ap length (c .opening-of .ensures .0)
 
 pub opening-length-spec : {M : Type 1} → statement M
-opening-length-spec = tie.close (tie.spec opening-of-requires returns)
+opening-length-spec = tie.close (tie.spec (λ c κs. search needs) returns)

@@ -6,15 +6,6 @@ use Rattle.reader.specs.Moving.{placeAfter}
 use Rattle.reader.proofs.place_after.Statement.{statement}
 use Rattle.reader.proofs.place_after.Tie as tie
 
-number-at-requires : tie.Need-number-at-requires
-number-at-requires c κs = search needs
-
-enum-known-next : tie.Need-enum-known-next
-enum-known-next c = search needs
-
-enum-told : tie.Need-enum-told
-enum-told c = search needs
-
 returns : tie.Need-returns
 returns c = ap (placeAfter _) (ap answerOf (sym (c .before .next .given .1)) ∙ c .before .before .before .number-at .ensures)
 
@@ -23,4 +14,6 @@ returns-2 c = ap (placeAfter _) (ap answerOf (sym (c .enum-told .given .1)) ∙ 
 
 pub place-after-spec : {M : Type 1} → statement M
 place-after-spec =
-    tie.close (tie.spec number-at-requires enum-known-next enum-told returns returns-2)
+    tie.close
+    (tie.spec
+    (λ c κs. search needs) (λ c. search needs) (λ c. search needs) returns returns-2)

@@ -9,47 +9,75 @@ use borrow.Author.Needs.{needs}
 use Rattle.sealing.proofs.make_proof.Statement.{statement}
 use Rattle.sealing.proofs.make_proof.Tie as tie
 
-all-labels-requires : tie.Need-all-labels-requires
-all-labels-requires c κs = search needs
-
-portion-of-requires : tie.Need-portion-of-requires
-portion-of-requires c κs = search needs
-
 label-tree-requires : tie.Need-label-tree-requires
-label-tree-requires c κs = let a = c .before .before .before .before .before in (startable (a .args .depth) (a .args .memory) (a .args .challenges) (length (a .args .store .now)) (length (a .args .file .now)) (a .pre), some-labels _ _ (c .before .portion-of .ensures))
-
-slice-aggregate-label-at : tie.Need-slice-aggregate-label-at
-slice-aggregate-label-at c = search needs
+label-tree-requires c κs =
+    let a = c .before .before .before .before .before in (
+      startable (a .args .depth) (a .args .memory) (a .args .challenges) (length (a .args .store .now))
+          (length (a .args .file .now)) (a .pre),
+      some-labels _ _ (c .before .portion-of .ensures),
+    )
 
 label-at-requires : tie.Need-label-at-requires
 label-at-requires c κs = let l : length (c .before .before .before .before .label-tree .result .held) ≡ 1312 = search needs in omega (arith, l)
 
 write-openings-requires : tie.Need-write-openings-requires
-write-openings-requires c κs = let a = c .before .before .before .before .before .before .before .before .before .before .before .before .before in let tree = c .before .before .before .before .before .before .before .label-tree in ((still-fits (a .args .statement) (a .args .depth) (a .args .memory) (a .args .challenges) (a .args .store .now) (length (a .args .file .now)) (a .pre) _ (tree .ensures .1), the-root (a .args .statement) (a .args .depth) (a .args .memory) (a .args .challenges) (a .args .store .now) (length (a .args .file .now)) (a .pre) (tree .result) (tree .ensures .0) _ (c .before .before .label-at .ensures), holds-labels (a .args .statement) (a .args .depth) (a .args .memory) (a .args .challenges) (a .args .store .now) (length (a .args .file .now)) (a .pre) _ (tree .ensures .1)), (some-labels _ _ (c .before .before .before .before .before .before .before .before .before .portion-of .ensures), omega (arith, all-made (a .args .statement) (a .args .depth) (a .args .memory) (a .args .challenges) (a .args .store .now) (length (a .args .file .now)) (a .pre) (tree .result) (tree .ensures .0), small-nodes (a .args .depth) (a .pre .depth .1))))
+write-openings-requires c κs =
+    let a = c .before .before .before .before .before .before .before .before .before .before .before .before .before in
+    let tree = c .before .before .before .before .before .before .before .label-tree in (
+      (
+        still-fits (a .args .statement) (a .args .depth) (a .args .memory) (a .args .challenges) (a .args .store .now)
+            (length (a .args .file .now)) (a .pre) _ (tree .ensures .1),
+        the-root (a .args .statement) (a .args .depth) (a .args .memory) (a .args .challenges) (a .args .store .now)
+            (length (a .args .file .now)) (a .pre) (tree .result) (tree .ensures .0) _ (c .before .before .label-at .ensures),
+        holds-labels (a .args .statement) (a .args .depth) (a .args .memory) (a .args .challenges) (a .args .store .now)
+            (length (a .args .file .now)) (a .pre) _ (tree .ensures .1),
+      ),
+      (
+        some-labels _ _ (c .before .before .before .before .before .before .before .before .before .portion-of .ensures),
+        omega (
+          arith,
+          all-made (a .args .statement) (a .args .depth) (a .args .memory) (a .args .challenges) (a .args .store .now)
+              (length (a .args .file .now)) (a .pre) (tree .result) (tree .ensures .0),
+          small-nodes (a .args .depth) (a .pre .depth .1),
+        ),
+      ),
+    )
 
 add-t23 : tie.Need-add-t23
-add-t23 c = let a = c .before .before .before .before .before .before .before .before .before .before .before .before .before .before .before .before in let tree = c .before .before .before .before .before .before .before .before .before .before .label-tree in omega (arith, all-made (a .args .statement) (a .args .depth) (a .args .memory) (a .args .challenges) (a .args .store .now) (length (a .args .file .now)) (a .pre) (tree .result) (tree .ensures .0), c .before .before .write-openings .ensures .0, small-nodes (a .args .depth) (a .pre .depth .1), small-anew (a .args .depth) (a .args .memory) (a .args .challenges) _ (a .pre .depth .1) (a .pre .count .1) refl)
-
-same-length : tie.Need-same-length
-same-length c = search needs
-
-same-length-2 : tie.Need-same-length-2
-same-length-2 c = search needs
+add-t23 c =
+    let a =
+    c .before .before .before .before .before .before .before .before .before .before .before .before .before .before .before .before in
+    let tree = c .before .before .before .before .before .before .before .before .before .before .label-tree in
+    omega (
+      arith,
+      all-made (a .args .statement) (a .args .depth) (a .args .memory) (a .args .challenges) (a .args .store .now)
+          (length (a .args .file .now)) (a .pre) (tree .result) (tree .ensures .0),
+      c .before .before .write-openings .ensures .0,
+      small-nodes (a .args .depth) (a .pre .depth .1),
+      small-anew (a .args .depth) (a .args .memory) (a .args .challenges) _ (a .pre .depth .1) (a .pre .count .1) refl,
+    )
 
 returns : tie.Need-returns
-returns c = let a = c .before .before .before .before .before .before .before .before .before .before .before .before .before .before .before .before in let tree = c .before .before .before .before .before .before .before .before .before .before .label-tree in ((the-root (a .args .statement) (a .args .depth) (a .args .memory) (a .args .challenges) (a .args .store .now) (length (a .args .file .now)) (a .pre) (tree .result) (tree .ensures .0) _ (c .before .before .before .before .before .label-at .ensures), rw (all-made (a .args .statement) (a .args .depth) (a .args .memory) (a .args .challenges) (a .args .store .now) (length (a .args .file .now)) (a .pre) (tree .result) (tree .ensures .0), c .before .before .write-openings .ensures .0)), (tree .ensures .1, c .before .before .write-openings .ensures .1))
+returns c =
+    let a =
+    c .before .before .before .before .before .before .before .before .before .before .before .before .before .before .before .before in
+    let tree = c .before .before .before .before .before .before .before .before .before .before .label-tree in (
+      (
+        the-root (a .args .statement) (a .args .depth) (a .args .memory) (a .args .challenges) (a .args .store .now)
+            (length (a .args .file .now)) (a .pre) (tree .result) (tree .ensures .0) _
+            (c .before .before .before .before .before .label-at .ensures),
+        rw (
+          all-made (a .args .statement) (a .args .depth) (a .args .memory) (a .args .challenges) (a .args .store .now)
+              (length (a .args .file .now)) (a .pre) (tree .result) (tree .ensures .0),
+          c .before .before .write-openings .ensures .0,
+        ),
+      ),
+      (tree .ensures .1, c .before .before .write-openings .ensures .1),
+    )
 
 pub make-proof-spec : {M : Type 1} → statement M
 make-proof-spec =
     tie.close
     (tie.spec
-    all-labels-requires
-    portion-of-requires
-    label-tree-requires
-    slice-aggregate-label-at
-    label-at-requires
-    write-openings-requires
-    add-t23
-    same-length
-    same-length-2
-    returns)
+    (λ c κs. search needs) (λ c κs. search needs) label-tree-requires (λ c. search needs) label-at-requires
+    write-openings-requires add-t23 (λ c. search needs) (λ c. search needs) returns)

@@ -15,15 +15,9 @@ use borrow.Author.Needs.{needs}
 use Rattle.sha256.proofs.digest.Statement.{statement}
 use Rattle.sha256.proofs.digest.Tie as tie
 
-too-many-requires : tie.Need-too-many-requires
-too-many-requires c κs = search needs
-
 returns : tie.Need-returns
 unfolding digestRow digestAnswer
 returns c = rw (sym (c .before .too-many .ensures) ∙ c .if1 .taken) (refl, refl)
-
-aligned-requires : tie.Need-aligned-requires
-aligned-requires c κs = search needs
 
 closed-requires : tie.Need-closed-requires
 closed-requires c κs =
@@ -46,4 +40,6 @@ returns-2 c =
 
 pub digest-spec : {M : Type 1} → statement M
 digest-spec =
-    tie.close (tie.spec too-many-requires returns aligned-requires closed-requires returns-2)
+    tie.close
+    (tie.spec
+    (λ c κs. search needs) returns (λ c κs. search needs) closed-requires returns-2)

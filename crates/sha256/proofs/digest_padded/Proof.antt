@@ -5,14 +5,8 @@ use borrow.Author.Needs.{needs}
 use Rattle.sha256.proofs.digest_padded.Statement.{statement}
 use Rattle.sha256.proofs.digest_padded.Tie as tie
 
-absorb-requires : tie.Need-absorb-requires
-absorb-requires c κs = search needs
-
-digest-bytes-requires : tie.Need-digest-bytes-requires
-digest-bytes-requires c κs = search needs
-
 returns : tie.Need-returns
 returns c = c .digest-bytes .ensures ∙ ap digestOf (c .before .absorb .ensures)
 
 pub digest-padded-spec : {M : Type 1} → statement M
-digest-padded-spec = tie.close (tie.spec absorb-requires digest-bytes-requires returns)
+digest-padded-spec = tie.close (tie.spec (λ c κs. search needs) (λ c κs. search needs) returns)

@@ -5,18 +5,6 @@ use borrow.Author.Needs.{needs}
 use Rattle.capi.proofs.chains.drawing_numbers.Statement.{statement}
 use Rattle.capi.proofs.chains.drawing_numbers.Tie as tie
 
-enum-known-drawing : tie.Need-enum-known-drawing
-enum-known-drawing c = search needs
-
-code-requires : tie.Need-code-requires
-code-requires c κs = search needs
-
-enum-known-drawing-2 : tie.Need-enum-known-drawing-2
-enum-known-drawing-2 c = search needs
-
-enum-told : tie.Need-enum-told
-enum-told c = search needs
-
 returns : tie.Need-returns
 returns c =
     let k = same-numbers _ _ (ap drawingAnswer (sym (c .before .before .drawing .given .1))) in
@@ -32,10 +20,4 @@ pub drawing-numbers-spec : {M : Type 1} → statement M
 drawing-numbers-spec =
     tie.close
     (tie.spec
-    enum-known-drawing
-    code-requires
-    enum-known-drawing-2
-    enum-told
-    returns
-    returns-2
-    returns-3)
+    (λ c. search needs) (λ c κs. search needs) (λ c. search needs) (λ c. search needs) returns returns-2 returns-3)

@@ -4,15 +4,6 @@ use borrow.Author.Needs.{needs}
 use Rattle.capi.proofs.chains.mastdock_compare.Statement.{statement}
 use Rattle.capi.proofs.chains.mastdock_compare.Tie as tie
 
-compare-requires : tie.Need-compare-requires
-compare-requires c κs = search needs
-
-outcome-number-requires : tie.Need-outcome-number-requires
-outcome-number-requires c κs = search needs
-
-clash-of-requires : tie.Need-clash-of-requires
-clash-of-requires c κs = search needs
-
 returns : tie.Need-returns
 returns c =
     let e = c .before .before .before .before .compare .ensures in
@@ -30,4 +21,6 @@ returns c =
 
 pub mastdock-compare-spec : {M : Type 1} → statement M
 mastdock-compare-spec =
-    tie.close (tie.spec compare-requires outcome-number-requires clash-of-requires returns)
+    tie.close
+    (tie.spec
+    (λ c κs. search needs) (λ c κs. search needs) (λ c κs. search needs) returns)

@@ -1,18 +1,9 @@
 use mathlib.Core.Path.{sym, ap, _∙_}
-use Rattle.proof.specs.Head.{headAnswer}
+use Rattle.proof_file.specs.Head.{headAnswer}
 use Rattle.capi.proofs.Numbers.{same-head}
 use borrow.Author.Needs.{needs}
 use Rattle.capi.proofs.files.head_read.Statement.{statement}
 use Rattle.capi.proofs.files.head_read.Tie as tie
-
-enum-known-numbers : tie.Need-enum-known-numbers
-enum-known-numbers c = search needs
-
-enum-known-numbers-2 : tie.Need-enum-known-numbers-2
-enum-known-numbers-2 c = search needs
-
-number-requires : tie.Need-number-requires
-number-requires c κs = search needs
 
 returns : tie.Need-returns
 returns c = same-head _ _ (ap headAnswer (sym (c .before .numbers .given .1)))
@@ -25,4 +16,5 @@ returns-2 c =
 pub head-read-spec : {M : Type 1} → statement M
 head-read-spec =
     tie.close
-    (tie.spec enum-known-numbers enum-known-numbers-2 number-requires returns returns-2)
+    (tie.spec
+    (λ c. search needs) (λ c. search needs) (λ c κs. search needs) returns returns-2)

@@ -3,15 +3,8 @@ use borrow.Author.Needs.{needs}
 use Rattle.capi.proofs.files.mastdock_check_opening.Statement.{statement}
 use Rattle.capi.proofs.files.mastdock_check_opening.Tie as tie
 
-check-opening-requires : tie.Need-check-opening-requires
-check-opening-requires c κs = search needs
-
-outcome-number-requires : tie.Need-outcome-number-requires
-outcome-number-requires c κs = search needs
-
 returns : tie.Need-returns
 returns c = c .outcome-number .ensures ∙ c .before .check-opening .ensures
 
 pub mastdock-check-opening-spec : {M : Type 1} → statement M
-mastdock-check-opening-spec =
-    tie.close (tie.spec check-opening-requires outcome-number-requires returns)
+mastdock-check-opening-spec = tie.close (tie.spec (λ c κs. search needs) (λ c κs. search needs) returns)

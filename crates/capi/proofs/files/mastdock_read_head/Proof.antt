@@ -4,12 +4,6 @@ use borrow.Author.Needs.{needs}
 use Rattle.capi.proofs.files.mastdock_read_head.Statement.{statement}
 use Rattle.capi.proofs.files.mastdock_read_head.Tie as tie
 
-read-head-requires : tie.Need-read-head-requires
-read-head-requires c κs = search needs
-
-head-read-requires : tie.Need-head-read-requires
-head-read-requires c κs = search needs
-
 returns : tie.Need-returns
 returns c =
     let n = c .head-read .ensures in
@@ -17,4 +11,4 @@ returns c =
     (n .0 ∙ k .0, (n .1 .0 ∙ k .1 .0, n .1 .1 ∙ k .1 .1))
 
 pub mastdock-read-head-spec : {M : Type 1} → statement M
-mastdock-read-head-spec = tie.close (tie.spec read-head-requires head-read-requires returns)
+mastdock-read-head-spec = tie.close (tie.spec (λ c κs. search needs) (λ c κs. search needs) returns)

@@ -3,14 +3,8 @@ use borrow.Author.Needs.{needs}
 use Rattle.capi.proofs.hashes.mastdock_hash_update.Statement.{statement}
 use Rattle.capi.proofs.hashes.mastdock_hash_update.Tie as tie
 
-update-requires : tie.Need-update-requires
-update-requires c κs = search needs
-
-outcome-number-requires : tie.Need-outcome-number-requires
-outcome-number-requires c κs = search needs
-
 returns : tie.Need-returns
 returns c = (c .outcome-number .ensures ∙ c .before .before .update .ensures .0, c .before .before .update .ensures .1)
 
 pub mastdock-hash-update-spec : {M : Type 1} → statement M
-mastdock-hash-update-spec = tie.close (tie.spec update-requires outcome-number-requires returns)
+mastdock-hash-update-spec = tie.close (tie.spec (λ c κs. search needs) (λ c κs. search needs) returns)

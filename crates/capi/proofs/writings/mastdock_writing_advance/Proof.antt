@@ -3,15 +3,6 @@ use borrow.Author.Needs.{needs}
 use Rattle.capi.proofs.writings.mastdock_writing_advance.Statement.{statement}
 use Rattle.capi.proofs.writings.mastdock_writing_advance.Tie as tie
 
-advance-requires : tie.Need-advance-requires
-advance-requires c κs = search needs
-
-outcome-number-requires : tie.Need-outcome-number-requires
-outcome-number-requires c κs = search needs
-
-same-length : tie.Need-same-length
-same-length c = search needs
-
 returns : tie.Need-returns
 returns c =
     let e = c .before .before .before .before .advance .ensures in
@@ -19,4 +10,6 @@ returns c =
 
 pub mastdock-writing-advance-spec : {M : Type 1} → statement M
 mastdock-writing-advance-spec =
-    tie.close (tie.spec advance-requires outcome-number-requires same-length returns)
+    tie.close
+    (tie.spec
+    (λ c κs. search needs) (λ c κs. search needs) (λ c. search needs) returns)

@@ -3,15 +3,6 @@ use borrow.Author.Needs.{needs}
 use Rattle.capi.proofs.writings.mastdock_writing_start.Statement.{statement}
 use Rattle.capi.proofs.writings.mastdock_writing_start.Tie as tie
 
-start-requires : tie.Need-start-requires
-start-requires c κs = search needs
-
-outcome-number-requires : tie.Need-outcome-number-requires
-outcome-number-requires c κs = search needs
-
-same-length : tie.Need-same-length
-same-length c = search needs
-
 returns : tie.Need-returns
 returns c =
     let e = c .before .before .before .before .start .ensures in
@@ -19,4 +10,6 @@ returns c =
 
 pub mastdock-writing-start-spec : {M : Type 1} → statement M
 mastdock-writing-start-spec =
-    tie.close (tie.spec start-requires outcome-number-requires same-length returns)
+    tie.close
+    (tie.spec
+    (λ c κs. search needs) (λ c κs. search needs) (λ c. search needs) returns)

@@ -5,11 +5,11 @@ use borrow.Author.Needs.{needs}
 use Rattle.chain.proofs.climbing.width.Statement.{statement}
 use Rattle.chain.proofs.climbing.width.Tie as tie
 
-shl-result : tie.Need-shl-result
-shl-result c = search needs
-
 returns : tie.Need-returns
-returns c = let n = c .args .depth in let e = shl-exact {a = 1} 1 n 64 (omega arith) (omega arith) in (omega (arith, e), omega (arith, e, pow-mono {i = n} {j = 40} (omega arith)))
+returns c =
+    let n = c .args .depth in
+    let e = shl-exact {a = 1} 1 n 64 (omega arith) (omega arith) in
+    (omega (arith, e), omega (arith, e, pow-mono {i = n} {j = 40} (omega arith)))
 
 pub width-spec : {M : Type 1} → statement M
-width-spec = tie.close (tie.spec shl-result returns)
+width-spec = tie.close (tie.spec (λ c. search needs) returns)

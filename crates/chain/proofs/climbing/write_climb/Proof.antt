@@ -1,8 +1,8 @@
 -- `climbing::write_climb` meets its contract. The invariant: writing what is left from here on gives the whole climb written.
 use Rattle.chain.proofs.Writing.{climb-ended, climb-written, all-written}
-use Rattle.ways.proofs.Plan.{climb-met}
-use Rattle.ways.proofs.Turns.{count-climb}
-use Rattle.ways.specs.Planning.{climb}
+use Rattle.chain_theory.proofs.Plan.{climb-met}
+use Rattle.chain_theory.proofs.Turns.{count-climb}
+use Rattle.chain_theory.specs.Planning.{climb}
 use Rattle.base.specs.Bytes.{written}
 use lib.ListN.{length, length-set}
 use native.Mathlib.Omega.{arith}
@@ -13,7 +13,9 @@ use Rattle.chain.proofs.climbing.write_climb.Statement.{statement}
 use Rattle.chain.proofs.climbing.write_climb.Tie as tie
 
 abbrev Inv-loop : tie.InvT-loop
-Inv-loop list₀ start most code next left₀ from₀ other₀ at₀ list left from other at = (written list at (climb left from other) ≡ written list₀ start (climb most code next)) × (at + length (climb left from other) ≡ start + length (climb most code next)) × (length list ≡ length list₀)
+Inv-loop list₀ start most code next left₀ from₀ other₀ at₀ list left from other at =
+    (written list at (climb left from other) ≡ written list₀ start (climb most code next))
+    × (at + length (climb left from other) ≡ start + length (climb most code next)) × (length list ≡ length list₀)
 
 abbrev μ-loop : tie.MeasureT-loop
 μ-loop list₀ start most code next left₀ from₀ other₀ at₀ list left from other at = left
@@ -31,25 +33,26 @@ returns c =
     (all-written _ _ _ _ e (l .inv .0), omega (arith, l .inv .1, ap length e))
 
 mul-list : tie.Need-mul-list Inv-loop μ-loop
-mul-list c = let l = c .before .before .loop in omega (arith, l .inv .1, l .inv .2, count-climb (l .left) (l .from) (l .other) (c .before .loop-test .taken) (c .if1 .left))
+mul-list c =
+    let l = c .before .before .loop in
+    omega (arith, l .inv .1, l .inv .2, count-climb (l .left) (l .from) (l .other) (c .before .loop-test .taken) (c .if1 .left))
 
 slice-write-list : tie.Need-slice-write-list Inv-loop μ-loop
-slice-write-list c = let l = c .before .before .loop in omega (arith, l .inv .1, l .inv .2, count-climb (l .left) (l .from) (l .other) (c .before .loop-test .taken) (c .if1 .left))
+slice-write-list c =
+    let l = c .before .before .loop in
+    omega (arith, l .inv .1, l .inv .2, count-climb (l .left) (l .from) (l .other) (c .before .loop-test .taken) (c .if1 .left))
 
 add-at : tie.Need-add-at Inv-loop μ-loop
-add-at c = let l = c .before .before .loop in omega (arith, l .inv .1, l .inv .2, count-climb (l .left) (l .from) (l .other) (c .before .loop-test .taken) (c .if1 .left))
-
-sub-left : tie.Need-sub-left Inv-loop μ-loop
-sub-left c = search needs
-
-loop-less : tie.Need-loop-less Inv-loop μ-loop
-loop-less c = search needs
+add-at c =
+    let l = c .before .before .loop in
+    omega (arith, l .inv .1, l .inv .2, count-climb (l .left) (l .from) (l .other) (c .before .loop-test .taken) (c .if1 .left))
 
 loop-again : tie.Need-loop-again Inv-loop μ-loop
 loop-again c =
     let l = c .before .before .loop in
     let n = count-climb (l .left) (l .from) (l .other) (c .before .loop-test .taken) (c .if1 .left) in (
-      climb-written (l .list) (l .at) (l .left) (l .from) (l .other) (c .before .loop-test .taken) (c .if1 .left) (omega (arith, l .inv .1, l .inv .2)) ∙ l .inv .0,
+      climb-written (l .list) (l .at) (l .left) (l .from) (l .other) (c .before .loop-test .taken) (c .if1 .left)
+          (omega (arith, l .inv .1, l .inv .2)) ∙ l .inv .0,
       omega (arith, l .inv .1),
       simp length-set (l .inv .2),
     )
@@ -67,16 +70,5 @@ pub write-climb-spec : {M : Type 1} → statement M
 write-climb-spec =
     tie.close
     (tie.spec
-    Inv-loop
-    μ-loop
-    loop-holds
-    same-length
-    returns
-    mul-list
-    slice-write-list
-    add-at
-    sub-left
-    loop-less
-    loop-again
-    same-length-2
-    returns-2)
+    Inv-loop μ-loop loop-holds same-length returns mul-list slice-write-list add-at (λ c. search needs)
+    (λ c. search needs) loop-again same-length-2 returns-2)

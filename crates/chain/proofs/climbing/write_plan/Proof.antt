@@ -1,7 +1,7 @@
 -- `climbing::write_plan` meets its contract. The invariant: writing what the leaves from i on write gives the whole plan written.
 use Rattle.chain.proofs.Writing.{plan-count, plan-written, all-written}
-use Rattle.ways.proofs.Turns.{planFrom-end}
-use Rattle.ways.specs.Planning.{planFrom}
+use Rattle.chain_theory.proofs.Turns.{planFrom-end}
+use Rattle.chain_theory.specs.Planning.{planFrom}
 use Rattle.base.specs.Bytes.{written}
 use lib.ListN.{length, drop}
 use native.Mathlib.Omega.{arith}
@@ -12,25 +12,12 @@ use Rattle.chain.proofs.climbing.write_plan.Statement.{statement}
 use Rattle.chain.proofs.climbing.write_plan.Tie as tie
 
 abbrev Inv-loop : tie.InvT-loop
-Inv-loop depth leaves list₀ at₀ i₀ list at i = (i ≤ length leaves) × (written list at (planFrom depth (drop i leaves)) ≡ written list₀ 0 (planFrom depth leaves)) × (at + length (planFrom depth (drop i leaves)) ≡ length (planFrom depth leaves)) × (length list ≡ length list₀)
+Inv-loop depth leaves list₀ at₀ i₀ list at i =
+    (i ≤ length leaves) × (written list at (planFrom depth (drop i leaves)) ≡ written list₀ 0 (planFrom depth leaves))
+    × (at + length (planFrom depth (drop i leaves)) ≡ length (planFrom depth leaves)) × (length list ≡ length list₀)
 
 abbrev μ-loop : tie.MeasureT-loop
 μ-loop depth leaves list₀ at₀ i₀ list at i = length leaves - i
-
-loop-holds : tie.Need-loop-holds Inv-loop μ-loop
-loop-holds c = search needs
-
-code-at-requires : tie.Need-code-at-requires Inv-loop μ-loop
-code-at-requires c κs = search needs
-
-add-code-at : tie.Need-add-code-at Inv-loop μ-loop
-add-code-at c = search needs
-
-code-at-requires-2 : tie.Need-code-at-requires-2 Inv-loop μ-loop
-code-at-requires-2 c κs = search needs
-
-add-write-climb : tie.Need-add-write-climb Inv-loop μ-loop
-add-write-climb c = search needs
 
 write-climb-requires : tie.Need-write-climb-requires Inv-loop μ-loop
 write-climb-requires c κs =
@@ -38,14 +25,10 @@ write-climb-requires c κs =
     let s = c .before .before .before .before .before .before .before in
     let code = c .before .before .code-at in
     let next = c .before .code-at2 in
-    let turn = plan-count (s .args .depth) (s .args .leaves .now) (l .i) (code .result) (next .result) (omega arith) (code .ensures) (next .ensures) in
+    let turn =
+    plan-count (s .args .depth) (s .args .leaves .now) (l .i) (code .result) (next .result) (omega arith) (code .ensures)
+    (next .ensures) in
     omega (arith, l .inv .2, l .inv .3, s .pre .1)
-
-add-i : tie.Need-add-i Inv-loop μ-loop
-add-i c = search needs
-
-loop-less : tie.Need-loop-less Inv-loop μ-loop
-loop-less c = search needs
 
 loop-again : tie.Need-loop-again Inv-loop μ-loop
 loop-again c =
@@ -56,13 +39,12 @@ loop-again c =
     let wrote = c .before .before .write-climb in
     let turn = plan-count (s .args .depth) (s .args .leaves .now) (l .i) (code .result) (next .result) (omega arith) (code .ensures) (next .ensures) in (
       omega arith,
-      plan-written (s .args .depth) (s .args .leaves .now) (l .i) (code .result) (next .result) (omega arith) (code .ensures) (next .ensures) (l .list) _ (l .at) _ (omega (arith, l .inv .2, l .inv .3, s .pre .1)) (wrote .ensures .0) (wrote .ensures .1) ∙ l .inv .1,
+      plan-written (s .args .depth) (s .args .leaves .now) (l .i) (code .result) (next .result) (omega arith) (code .ensures)
+          (next .ensures) (l .list) _ (l .at) _ (omega (arith, l .inv .2, l .inv .3, s .pre .1)) (wrote .ensures .0)
+          (wrote .ensures .1) ∙ l .inv .1,
       omega (arith, l .inv .2, wrote .ensures .1),
       wrote .kept .0 ∙ l .inv .3,
     )
-
-same-length : tie.Need-same-length Inv-loop μ-loop
-same-length c = search needs
 
 returns : tie.Need-returns Inv-loop μ-loop
 returns c =
@@ -74,16 +56,6 @@ pub write-plan-spec : {M : Type 1} → statement M
 write-plan-spec =
     tie.close
     (tie.spec
-    Inv-loop
-    μ-loop
-    loop-holds
-    code-at-requires
-    add-code-at
-    code-at-requires-2
-    add-write-climb
-    write-climb-requires
-    add-i
-    loop-less
-    loop-again
-    same-length
+    Inv-loop μ-loop (λ c. search needs) (λ c κs. search needs) (λ c. search needs) (λ c κs. search needs)
+    (λ c. search needs) write-climb-requires (λ c. search needs) (λ c. search needs) loop-again (λ c. search needs)
     returns)

@@ -1,6 +1,6 @@
 -- `planning::are_leaves` meets its contract. The invariant: those before i are leaves.
-use Rattle.ways.proofs.Lists.{at-every, not-every}
-use Rattle.ways.specs.Planning.{isLeaf}
+use Rattle.chain_theory.proofs.Lists.{at-every, not-every}
+use Rattle.chain_theory.specs.Planning.{isLeaf}
 use borrow.Author.Tests.{lt-ltb, le-ltb}
 use borrow.Author.Count.{below-more}
 use lib.ListN.{length, getD}
@@ -18,17 +18,8 @@ Inv-loop depth leaves end i₀ i = (i ≤ length leaves) × ((k : ℕ) → k < i
 abbrev μ-loop : tie.MeasureT-loop
 μ-loop depth leaves end i₀ i = length leaves - i
 
-width-requires : tie.Need-width-requires Inv-loop μ-loop
-width-requires c κs = search needs
-
 loop-holds : tie.Need-loop-holds Inv-loop μ-loop
 loop-holds c = (omega arith, λ k h. absurd (omega arith))
-
-mul-if1 : tie.Need-mul-if1 Inv-loop μ-loop
-mul-if1 c = search needs
-
-shared-slice-read-if1 : tie.Need-shared-slice-read-if1 Inv-loop μ-loop
-shared-slice-read-if1 c = search needs
 
 returns : tie.Need-returns Inv-loop μ-loop
 unfolding isLeaf
@@ -36,13 +27,9 @@ returns c =
     let l = c .before .before .before .loop in
     let w = c .before .before .before .before .width in
     let a = c .before .before .before .before .before .before .args in
-    sym (not-every (isLeaf (a .depth)) (a .leaves .now) 0 (l .i) (omega arith) (le-ltb (getD (a .leaves .now) (l .i) 0) (2 ^ a .depth) (omega (arith, w .ensures .0, c .if1 .taken))))
-
-add-i : tie.Need-add-i Inv-loop μ-loop
-add-i c = search needs
-
-loop-less : tie.Need-loop-less Inv-loop μ-loop
-loop-less c = search needs
+    sym
+    (not-every (isLeaf (a .depth)) (a .leaves .now) 0 (l .i) (omega arith)
+    (le-ltb (getD (a .leaves .now) (l .i) 0) (2 ^ a .depth) (omega (arith, w .ensures .0, c .if1 .taken))))
 
 loop-again : tie.Need-loop-again Inv-loop μ-loop
 unfolding isLeaf
@@ -59,14 +46,5 @@ pub are-leaves-spec : {M : Type 1} → statement M
 are-leaves-spec =
     tie.close
     (tie.spec
-    Inv-loop
-    μ-loop
-    width-requires
-    loop-holds
-    mul-if1
-    shared-slice-read-if1
-    returns
-    add-i
-    loop-less
-    loop-again
-    returns-2)
+    Inv-loop μ-loop (λ c κs. search needs) loop-holds (λ c. search needs) (λ c. search needs) returns
+    (λ c. search needs) (λ c. search needs) loop-again returns-2)

@@ -18,20 +18,20 @@ returns-3 c = row-count _ _ (in-range 1 40 _ (c .before .before .if1 .left) (c .
 returns-4 : tie.Need-returns-4
 returns-4 c = row-count _ _ (in-range 1 40 _ (c .before .before .before .if1 .left) (c .before .before .if2 .left)) (too-high 1 200 _ (c .if4 .taken))
 
-are-leaves-requires : tie.Need-are-leaves-requires
-are-leaves-requires c κs = search needs
-
 returns-5 : tie.Need-returns-5
 returns-5 c =
     let e = c .before .before in
-    row-leaf _ _ (in-range 1 40 _ (e .before .before .before .if1 .left) (e .before .before .if2 .left)) (in-range 1 200 _ (e .before .if3 .left) (e .if4 .left)) (sym (c .before .are-leaves .ensures) ∙ not-true _ (c .if5 .taken))
+    row-leaf _ _ (in-range 1 40 _ (e .before .before .before .if1 .left) (e .before .before .if2 .left))
+    (in-range 1 200 _ (e .before .if3 .left) (e .if4 .left)) (sym (c .before .are-leaves .ensures) ∙ not-true _ (c .if5 .taken))
 
 returns-6 : tie.Need-returns-6
 returns-6 c =
     let e = c .before .before in
-    row-done _ _ (in-range 1 40 _ (e .before .before .before .if1 .left) (e .before .before .if2 .left)) (in-range 1 200 _ (e .before .if3 .left) (e .if4 .left)) (sym (c .before .are-leaves .ensures) ∙ not-false _ (c .if5 .left))
+    row-done _ _ (in-range 1 40 _ (e .before .before .before .if1 .left) (e .before .before .if2 .left))
+    (in-range 1 200 _ (e .before .if3 .left) (e .if4 .left)) (sym (c .before .are-leaves .ensures) ∙ not-false _ (c .if5 .left))
 
 pub check-leaves-spec : {M : Type 1} → statement M
 check-leaves-spec =
     tie.close
-    (tie.spec returns returns-2 returns-3 returns-4 are-leaves-requires returns-5 returns-6)
+    (tie.spec
+    returns returns-2 returns-3 returns-4 (λ c κs. search needs) returns-5 returns-6)

@@ -1,5 +1,5 @@
 -- `planning::different_leaves` meets its contract: the sorted leaves are as many as there are different ones.
-use Rattle.ways.proofs.Sorting.{length-sorted}
+use Rattle.chain_theory.proofs.Sorting.{length-sorted}
 use borrow.Author.Tests.{le-leb, lt-leb}
 use mathlib.Core.Path.{_∙_}
 use borrow.Author.Needs.{needs}
@@ -9,11 +9,8 @@ use Rattle.chain.proofs.planning.different_leaves.Tie as tie
 returns : tie.Need-returns
 returns c = simp (lt-leb _ _ (c .if1 .taken))
 
-sort-leaves-requires : tie.Need-sort-leaves-requires
-sort-leaves-requires c κs = search needs
-
 returns-2 : tie.Need-returns-2
 returns-2 c = simp (le-leb _ _ (c .before .if1 .left)) (c .sort-leaves .ensures .1 ∙ length-sorted _)
 
 pub different-leaves-spec : {M : Type 1} → statement M
-different-leaves-spec = tie.close (tie.spec returns sort-leaves-requires returns-2)
+different-leaves-spec = tie.close (tie.spec returns (λ c κs. search needs) returns-2)

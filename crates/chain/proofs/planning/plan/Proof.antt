@@ -5,35 +5,17 @@ use borrow.Author.Needs.{needs}
 use Rattle.chain.proofs.planning.plan.Statement.{statement}
 use Rattle.chain.proofs.planning.plan.Tie as tie
 
-check-leaves-requires : tie.Need-check-leaves-requires
-check-leaves-requires c κs = search needs
-
-enum-known-checked : tie.Need-enum-known-checked
-enum-known-checked c = search needs
-
-enum-told : tie.Need-enum-told
-enum-told c = search needs
-
 plan-leaves-requires : tie.Need-plan-leaves-requires
 plan-leaves-requires c κs = let cl = c .before .before .before .check-leaves in is-done _ _ (cl .ensures) (c .before .enum-told .given .1)
 
 returns : tie.Need-returns
-returns c = let cl = c .before .before .before .check-leaves in leaves-refused _ _ _ (c .before .checked .given .0 .0) (refused-number _ _ _ (cl .ensures) (c .before .checked .given .1))
-
-same-length : tie.Need-same-length
-same-length c = search needs
-
-returns-2 : tie.Need-returns-2
-returns-2 c = search needs
+returns c =
+    let cl = c .before .before .before .check-leaves in
+    leaves-refused _ _ _ (c .before .checked .given .0 .0) (refused-number _ _ _ (cl .ensures) (c .before .checked .given .1))
 
 pub plan-spec : {M : Type 1} → statement M
 plan-spec =
     tie.close
     (tie.spec
-    check-leaves-requires
-    enum-known-checked
-    enum-told
-    plan-leaves-requires
-    returns
-    same-length
-    returns-2)
+    (λ c κs. search needs) (λ c. search needs) (λ c. search needs) plan-leaves-requires returns (λ c. search needs)
+    (λ c. search needs))

@@ -7,12 +7,6 @@ use borrow.Author.Needs.{needs}
 use Rattle.compare.proofs.inputs.input_at.Statement.{statement}
 use Rattle.compare.proofs.inputs.input_at.Tie as tie
 
-way-position-requires : tie.Need-way-position-requires
-way-position-requires c κs = search needs
-
-cell-at-requires : tie.Need-cell-at-requires
-cell-at-requires c κs = search needs
-
 inner-input-requires : tie.Need-inner-input-requires
 inner-input-requires c κs =
     let s = c .before .before .before .before in (
@@ -28,4 +22,6 @@ returns c =
 
 pub input-at-spec : {M : Type 1} → statement M
 input-at-spec =
-    tie.close (tie.spec way-position-requires cell-at-requires inner-input-requires returns)
+    tie.close
+    (tie.spec
+    (λ c κs. search needs) (λ c κs. search needs) inner-input-requires returns)

@@ -65,23 +65,21 @@ returns-2 c =
     let l = c .before .before .before .before .before .before .before .loop in
     sym
     (l .inv .1 ∙ turn-differs (a .n) (a .leaves .now) (a .table .now) (a .i) (a .j) (l .level) (c .before .before .before .before .before .before .loop-test .taken) _
-    (c .before .before .before .before .before .shares .ensures) (not-false _ (c .before .before .before .before .if1 .left)) _ _ (c .before .before .before .cell-at .ensures)
+    (c .before .before .before .before .before .shares .ensures) (not-false _ (c .before .before .before .before .if1 .left)) _ _
+    (c .before .before .before .cell-at .ensures)
     (c .before .before .cell-at2 .ensures)
     (sym (c .before .same-cells .ensures) ∙ not-true _ (c .if2 .taken)))
-
-add-level : tie.Need-add-level Inv-loop μ-loop
-add-level c = search needs
-
-loop-less : tie.Need-loop-less Inv-loop μ-loop
-loop-less c = search needs
 
 loop-again : tie.Need-loop-again Inv-loop μ-loop
 loop-again c =
     let a = c .before .before .before .before .before .before .before .before .before .before .args in
     let l = c .before .before .before .before .before .before .before .loop in (
       omega arith,
-      l .inv .1 ∙ turn-same (a .n) (a .leaves .now) (a .table .now) (a .i) (a .j) (l .level) (c .before .before .before .before .before .before .loop-test .taken) _
-          (c .before .before .before .before .before .shares .ensures) (not-false _ (c .before .before .before .before .if1 .left)) _ _ (c .before .before .before .cell-at .ensures)
+      l .inv .1
+          ∙ turn-same (a .n) (a .leaves .now) (a .table .now) (a .i) (a .j) (l .level)
+          (c .before .before .before .before .before .before .loop-test .taken) _
+          (c .before .before .before .before .before .shares .ensures)
+          (not-false _ (c .before .before .before .before .if1 .left)) _ _ (c .before .before .before .cell-at .ensures)
           (c .before .before .cell-at2 .ensures)
           (sym (c .before .same-cells .ensures) ∙ not-false _ (c .if2 .left)),
     )
@@ -97,16 +95,5 @@ pub first-level-spec : {M : Type 1} → statement M
 first-level-spec =
     tie.close
     (tie.spec
-    Inv-loop
-    μ-loop
-    loop-holds
-    shares-requires
-    returns
-    cell-at-requires
-    cell-at-requires-2
-    same-cells-requires
-    returns-2
-    add-level
-    loop-less
-    loop-again
-    returns-3)
+    Inv-loop μ-loop loop-holds shares-requires returns cell-at-requires cell-at-requires-2 same-cells-requires returns-2
+    (λ c. search needs) (λ c. search needs) loop-again returns-3)

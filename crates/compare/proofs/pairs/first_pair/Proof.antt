@@ -32,23 +32,18 @@ loop-holds c =
 first-second-requires : tie.Need-first-second-requires Inv-loop μ-loop
 first-second-requires c κs = (c .before .before .before .before .pre, c .before .loop .inv .0, c .loop-test .taken)
 
-enum-known-found : tie.Need-enum-known-found Inv-loop μ-loop
-enum-known-found c = search needs
-
 returns : tie.Need-returns Inv-loop μ-loop
 returns c =
+    let loop = c .before .before .before .before .before .loop in
     let s = c .before .before .before .before .before .before .before .before in
     let a = s .args in
     let n = a .n in
     let leaves = a .leaves .now in
     let table = a .table .now in
     let t = length leaves in
-    sym (c .before .before .before .before .before .loop .inv .2 ∙ first-found (tableDisagreement n leaves table) n t
-    (c .before .before .before .before .before .loop .i) _ (c .before .before .before .before .loop-test .taken)
+    sym (loop .inv .2 ∙ first-found (tableDisagreement n leaves table) n t
+    (loop .i) _ (c .before .before .before .before .loop-test .taken)
     (sym (c .before .before .before .first-second .ensures) ∙ c .before .found .given .1))
-
-enum-told : tie.Need-enum-told Inv-loop μ-loop
-enum-told c = search needs
 
 add-i : tie.Need-add-i Inv-loop μ-loop
 add-i c =
@@ -63,6 +58,8 @@ loop-less c = omega (arith, c .before .before .before .loop-test .taken)
 
 loop-again : tie.Need-loop-again Inv-loop μ-loop
 loop-again c =
+    let loop = c .before .before .before .before .loop in
+    let loop-test = c .before .before .before .loop-test in
     let s = c .before .before .before .before .before .before .before in
     let a = s .args in
     let n = a .n in
@@ -70,10 +67,10 @@ loop-again c =
     let table = a .table .now in
     let t = length leaves in (
       omega arith,
-      omega (arith, c .before .before .before .loop-test .taken),
-      c .before .before .before .before .loop .inv .2 ∙
-          first-found (tableDisagreement n leaves table) n t (c .before .before .before .before .loop .i) _
-          (c .before .before .before .loop-test .taken) (sym (c .before .before .first-second .ensures) ∙ c .enum-told .given .1),
+      omega (arith, loop-test .taken),
+      loop .inv .2 ∙
+          first-found (tableDisagreement n leaves table) n t (loop .i) _
+          (loop-test .taken) (sym (c .before .before .first-second .ensures) ∙ c .enum-told .given .1),
     )
 
 returns-2 : tie.Need-returns-2 Inv-loop μ-loop
@@ -91,14 +88,5 @@ pub first-pair-spec : {M : Type 1} → statement M
 first-pair-spec =
     tie.close
     (tie.spec
-    Inv-loop
-    μ-loop
-    loop-holds
-    first-second-requires
-    enum-known-found
-    returns
-    enum-told
-    add-i
-    loop-less
-    loop-again
-    returns-2)
+    Inv-loop μ-loop loop-holds first-second-requires (λ c. search needs) returns (λ c. search needs) add-i loop-less
+    loop-again returns-2)

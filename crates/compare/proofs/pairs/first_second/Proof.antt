@@ -37,23 +37,18 @@ first-level-requires c κs =
     let s = c .before .before .before .before in
     (s .pre .0, s .pre .1, c .before .loop .inv .0, c .loop-test .taken)
 
-enum-known-found : tie.Need-enum-known-found Inv-loop μ-loop
-enum-known-found c = search needs
-
 returns : tie.Need-returns Inv-loop μ-loop
 returns c =
+    let loop = c .before .before .before .before .before .loop in
     let s = c .before .before .before .before .before .before .before .before in
     let a = s .args in
     let n = a .n in
     let leaves = a .leaves .now in
     let table = a .table .now in
     let t = length leaves in
-    sym (c .before .before .before .before .before .loop .inv .2 ∙ second-found (tableDisagreement n leaves table) n (a .i) t
-    (c .before .before .before .before .before .loop .j) _ (c .before .before .before .before .loop-test .taken)
+    sym (loop .inv .2 ∙ second-found (tableDisagreement n leaves table) n (a .i) t
+    (loop .j) _ (c .before .before .before .before .loop-test .taken)
     (sym (c .before .before .before .first-level .ensures) ∙ c .before .found .given .1))
-
-enum-told : tie.Need-enum-told Inv-loop μ-loop
-enum-told c = search needs
 
 add-j-2 : tie.Need-add-j-2 Inv-loop μ-loop
 add-j-2 c = omega (arith, c .before .before .before .before .before .before .before .pre)
@@ -63,6 +58,7 @@ loop-less c = omega (arith, c .before .before .before .loop-test .taken)
 
 loop-again : tie.Need-loop-again Inv-loop μ-loop
 loop-again c =
+    let loop = c .before .before .before .before .loop in
     let s = c .before .before .before .before .before .before .before in
     let a = s .args in
     let n = a .n in
@@ -71,8 +67,8 @@ loop-again c =
     let t = length leaves in (
       omega arith,
       omega arith,
-      c .before .before .before .before .loop .inv .2 ∙ second-found
-          (tableDisagreement n leaves table) n (a .i) t (c .before .before .before .before .loop .j) _
+      loop .inv .2 ∙ second-found
+          (tableDisagreement n leaves table) n (a .i) t (loop .j) _
           (c .before .before .before .loop-test .taken) (sym (c .before .before .first-level .ensures) ∙ c .enum-told .given .1),
     )
 
@@ -91,15 +87,5 @@ pub first-second-spec : {M : Type 1} → statement M
 first-second-spec =
     tie.close
     (tie.spec
-    Inv-loop
-    μ-loop
-    add-j
-    loop-holds
-    first-level-requires
-    enum-known-found
-    returns
-    enum-told
-    add-j-2
-    loop-less
-    loop-again
-    returns-2)
+    Inv-loop μ-loop add-j loop-holds first-level-requires (λ c. search needs) returns (λ c. search needs) add-j-2
+    loop-less loop-again returns-2)

@@ -5,9 +5,9 @@ use Prim.Native.Nat.{_+_, _-_, _*_, _≤_}
 use lib.ListN.{length}
 use Rattle.label.specs.Rule.{stampRule}
 use Rattle.tree.specs.Openings.{computed}
-use Rattle.verify.specs.OpeningCheck.{givenBy}
-use Rattle.verify.proofs.Parts.{part-size, part-length}
-use Rattle.verify.proofs.OneOpening.{climbed}
+use Rattle.opening_check.specs.OpeningCheck.{givenBy}
+use Rattle.opening_check.proofs.Parts.{part-size, part-length}
+use Rattle.opening_check.proofs.OneOpening.{climbed}
 use Rattle.compare.specs.Table.{RowOf}
 use Rattle.compare.proofs.Filling.{row-more}
 use borrow.Author.Needs.{needs}
@@ -38,52 +38,17 @@ loop-holds c = (
       { filled = λ h small. absurd (omega arith); kept = refl },
 )
 
-add-at : tie.Need-add-at Inv-loop μ-loop
-add-at c = search needs
-
-mul-at : tie.Need-mul-at Inv-loop μ-loop
-mul-at c = search needs
-
-add-end : tie.Need-add-end Inv-loop μ-loop
-add-end c = search needs
-
-mul-fill-node : tie.Need-mul-fill-node Inv-loop μ-loop
-mul-fill-node c = search needs
-
-add-fill-node : tie.Need-add-fill-node Inv-loop μ-loop
-add-fill-node c = search needs
-
-sub-fill-node : tie.Need-sub-fill-node Inv-loop μ-loop
-sub-fill-node c = search needs
-
-shr-fill-node : tie.Need-shr-fill-node Inv-loop μ-loop
-shr-fill-node c = search needs
-
-sub-fill-node-2 : tie.Need-sub-fill-node-2 Inv-loop μ-loop
-sub-fill-node-2 c = search needs
-
-part-fill-node-start : tie.Need-part-fill-node-start Inv-loop μ-loop
-part-fill-node-start c = search needs
-
-part-fill-node-end : tie.Need-part-fill-node-end Inv-loop μ-loop
-part-fill-node-end c = search needs
-
 fill-node-requires : tie.Need-fill-node-requires Inv-loop μ-loop
 fill-node-requires c κs =
-    let a = c .before .before .before .before .before .before .before .args in
+    let entry = c .before .before .before .before .before .before .before in
+    let a = entry .args in
     let h = c .before .before .before .loop .height in
-    let p = c .before .before .before .before .before .before .before .pre in (
+    let p = entry .pre in (
       omega (arith, p),
       omega (arith, p),
       ap length (part-size (a .bytes .now) (32 * (h + 1)) 32) ∙ part-length (a .bytes .now)
           (32 * (h + 1)) 32 (omega (arith, p)),
     )
-
-add-height : tie.Need-add-height Inv-loop μ-loop
-add-height c = search needs
-
-loop-less : tie.Need-loop-less Inv-loop μ-loop
-loop-less c = search needs
 
 loop-again : tie.Need-loop-again Inv-loop μ-loop
 loop-again c =
@@ -101,9 +66,6 @@ loop-again c =
           (c .before .before .fill-node .ensures .0),
     )
 
-same-length : tie.Need-same-length Inv-loop μ-loop
-same-length c = search needs
-
 returns : tie.Need-returns Inv-loop μ-loop
 returns c =
     let n : c .before .loop .height ≡ c .before .before .before .before .before .args .n = omega arith in
@@ -113,23 +75,7 @@ pub fill-row-spec : {M : Type 1} → statement M
 fill-row-spec =
     tie.close
     (tie.spec
-    Inv-loop
-    μ-loop
-    label-at-requires
-    loop-holds
-    add-at
-    mul-at
-    add-end
-    mul-fill-node
-    add-fill-node
-    sub-fill-node
-    shr-fill-node
-    sub-fill-node-2
-    part-fill-node-start
-    part-fill-node-end
-    fill-node-requires
-    add-height
-    loop-less
-    loop-again
-    same-length
-    returns)
+    Inv-loop μ-loop label-at-requires loop-holds (λ c. search needs) (λ c. search needs) (λ c. search needs)
+    (λ c. search needs) (λ c. search needs) (λ c. search needs) (λ c. search needs) (λ c. search needs)
+    (λ c. search needs) (λ c. search needs) fill-node-requires (λ c. search needs) (λ c. search needs) loop-again
+    (λ c. search needs) returns)

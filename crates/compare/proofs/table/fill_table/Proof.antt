@@ -3,7 +3,7 @@ use mathlib.Core.Path.{_≡_, refl, ap, _∙_}
 use Prim.Native.Nat.{_+_, _-_, _*_, _≤_}
 use lib.ListN.{length}
 use Rattle.opening.specs.Rows.{openingSize}
-use Rattle.verify.proofs.Parts.{part-size, part-length}
+use Rattle.opening_check.proofs.Parts.{part-size, part-length}
 use Rattle.compare.specs.Table.{TableOf}
 use Rattle.compare.proofs.Filling.{opening-fits, lent-back, table-more}
 use borrow.Author.Needs.{needs}
@@ -55,23 +55,11 @@ mul-from c = omega (arith, within c)
 add-to : tie.Need-add-to Inv-loop μ-loop
 add-to c = omega (arith, within c)
 
-sub-fill-row : tie.Need-sub-fill-row Inv-loop μ-loop
-sub-fill-row c = search needs
-
 part-fill-row-start : tie.Need-part-fill-row-start Inv-loop μ-loop
 part-fill-row-start c = omega (arith, within c)
 
 part-fill-row-end : tie.Need-part-fill-row-end Inv-loop μ-loop
 part-fill-row-end c = omega (arith, within c)
-
-mul-fill-row : tie.Need-mul-fill-row Inv-loop μ-loop
-mul-fill-row c = search needs
-
-shared-slice-read-fill-row : tie.Need-shared-slice-read-fill-row Inv-loop μ-loop
-shared-slice-read-fill-row c = search needs
-
-sub-fill-row-2 : tie.Need-sub-fill-row-2 Inv-loop μ-loop
-sub-fill-row-2 c = search needs
 
 part-fill-row-start-2 : tie.Need-part-fill-row-start-2 Inv-loop μ-loop
 part-fill-row-start-2 c = omega (arith, within (c .before .before))
@@ -81,21 +69,17 @@ part-fill-row-end-2 c = omega (arith, within (c .before .before))
 
 fill-row-requires : tie.Need-fill-row-requires Inv-loop μ-loop
 fill-row-requires c κs =
-    let a = c .before .before .before .before .before .before .before .before .args in
-    let i = c .before .before .before .before .loop .i in
+    let entry = c .before .before .before .before .before .before .before .before in
+    let loop = c .before .before .before .before .loop in
+    let a = entry .args in
+    let i = loop .i in
     let size = openingSize (a .n) in
     let room = within (c .before .before .before) in (
-      c .before .before .before .before .before .before .before .before .pre .0 .most,
+      entry .pre .0 .most,
       ap length (part-size (a .openings .now) (i * size) size) ∙ part-length (a .openings .now) (i * size) size (room .1),
-      ap length (part-size (c .before .before .before .before .loop .table) (2560 * i) 2560)
-          ∙ part-length (c .before .before .before .before .loop .table) (2560 * i) 2560 (omega (arith, room .0)),
+      ap length (part-size (loop .table) (2560 * i) 2560)
+          ∙ part-length (loop .table) (2560 * i) 2560 (omega (arith, room .0)),
     )
-
-add-i : tie.Need-add-i Inv-loop μ-loop
-add-i c = search needs
-
-loop-less : tie.Need-loop-less Inv-loop μ-loop
-loop-less c = search needs
 
 loop-again : tie.Need-loop-again Inv-loop μ-loop
 loop-again c =
@@ -109,9 +93,6 @@ loop-again c =
           (row .ensures) (lent-back (l .table) (row .last .0) (2560 * l .i) 2560 (search needs)),
     )
 
-same-length : tie.Need-same-length Inv-loop μ-loop
-same-length c = search needs
-
 returns : tie.Need-returns Inv-loop μ-loop
 returns c =
     let n : c .before .loop .i ≡ length (c .before .before .before .before .before .args .leaves .now) = omega arith in
@@ -121,26 +102,6 @@ pub fill-table-spec : {M : Type 1} → statement M
 fill-table-spec =
     tie.close
     (tie.spec
-    Inv-loop
-    μ-loop
-    add-size
-    mul-size
-    loop-holds
-    mul-at
-    add-end
-    mul-from
-    add-to
-    sub-fill-row
-    part-fill-row-start
-    part-fill-row-end
-    mul-fill-row
-    shared-slice-read-fill-row
-    sub-fill-row-2
-    part-fill-row-start-2
-    part-fill-row-end-2
-    fill-row-requires
-    add-i
-    loop-less
-    loop-again
-    same-length
-    returns)
+    Inv-loop μ-loop add-size mul-size loop-holds mul-at add-end mul-from add-to (λ c. search needs) part-fill-row-start
+    part-fill-row-end (λ c. search needs) (λ c. search needs) (λ c. search needs) part-fill-row-start-2
+    part-fill-row-end-2 fill-row-requires (λ c. search needs) (λ c. search needs) loop-again (λ c. search needs) returns)

@@ -8,12 +8,6 @@ use borrow.Author.Needs.{needs}
 use Rattle.compare.proofs.whole.check.Statement.{statement}
 use Rattle.compare.proofs.whole.check.Tie as tie
 
-check-leaves-requires : tie.Need-check-leaves-requires
-check-leaves-requires c κs = search needs
-
-enum-known-checked : tie.Need-enum-known-checked
-enum-known-checked c = search needs
-
 returns : tie.Need-returns
 returns c =
     let s = c .before .before .before .before .before in
@@ -22,9 +16,6 @@ returns c =
     leaves-refused n leaves (s .args .size) (c .before .checked .given .0 .0)
     (refused-number _ _ _ (c .before .before .before .check-leaves .ensures) (c .before .checked .given .1))
 
-enum-told : tie.Need-enum-told
-enum-told c = search needs
-
 -- the first checks refused nothing
 passed : (c : tie.After-enum-told)
     → leavesRow (c .before .before .before .before .args .depth) (c .before .before .before .before .args .leaves .now) ≡ 0
@@ -32,26 +23,29 @@ passed c = is-done _ _ (c .before .before .check-leaves .ensures) (c .enum-told 
 
 add-all : tie.Need-add-all
 add-all c =
+    let entry = c .before .before .before .before in
     omega (
       arith,
-      depth-known (c .before .before .before .before .args .depth)
-          (c .before .before .before .before .args .leaves .now) 0 (passed c),
+      depth-known (entry .args .depth)
+          (entry .args .leaves .now) 0 (passed c),
     )
 
 mul-all : tie.Need-mul-all
 mul-all c =
+    let entry = c .before .before .before .before in
     omega (
       arith,
-      depth-known (c .before .before .before .before .args .depth)
-          (c .before .before .before .before .args .leaves .now) 0 (passed c),
+      depth-known (entry .args .depth)
+          (entry .args .leaves .now) 0 (passed c),
     )
 
 mul-all-2 : tie.Need-mul-all-2
 mul-all-2 c =
+    let entry = c .before .before .before .before in
     omega (
       arith,
-      all-fit (c .before .before .before .before .args .depth)
-          (c .before .before .before .before .args .leaves .now) 0 (passed c),
+      all-fit (entry .args .depth)
+          (entry .args .leaves .now) 0 (passed c),
     )
 
 returns-2 : tie.Need-returns-2
@@ -79,13 +73,5 @@ pub check-spec : {M : Type 1} → statement M
 check-spec =
     tie.close
     (tie.spec
-    check-leaves-requires
-    enum-known-checked
-    returns
-    enum-told
-    add-all
-    mul-all
-    mul-all-2
-    returns-2
-    returns-3
+    (λ c κs. search needs) (λ c. search needs) returns (λ c. search needs) add-all mul-all mul-all-2 returns-2 returns-3
     returns-4)

@@ -6,15 +6,6 @@ use borrow.Author.Needs.{needs}
 use Rattle.compare.proofs.whole.compare.Statement.{statement}
 use Rattle.compare.proofs.whole.compare.Tie as tie
 
-check-requires : tie.Need-check-requires
-check-requires c κs = search needs
-
-enum-known-checked : tie.Need-enum-known-checked
-enum-known-checked c = search needs
-
-enum-told : tie.Need-enum-told
-enum-told c = search needs
-
 compare-all-requires : tie.Need-compare-all-requires
 compare-all-requires c κs = is-done _ _ (c .before .before .check .ensures) (c .enum-told .given .1)
 
@@ -42,4 +33,5 @@ returns-2 c =
 pub compare-spec : {M : Type 1} → statement M
 compare-spec =
     tie.close
-    (tie.spec check-requires enum-known-checked enum-told compare-all-requires returns returns-2)
+    (tie.spec
+    (λ c κs. search needs) (λ c. search needs) (λ c. search needs) compare-all-requires returns returns-2)

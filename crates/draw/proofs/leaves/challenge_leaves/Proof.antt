@@ -27,20 +27,11 @@ loop-holds c =
 add-challenge : tie.Need-add-challenge Inv-loop μ-loop
 add-challenge c = omega (arith, c .before .before .pre)
 
-challenge-requires : tie.Need-challenge-requires Inv-loop μ-loop
-challenge-requires c κs = search needs
-
-mul-leaves : tie.Need-mul-leaves Inv-loop μ-loop
-mul-leaves c = search needs
-
 array-write-leaves : tie.Need-array-write-leaves Inv-loop μ-loop
 array-write-leaves c = omega (arith, c .before .before .before .pre, c .before .before .loop .inv .1)
 
 add-i : tie.Need-add-i Inv-loop μ-loop
 add-i c = omega (arith, c .before .before .before .pre)
-
-loop-less : tie.Need-loop-less Inv-loop μ-loop
-loop-less c = search needs
 
 loop-again : tie.Need-loop-again Inv-loop μ-loop
 loop-again c =
@@ -67,14 +58,5 @@ pub challenge-leaves-spec : {M : Type 1} → statement M
 challenge-leaves-spec =
     tie.close
     (tie.spec
-    Inv-loop
-    μ-loop
-    loop-holds
-    add-challenge
-    challenge-requires
-    mul-leaves
-    array-write-leaves
-    add-i
-    loop-less
-    loop-again
-    returns)
+    Inv-loop μ-loop loop-holds add-challenge (λ c κs. search needs) (λ c. search needs) array-write-leaves add-i
+    (λ c. search needs) loop-again returns)

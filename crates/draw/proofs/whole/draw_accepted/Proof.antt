@@ -4,18 +4,15 @@ use mathlib.Core.Path.{_≡_, refl, sym}
 use Prim.Native.Nat.{ℕ, _<_}
 use lib.ListN.{length, getD, take}
 use lib.Seq.{length-take-le}
-use Rattle.proof.specs.Head.{lengthFrom}
-use Rattle.accepted.specs.IsProof.{IsProof}
-use Rattle.accepted.proofs.Soundness.{accepted-proof}
+use Rattle.proof_file.specs.Head.{lengthFrom}
+use Rattle.check_theory.specs.IsProof.{IsProof}
+use Rattle.check_theory.proofs.Soundness.{accepted-proof}
 use Rattle.draw.specs.Drawing.{leavesOf}
 use Rattle.draw.proofs.AcceptedFile.{size-known, leaves-known, openings-known, leaves-done, all-drawn}
 use native.Mathlib.Omega.{arith}
 use borrow.Author.Needs.{needs}
 use Rattle.draw.proofs.whole.draw_accepted.Statement.{statement}
 use Rattle.draw.proofs.whole.draw_accepted.Tie as tie
-
-numbers-end-requires : tie.Need-numbers-end-requires
-numbers-end-requires c κs = search needs
 
 -- the file's bytes, and what is known of it
 bytes : (c : tie.After-shared-slice-known) (j : ℕ) → getD (c .before .args .file .now) j 0 < 256
@@ -67,12 +64,6 @@ sub-compare c = omega (arith, size (c .before .before .before))
 part-compare-start : tie.Need-part-compare-start
 part-compare-start c = omega (arith, size (c .before .before .before))
 
-part-compare-end : tie.Need-part-compare-end
-part-compare-end c = search needs
-
-compare-requires : tie.Need-compare-requires
-compare-requires c κs = search needs
-
 array-share-prefix-leaves-2 : tie.Need-array-share-prefix-leaves-2
 array-share-prefix-leaves-2 c =
     omega (arith, known (c .before .before .before .before .before .before .before .before .before) .count)
@@ -92,9 +83,6 @@ draw-pair-requires c κs =
     (bytes (c .before .before .before .before .before .before .before .before .before .before .before)) (s .pre) _
     (leaves (c .before .before .before .before .before .before .before))
 
-same-length : tie.Need-same-length
-same-length c = search needs
-
 returns : tie.Need-returns
 returns c =
     let s = c .before .before .before .before .before .before .before .before .before .before .before .before .before .before .before in
@@ -111,19 +99,6 @@ pub draw-accepted-spec : {M : Type 1} → statement M
 draw-accepted-spec =
     tie.close
     (tie.spec
-    numbers-end-requires
-    add-label-at
-    label-at-requires
-    challenge-leaves-requires
-    add-start
-    array-share-prefix-leaves
-    slice-aggregate-compare
-    sub-compare
-    part-compare-start
-    part-compare-end
-    compare-requires
-    array-share-prefix-leaves-2
-    slice-aggregate-draw-pair
-    draw-pair-requires
-    same-length
-    returns)
+    (λ c κs. search needs) add-label-at label-at-requires challenge-leaves-requires add-start array-share-prefix-leaves
+    slice-aggregate-compare sub-compare part-compare-start (λ c. search needs) (λ c κs. search needs)
+    array-share-prefix-leaves-2 slice-aggregate-draw-pair draw-pair-requires (λ c. search needs) returns)

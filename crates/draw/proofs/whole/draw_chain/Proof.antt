@@ -5,27 +5,12 @@ use borrow.Author.Needs.{needs}
 use Rattle.draw.proofs.whole.draw_chain.Statement.{statement}
 use Rattle.draw.proofs.whole.draw_chain.Tie as tie
 
-plan-requires : tie.Need-plan-requires
-plan-requires c κs = search needs
-
-enum-known-outcome : tie.Need-enum-known-outcome
-enum-known-outcome c = search needs
-
-enum-told : tie.Need-enum-told
-enum-told c = search needs
-
-same-length : tie.Need-same-length
-same-length c = search needs
-
 returns : tie.Need-returns
 returns c =
     let s = c .before .before .before .before .before .before .before .before .before in
     let p = c .before .before .before .before .before .plan in
     chain-refused (s .args .depth) (s .args .leaves .now) (s .args .list .now) _ (p .result .count) (s .pre) (p .ensures .1 .0)
     (p .ensures .1 .1) _ _ (p .ensures .0) (c .before .outcome .given .1)
-
-same-length-2 : tie.Need-same-length-2
-same-length-2 c = search needs
 
 returns-2 : tie.Need-returns-2
 returns-2 c =
@@ -38,10 +23,5 @@ pub draw-chain-spec : {M : Type 1} → statement M
 draw-chain-spec =
     tie.close
     (tie.spec
-    plan-requires
-    enum-known-outcome
-    enum-told
-    same-length
-    returns
-    same-length-2
+    (λ c κs. search needs) (λ c. search needs) (λ c. search needs) (λ c. search needs) returns (λ c. search needs)
     returns-2)

@@ -5,22 +5,10 @@ use borrow.Author.Needs.{needs}
 use Rattle.draw.proofs.whole.draw_pair.Statement.{statement}
 use Rattle.draw.proofs.whole.draw_pair.Tie as tie
 
-enum-known-pair : tie.Need-enum-known-pair
-enum-known-pair c = search needs
-
-enum-told : tie.Need-enum-told
-enum-told c = search needs
-
-draw-chain-requires : tie.Need-draw-chain-requires
-draw-chain-requires c κs = search needs
-
 returns : tie.Need-returns
 returns c =
     let s = c .before .before .before .before .before in
     pair-drawn (s .args .depth) (s .args .leaves .now) (s .args .list .now) _ _ _ _ (c .before .pair .given .1) (refl, refl)
-
-same-length : tie.Need-same-length
-same-length c = search needs
 
 returns-2 : tie.Need-returns-2
 returns-2 c =
@@ -31,4 +19,5 @@ returns-2 c =
 pub draw-pair-spec : {M : Type 1} → statement M
 draw-pair-spec =
     tie.close
-    (tie.spec enum-known-pair enum-told draw-chain-requires returns same-length returns-2)
+    (tie.spec
+    (λ c. search needs) (λ c. search needs) (λ c κs. search needs) returns (λ c. search needs) returns-2)

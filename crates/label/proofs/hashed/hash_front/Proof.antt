@@ -10,47 +10,18 @@ use Rattle.label.proofs.hashed.hash_front.Tie as tie
 room : (c : tie.Start) → length (c .args .input .now) ≡ 1344
 room c = length-front _ (c .args .len) (c .pre .0) (c .pre .1)
 
-add-end : tie.Need-add-end
-add-end c = search needs
-
-add-end-2 : tie.Need-add-end-2
-add-end-2 c = search needs
-
-mul-end : tie.Need-mul-end
-mul-end c = search needs
-
-mul-big-endian : tie.Need-mul-big-endian
-mul-big-endian c = search needs
-
-big-endian-requires : tie.Need-big-endian-requires
-big-endian-requires c κs = search needs
-
-slice-aggregate-put : tie.Need-slice-aggregate-put
-slice-aggregate-put c = search needs
-
 put-requires : tie.Need-put-requires
 put-requires c κs = omega (arith, room (c .before .before .before .before))
-
-sub-put : tie.Need-sub-put
-sub-put c = search needs
-
-slice-aggregate-put-2 : tie.Need-slice-aggregate-put-2
-slice-aggregate-put-2 c = search needs
 
 put-requires-2 : tie.Need-put-requires-2
 put-requires-2 c κs = omega (arith, room (c .before .before .before .before .before .before .before .before .before))
 
 slice-reshare-prefix-digest-padded : tie.Need-slice-reshare-prefix-digest-padded
-slice-reshare-prefix-digest-padded c = omega (arith, room (c .before .before .before .before .before .before .before .before .before .before .before .before))
+slice-reshare-prefix-digest-padded c =
+    omega (arith, room (c .before .before .before .before .before .before .before .before .before .before .before .before))
 
 slice-aggregate-digest-padded : tie.Need-slice-aggregate-digest-padded
 slice-aggregate-digest-padded c = simp length-take (omega (arith, slice-reshare-prefix-digest-padded (c .before)))
-
-digest-padded-requires : tie.Need-digest-padded-requires
-digest-padded-requires c κs = search needs
-
-same-length : tie.Need-same-length
-same-length c = search needs
 
 returns : tie.Need-returns
 returns c =
@@ -63,18 +34,6 @@ pub hash-front-spec : {M : Type 1} → statement M
 hash-front-spec =
     tie.close
     (tie.spec
-    add-end
-    add-end-2
-    mul-end
-    mul-big-endian
-    big-endian-requires
-    slice-aggregate-put
-    put-requires
-    sub-put
-    slice-aggregate-put-2
-    put-requires-2
-    slice-reshare-prefix-digest-padded
-    slice-aggregate-digest-padded
-    digest-padded-requires
-    same-length
-    returns)
+    (λ c. search needs) (λ c. search needs) (λ c. search needs) (λ c. search needs) (λ c κs. search needs)
+    (λ c. search needs) put-requires (λ c. search needs) (λ c. search needs) put-requires-2
+    slice-reshare-prefix-digest-padded slice-aggregate-digest-padded (λ c κs. search needs) (λ c. search needs) returns)

@@ -7,9 +7,6 @@ use Rattle.label.proofs.Walking.{full}
 use Rattle.label.proofs.next.place.Statement.{statement}
 use Rattle.label.proofs.next.place.Tie as tie
 
-shl-mask : tie.Need-shl-mask
-shl-mask c = search needs
-
 sub-mask : tie.Need-sub-mask
 sub-mask c = omega (arith, full (c .args .below) (c .pre), pow-pos (c .args .below))
 
@@ -20,4 +17,4 @@ returns : tie.Need-returns
 returns c = masked (c .args .below) (c .args .position) (c .pre)
 
 pub place-spec : {M : Type 1} → statement M
-place-spec = tie.close (tie.spec shl-mask sub-mask cast-result returns)
+place-spec = tie.close (tie.spec (λ c. search needs) sub-mask cast-result returns)

@@ -11,9 +11,6 @@ Inv-loop height level position made h₀ l₀ p₀ left₀ half₀ h l p left ha
 abbrev μ-loop : tie.MeasureT-loop
 μ-loop height level position made h₀ l₀ p₀ left₀ half₀ h l p left half = h
 
-shl-half : tie.Need-shl-half Inv-loop μ-loop
-shl-half c = search needs
-
 sub-half : tie.Need-sub-half Inv-loop μ-loop
 sub-half c = omega (arith, full (c .args .height) (omega arith), pow-pos (c .args .height))
 
@@ -26,9 +23,6 @@ mul-loop c = omega (arith, walking-small _ _ _ _ _ _ _ _ _ (c .loop .inv) (c .be
 child-requires : tie.Need-child-requires Inv-loop μ-loop
 child-requires c κs = walking-small _ _ _ _ _ _ _ _ _ (c .before .loop .inv) (c .before .before .pre .0) .1
 
-remaining-requires : tie.Need-remaining-requires Inv-loop μ-loop
-remaining-requires c κs = search needs
-
 add-l : tie.Need-add-l Inv-loop μ-loop
 add-l c = omega (arith, walking-small _ _ _ _ _ _ _ _ _ (c .before .before .before .loop .inv) (c .before .before .before .before .pre .0))
 
@@ -39,7 +33,9 @@ loop-less : tie.Need-loop-less Inv-loop μ-loop
 loop-less c = omega (arith, walking-turn _ _ _ _ _ _ _ _ _ (c .before .before .before .loop .inv) (c .before .before .loop-test .taken))
 
 loop-again : tie.Need-loop-again Inv-loop μ-loop
-loop-again c = rw (c .before .child .ensures, c .remaining .ensures) (walking-turn _ _ _ _ _ _ _ _ _ (c .before .before .before .loop .inv) (c .before .before .loop-test .taken) .1)
+loop-again c =
+    rw (c .before .child .ensures, c .remaining .ensures)
+    (walking-turn _ _ _ _ _ _ _ _ _ (c .before .before .before .loop .inv) (c .before .before .loop-test .taken) .1)
 
 returns : tie.Need-returns Inv-loop μ-loop
 returns c = walking-end _ _ _ _ _ _ _ _ _ (c .before .loop .inv) (c .loop-test .left) (c .before .before .pre .2)
@@ -48,16 +44,5 @@ pub next-node-spec : {M : Type 1} → statement M
 next-node-spec =
     tie.close
     (tie.spec
-    Inv-loop
-    μ-loop
-    shl-half
-    sub-half
-    loop-holds
-    mul-loop
-    child-requires
-    remaining-requires
-    add-l
-    sub-h
-    loop-less
-    loop-again
-    returns)
+    Inv-loop μ-loop (λ c. search needs) sub-half loop-holds mul-loop child-requires (λ c κs. search needs) add-l sub-h
+    loop-less loop-again returns)

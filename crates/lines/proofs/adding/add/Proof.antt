@@ -10,24 +10,31 @@ use Rattle.lines.proofs.adding.add.Tie as tie
 
 returns : tie.Need-returns
 unfolding lineOf
-returns c = let a = c .before .before .before .args in let l : length (a .line .text) ≡ 8192 = search needs in laid-none (a .line .text) (a .part .now) (a .line .length) l (c .if1 .taken)
+returns c =
+    let a = c .before .before .before .args in
+    let l : length (a .line .text) ≡ 8192 = search needs in
+    laid-none (a .line .text) (a .part .now) (a .line .length) l (c .if1 .taken)
 
 returns-2 : tie.Need-returns-2
 unfolding lineOf
-returns-2 c = let a = c .before .before .before .before .args in let l : length (a .line .text) ≡ 8192 = search needs in laid-full (a .line .text) (a .part .now) (a .line .length) l (c .before .if1 .left) (c .if2 .taken)
-
-slice-aggregate-put : tie.Need-slice-aggregate-put
-slice-aggregate-put c = search needs
+returns-2 c =
+    let a = c .before .before .before .before .args in
+    let l : length (a .line .text) ≡ 8192 = search needs in
+    laid-full (a .line .text) (a .part .now) (a .line .length) l (c .before .if1 .left) (c .if2 .taken)
 
 put-requires : tie.Need-put-requires
 put-requires c κs = let a = c .before .before .before .before .before .args in let l : length (a .line .text) ≡ 8192 = search needs in omega arith
 
-add-t7 : tie.Need-add-t7
-add-t7 c = search needs
-
 returns-3 : tie.Need-returns-3
 unfolding lineOf
-returns-3 c = let a = c .before .before .before .before .before .before .before .args in let l : length (a .line .text) ≡ 8192 = search needs in laid (a .line .text) (a .part .now) _ (a .line .length) l (c .before .before .before .before .if1 .left) (c .before .before .before .if2 .left) (c .before .put .ensures)
+returns-3 c =
+    let a = c .before .before .before .before .before .before .before .args in
+    let l : length (a .line .text) ≡ 8192 = search needs in
+    laid (a .line .text) (a .part .now) _ (a .line .length) l (c .before .before .before .before .if1 .left)
+    (c .before .before .before .if2 .left) (c .before .put .ensures)
 
 pub add-spec : {M : Type 1} → statement M
-add-spec = tie.close (tie.spec returns returns-2 slice-aggregate-put put-requires add-t7 returns-3)
+add-spec =
+    tie.close
+    (tie.spec
+    returns returns-2 (λ c. search needs) put-requires (λ c. search needs) returns-3)

@@ -4,15 +4,9 @@ use borrow.Author.Needs.{needs}
 use Rattle.lines.proofs.adding.hex_byte.Statement.{statement}
 use Rattle.lines.proofs.adding.hex_byte.Tie as tie
 
-digit-requires : tie.Need-digit-requires
-digit-requires c κs = search needs
-
-digit-requires-2 : tie.Need-digit-requires-2
-digit-requires-2 c κs = search needs
-
 returns : tie.Need-returns
 unfolding hexByte
 returns c = rw (← c .before .digit .ensures, ← c .digit2 .ensures)
 
 pub hex-byte-spec : {M : Type 1} → statement M
-hex-byte-spec = tie.close (tie.spec digit-requires digit-requires-2 returns)
+hex-byte-spec = tie.close (tie.spec (λ c κs. search needs) (λ c κs. search needs) returns)

@@ -6,32 +6,19 @@ use borrow.Author.Needs.{needs}
 use Rattle.lines.proofs.texts.fact_bytes.Statement.{statement}
 use Rattle.lines.proofs.texts.fact_bytes.Tie as tie
 
-empty-requires : tie.Need-empty-requires
-empty-requires c κs = search needs
-
-add-requires : tie.Need-add-requires
-add-requires c κs = search needs
-
-add-hex-requires : tie.Need-add-hex-requires
-add-hex-requires c κs = search needs
-
-slice-aggregate-add : tie.Need-slice-aggregate-add
-slice-aggregate-add c = search needs
-
-add-requires-2 : tie.Need-add-requires-2
-add-requires-2 c κs = search needs
-
 returns : tie.Need-returns
 unfolding bytesText
-returns c = let a = c .before .before .before .before .before .before .before in let s = first _ _ _ 1000 (c .before .before .before .before .empty .ensures) (c .before .before .before .add .ensures) (a .pre .0) (omega arith) in more _ 1 (more-hex _ 1000 s (c .before .before .add-hex .ensures) (a .pre .1) (omega arith)) (c .add2 .ensures) (omega arith) (omega arith) .out
+returns c =
+    let a = c .before .before .before .before .before .before .before in
+    let s =
+    first _ _ _ 1000 (c .before .before .before .before .empty .ensures) (c .before .before .before .add .ensures)
+    (a .pre .0) (omega arith) in
+    more _ 1 (more-hex _ 1000 s (c .before .before .add-hex .ensures) (a .pre .1) (omega arith)) (c .add2 .ensures) (omega arith)
+    (omega arith) .out
 
 pub fact-bytes-spec : {M : Type 1} → statement M
 fact-bytes-spec =
     tie.close
     (tie.spec
-    empty-requires
-    add-requires
-    add-hex-requires
-    slice-aggregate-add
-    add-requires-2
+    (λ c κs. search needs) (λ c κs. search needs) (λ c κs. search needs) (λ c. search needs) (λ c κs. search needs)
     returns)

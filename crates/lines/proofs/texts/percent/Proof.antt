@@ -14,15 +14,9 @@ returns-2 : tie.Need-returns-2
 unfolding percentOf
 returns-2 c = rw (ne-eqb _ 0 (c .before .if1 .left), le-leb (2 ^ 57) _ (c .if2 .taken))
 
-mul-result : tie.Need-mul-result
-mul-result c = search needs
-
-div-result : tie.Need-div-result
-div-result c = search needs
-
 returns-3 : tie.Need-returns-3
 unfolding percentOf
 returns-3 c = rw (ne-eqb _ 0 (c .before .if1 .left), lt-leb (2 ^ 57) _ (c .if2 .left))
 
 pub percent-spec : {M : Type 1} → statement M
-percent-spec = tie.close (tie.spec returns returns-2 mul-result div-result returns-3)
+percent-spec = tie.close (tie.spec returns returns-2 (λ c. search needs) (λ c. search needs) returns-3)

@@ -9,44 +9,28 @@ use borrow.Author.Needs.{needs}
 use Rattle.lines.proofs.texts.three.Statement.{statement}
 use Rattle.lines.proofs.texts.three.Tie as tie
 
-empty-requires : tie.Need-empty-requires
-empty-requires c κs = search needs
-
-add-requires : tie.Need-add-requires
-add-requires c κs = search needs
-
-add-number-requires : tie.Need-add-number-requires
-add-number-requires c κs = search needs
-
-add-requires-2 : tie.Need-add-requires-2
-add-requires-2 c κs = search needs
-
-add-number-requires-2 : tie.Need-add-number-requires-2
-add-number-requires-2 c κs = search needs
-
-add-requires-3 : tie.Need-add-requires-3
-add-requires-3 c κs = search needs
-
-add-number-requires-3 : tie.Need-add-number-requires-3
-add-number-requires-3 c κs = search needs
-
-add-requires-4 : tie.Need-add-requires-4
-add-requires-4 c κs = search needs
-
 returns : tie.Need-returns
 unfolding threeText
-returns c = let a = c .before .before .before .before .before .before .before .before .before .before .before .before in let s = first _ _ _ 1000 (c .before .before .before .before .before .before .before .empty .ensures) (c .before .before .before .before .before .before .add .ensures) (a .pre .0) (omega arith) in let n = more _ 20 s (c .before .before .before .before .before .add-number .ensures) (decimal-short (a .args .x)) (omega arith) in let o = more _ 20 (more _ 1000 n (c .before .before .before .before .add2 .ensures) (a .pre .1) (omega arith)) (c .before .before .before .add-number2 .ensures) (decimal-short (a .args .y)) (omega arith) in let p = more _ 20 (more _ 1000 o (c .before .before .add3 .ensures) (a .pre .2) (omega arith)) (c .before .add-number3 .ensures) (decimal-short (a .args .z)) (omega arith) in more _ 1000 p (c .add4 .ensures) (a .pre .3) (omega arith) .out ∙ in-threes (a .args .a .now) (decimal (a .args .x)) (a .args .b .now) (decimal (a .args .y)) (a .args .c .now) (decimal (a .args .z)) (a .args .end .now)
+returns c =
+    let a = c .before .before .before .before .before .before .before .before .before .before .before .before in
+    let s =
+    first _ _ _ 1000 (c .before .before .before .before .before .before .before .empty .ensures)
+    (c .before .before .before .before .before .before .add .ensures) (a .pre .0) (omega arith) in
+    let n =
+    more _ 20 s (c .before .before .before .before .before .add-number .ensures) (decimal-short (a .args .x)) (omega arith) in
+    let o =
+    more _ 20 (more _ 1000 n (c .before .before .before .before .add2 .ensures) (a .pre .1) (omega arith))
+    (c .before .before .before .add-number2 .ensures) (decimal-short (a .args .y)) (omega arith) in
+    let p =
+    more _ 20 (more _ 1000 o (c .before .before .add3 .ensures) (a .pre .2) (omega arith))
+    (c .before .add-number3 .ensures) (decimal-short (a .args .z)) (omega arith) in
+    more _ 1000 p (c .add4 .ensures) (a .pre .3) (omega arith) .out
+    ∙ in-threes (a .args .a .now) (decimal (a .args .x)) (a .args .b .now) (decimal (a .args .y)) (a .args .c .now)
+    (decimal (a .args .z)) (a .args .end .now)
 
 pub three-spec : {M : Type 1} → statement M
 three-spec =
     tie.close
     (tie.spec
-    empty-requires
-    add-requires
-    add-number-requires
-    add-requires-2
-    add-number-requires-2
-    add-requires-3
-    add-number-requires-3
-    add-requires-4
-    returns)
+    (λ c κs. search needs) (λ c κs. search needs) (λ c κs. search needs) (λ c κs. search needs) (λ c κs. search needs)
+    (λ c κs. search needs) (λ c κs. search needs) (λ c κs. search needs) returns)

@@ -38,12 +38,6 @@ CanGoOn s =
     let o = s .args .self in
     Ready (o .depth) (o .memory) (o .leaf) (length (s .args .store .now)) (length (s .args .out .now)) × (o .made ≤ nodesAnew (o .depth) (o .memory))
 
-may-continue-requires : tie.Need-may-continue-requires
-may-continue-requires c κs = search needs
-
-enum-told : tie.Need-enum-told
-enum-told c = search needs
-
 -- the opening may be continued
 done : (c : tie.After-enum-told) → row (c .before .before .before .before .before) ≡ 0
 done c = is-done _ _ (c .before .before .may-continue .ensures) (c .enum-told .given .1)
@@ -57,19 +51,10 @@ nodes-anew-requires c κs = let r = ready c .0 .possible in (r .deep, r .above)
 sub-left : tie.Need-sub-left
 sub-left c = omega (arith, c .before .nodes-anew .ensures, ready (c .before .before) .1)
 
-smaller-requires : tie.Need-smaller-requires
-smaller-requires c κs = search needs
-
 label-many-requires : tie.Need-label-many-requires
 label-many-requires c κs =
     let (r, few) = ready (c .before .before .before .before) in
     ((r .possible, omega (arith, c .before .smaller .ensures, c .before .before .before .nodes-anew .ensures)), (r .room, r .outRoom))
-
-enum-told-2 : tie.Need-enum-told-2
-enum-told-2 c = search needs
-
-same-length : tie.Need-same-length
-same-length c = search needs
 
 returns : tie.Need-returns
 returns c =
@@ -78,8 +63,10 @@ returns c =
     let k =
     c .before .before .before .before .smaller .ensures
     ∙ ap (λ (x : ℕ). min (a .budget) (x - a .self .made)) (c .before .before .before .before .before .before .nodes-anew .ensures)
-    ∙ labels-done (a .self) (a .store .now) (a .out .now) (a .budget) (done (c .before .before .before .before .before .before .before)) in
-    (c .before .before .before .before .before .before .before .before .before .may-continue .ensures, (k, advanced-by (a .self) (a .store .now) (a .out .now) (a .budget) _ _ _ k (e .0) (e .1)))
+    ∙ labels-done (a .self) (a .store .now) (a .out .now) (a .budget) (done (c .before .before .before .before .before .before .before)) in (
+      c .before .before .before .before .before .before .before .before .before .may-continue .ensures,
+      (k, advanced-by (a .self) (a .store .now) (a .out .now) (a .budget) _ _ _ k (e .0) (e .1)),
+    )
 
 returns-2 : tie.Need-returns-2
 returns-2 c =
@@ -92,13 +79,5 @@ pub advance-spec : {M : Type 1} → statement M
 advance-spec =
     tie.close
     (tie.spec
-    may-continue-requires
-    enum-told
-    nodes-anew-requires
-    sub-left
-    smaller-requires
-    label-many-requires
-    enum-told-2
-    same-length
-    returns
-    returns-2)
+    (λ c κs. search needs) (λ c. search needs) nodes-anew-requires sub-left (λ c κs. search needs) label-many-requires
+    (λ c. search needs) (λ c. search needs) returns returns-2)

@@ -26,12 +26,6 @@ start-ready n m leaf store out e =
     let (p, e₅) = passed (ltb out (openingSize n)) 7 0 (lit≤ tt) e₄ in
     record { possible = possible n m leaf d o l; room = ltb-false store (storeSize m) s; outRoom = ltb-false out (openingSize n) p }
 
-may-start-requires : tie.Need-may-start-requires
-may-start-requires c κs = search needs
-
-enum-told : tie.Need-enum-told
-enum-told c = search needs
-
 -- the row's answer, and that the opening may be started
 abbrev row : tie.Start → ℕ
 row s = openRow (s .args .depth) (s .args .memory) (s .args .leaf) (length (s .args .store .now)) (length (s .args .out .now))
@@ -42,41 +36,28 @@ done c = is-done _ _ (c .before .before .may-start .ensures) (c .enum-told .give
 copy-held-requires : tie.Need-copy-held-requires
 copy-held-requires c κs = let r = start-ready _ _ _ _ _ (done (c .before)) in (r .possible, (r .room, r .outRoom))
 
-new-opening-requires : tie.Need-new-opening-requires
-new-opening-requires c κs = search needs
-
-enum-told-2 : tie.Need-enum-told-2
-enum-told-2 c = search needs
-
-new-opening-requires-2 : tie.Need-new-opening-requires-2
-new-opening-requires-2 c κs = search needs
-
-same-length : tie.Need-same-length
-same-length c = search needs
-
 returns : tie.Need-returns
 returns c =
     let a = c .before .before .before .before .before .before .before .before .before .before .args in
-    let (o, w) = start-done (a .statement) (a .depth) (a .memory) (a .leaf) (a .store .now) (a .out .now) (done (c .before .before .before .before .before)) in
-    (c .before .before .before .before .before .before .before .may-start .ensures, (c .new-opening .ensures ∙ o, c .before .before .before .copy-held .ensures ∙ w))
+    let (o, w) =
+    start-done (a .statement) (a .depth) (a .memory) (a .leaf) (a .store .now) (a .out .now)
+    (done (c .before .before .before .before .before)) in (
+      c .before .before .before .before .before .before .before .may-start .ensures,
+      (c .new-opening .ensures ∙ o, c .before .before .before .copy-held .ensures ∙ w),
+    )
 
 returns-2 : tie.Need-returns-2
 returns-2 c =
     let a = c .before .before .before .before .before .before .args in
     let s = c .before .before .before .may-start in
-    let (o, w) = start-refused (a .statement) (a .depth) (a .memory) (a .leaf) (a .store .now) (a .out .now) (is-refused _ _ _ (s .ensures) (c .before .enum-told2 .given .1)) in
+    let (o, w) =
+    start-refused (a .statement) (a .depth) (a .memory) (a .leaf) (a .store .now) (a .out .now)
+    (is-refused _ _ _ (s .ensures) (c .before .enum-told2 .given .1)) in
     (s .ensures, (c .new-opening2 .ensures ∙ o, w))
 
 pub start-spec : {M : Type 1} → statement M
 start-spec =
     tie.close
     (tie.spec
-    may-start-requires
-    enum-told
-    copy-held-requires
-    new-opening-requires
-    enum-told-2
-    new-opening-requires-2
-    same-length
-    returns
-    returns-2)
+    (λ c κs. search needs) (λ c. search needs) copy-held-requires (λ c κs. search needs) (λ c. search needs)
+    (λ c κs. search needs) (λ c. search needs) returns returns-2)

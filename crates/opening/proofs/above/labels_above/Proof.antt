@@ -14,7 +14,8 @@ use Rattle.opening.proofs.above.labels_above.Statement.{statement}
 use Rattle.opening.proofs.above.labels_above.Tie as tie
 
 abbrev Inv-loop : tie.InvT-loop
-Inv-loop depth memory leaf store len bytes₀ filled₀ level₀ bytes filled level = (level ≤ memory) × Above depth leaf store level filled bytes × (length bytes ≡ 640)
+Inv-loop depth memory leaf store len bytes₀ filled₀ level₀ bytes filled level =
+    (level ≤ memory) × Above depth leaf store level filled bytes × (length bytes ≡ 640)
 
 abbrev μ-loop : tie.MeasureT-loop
 μ-loop depth memory leaf store len bytes₀ filled₀ level₀ bytes filled level = memory - level
@@ -23,34 +24,36 @@ abbrev μ-loop : tie.MeasureT-loop
 some-room : (c : tie.In-loop Inv-loop μ-loop) → c .before .loop .filled + 32 ≤ 640
 some-room c =
     let s = c .before .before .before in
-    omega (arith, s .pre .0 .kept, s .pre .0 .above, above-few (s .args .depth) (s .args .leaf) (c .before .loop .level) (c .before .loop .filled) (omega (arith, s .pre .0 .above)) (s .pre .0 .inside) (c .before .loop .inv .1 .counted))
-
-sub-len : tie.Need-sub-len Inv-loop μ-loop
-sub-len c = search needs
-
-shr-len : tie.Need-shr-len Inv-loop μ-loop
-shr-len c = search needs
+    omega (
+      arith,
+      s .pre .0 .kept,
+      s .pre .0 .above,
+      above-few (s .args .depth) (s .args .leaf) (c .before .loop .level) (c .before .loop .filled)
+          (omega (arith, s .pre .0 .above)) (s .pre .0 .inside) (c .before .loop .inv .1 .counted),
+    )
 
 cast-len : tie.Need-cast-len Inv-loop μ-loop
-cast-len c = omega (arith, above-few (c .before .args .depth) (c .before .args .leaf) (c .before .args .memory) _ (c .before .pre .0 .above) (c .before .pre .0 .inside) refl)
+cast-len c =
+    omega (
+      arith,
+      above-few (c .before .args .depth) (c .before .args .leaf) (c .before .args .memory) _ (c .before .pre .0 .above)
+          (c .before .pre .0 .inside) refl,
+    )
 
 mul-len : tie.Need-mul-len Inv-loop μ-loop
-mul-len c = omega (arith, above-few (c .before .args .depth) (c .before .args .leaf) (c .before .args .memory) _ (c .before .pre .0 .above) (c .before .pre .0 .inside) refl)
+mul-len c =
+    omega (
+      arith,
+      above-few (c .before .args .depth) (c .before .args .leaf) (c .before .args .memory) _ (c .before .pre .0 .above)
+          (c .before .pre .0 .inside) refl,
+    )
 
 loop-holds : tie.Need-loop-holds Inv-loop μ-loop
-loop-holds c = (omega arith, above-none (c .before .args .depth) (c .before .args .leaf) (c .before .args .store .now) (c .before .pre .0 .inside), search needs)
-
-add-level : tie.Need-add-level Inv-loop μ-loop
-add-level c = search needs
-
-sub-position : tie.Need-sub-position Inv-loop μ-loop
-sub-position c = search needs
-
-shr-position : tie.Need-shr-position Inv-loop μ-loop
-shr-position c = search needs
-
-slice-aggregate-add-left : tie.Need-slice-aggregate-add-left Inv-loop μ-loop
-slice-aggregate-add-left c = search needs
+loop-holds c = (
+  omega arith,
+  above-none (c .before .args .depth) (c .before .args .leaf) (c .before .args .store .now) (c .before .pre .0 .inside),
+  search needs,
+)
 
 add-left-requires : tie.Need-add-left-requires Inv-loop μ-loop
 add-left-requires c κs =
@@ -61,9 +64,6 @@ add-left-requires c κs =
     let i = slot-inside (a .memory) (node (l + 1) (a .leaf / 2 ^ (a .depth - (l + 1)))) (omega arith, p) in
     ((omega arith, p, omega (arith, some-room (c .before))), omega arith)
 
-loop-less : tie.Need-loop-less Inv-loop μ-loop
-loop-less c = search needs
-
 loop-again : tie.Need-loop-again Inv-loop μ-loop
 loop-again c =
     let s = c .before .before .before .before .before .before in
@@ -72,7 +72,9 @@ loop-again c =
     let p = way-inside (a .depth) (a .leaf) (l .level + 1) (omega arith) (s .pre .0 .inside) in
     let i = slot-inside (a .memory) (node (l .level + 1) (a .leaf / 2 ^ (a .depth - (l .level + 1)))) (omega arith, p) in (
       omega arith,
-      above-more (a .depth) (a .leaf) (l .level) (a .store .now) (l .filled) _ (l .bytes) _ (omega arith) (some-room (c .before .before .before)) (omega arith) (l .inv .1) (c .before .add-left .ensures .0) (c .before .add-left .ensures .1),
+      above-more (a .depth) (a .leaf) (l .level) (a .store .now) (l .filled) _ (l .bytes) _ (omega arith)
+          (some-room (c .before .before .before)) (omega arith) (l .inv .1) (c .before .add-left .ensures .0)
+          (c .before .add-left .ensures .1),
       search needs,
     )
 
@@ -90,18 +92,5 @@ pub labels-above-spec : {M : Type 1} → statement M
 labels-above-spec =
     tie.close
     (tie.spec
-    Inv-loop
-    μ-loop
-    sub-len
-    shr-len
-    cast-len
-    mul-len
-    loop-holds
-    add-level
-    sub-position
-    shr-position
-    slice-aggregate-add-left
-    add-left-requires
-    loop-less
-    loop-again
-    returns)
+    Inv-loop μ-loop (λ c. search needs) (λ c. search needs) cast-len mul-len loop-holds (λ c. search needs)
+    (λ c. search needs) (λ c. search needs) (λ c. search needs) add-left-requires (λ c. search needs) loop-again returns)

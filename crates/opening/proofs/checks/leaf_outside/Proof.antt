@@ -4,11 +4,8 @@ use Rattle.label.proofs.Walking.{full}
 use Rattle.opening.proofs.checks.leaf_outside.Statement.{statement}
 use Rattle.opening.proofs.checks.leaf_outside.Tie as tie
 
-shl-result : tie.Need-shl-result
-shl-result c = search needs
-
 returns : tie.Need-returns
 returns c = rw (full (c .args .depth) (c .pre))
 
 pub leaf-outside-spec : {M : Type 1} → statement M
-leaf-outside-spec = tie.close (tie.spec shl-result returns)
+leaf-outside-spec = tie.close (tie.spec (λ c. search needs) returns)

@@ -21,11 +21,11 @@ stuck s =
 can-go-on : (c : tie.Else1) → stuck (c .before .before) ≡ false
 can-go-on c = sym (c .before .not-possible .ensures) ∙ c .if1 .left
 
-known : (c : tie.Else1) → Possible (c .before .before .args .opening .depth) (c .before .before .args .opening .memory) (c .before .before .args .opening .leaf)
+known :
+    (c : tie.Else1)
+    → Possible (c .before .before .args .opening .depth) (c .before .before .args .opening .memory)
+    (c .before .before .args .opening .leaf)
 known c = let o = c .before .before .args .opening in can-be (o .depth) (o .memory) (o .made) (o .leaf) (can-go-on c) .0
-
-not-possible-requires : tie.Need-not-possible-requires
-not-possible-requires c κs = search needs
 
 returns : tie.Need-returns
 unfolding reopenRow
@@ -43,20 +43,24 @@ output-short-requires c κs = known (c .before .before) .deep
 
 returns-3 : tie.Need-returns-3
 unfolding reopenRow
-returns-3 c = rw (can-go-on (c .before .before .before .before), sym (c .before .before .before .store-short .ensures) ∙ c .before .before .if2 .left, sym (c .before .output-short .ensures) ∙ c .if3 .taken)
+returns-3 c =
+    rw (
+      can-go-on (c .before .before .before .before),
+      sym (c .before .before .before .store-short .ensures) ∙ c .before .before .if2 .left,
+      sym (c .before .output-short .ensures) ∙ c .if3 .taken,
+    )
 
 returns-4 : tie.Need-returns-4
 unfolding reopenRow
-returns-4 c = rw (can-go-on (c .before .before .before .before), sym (c .before .before .before .store-short .ensures) ∙ c .before .before .if2 .left, sym (c .before .output-short .ensures) ∙ c .if3 .left)
+returns-4 c =
+    rw (
+      can-go-on (c .before .before .before .before),
+      sym (c .before .before .before .store-short .ensures) ∙ c .before .before .if2 .left,
+      sym (c .before .output-short .ensures) ∙ c .if3 .left,
+    )
 
 pub may-continue-spec : {M : Type 1} → statement M
 may-continue-spec =
     tie.close
     (tie.spec
-    not-possible-requires
-    returns
-    store-short-requires
-    returns-2
-    output-short-requires
-    returns-3
-    returns-4)
+    (λ c κs. search needs) returns store-short-requires returns-2 output-short-requires returns-3 returns-4)

@@ -8,17 +8,17 @@ use Rattle.opening.proofs.RowLaws.{anew-nodes}
 use Rattle.opening.proofs.checks.nodes_anew.Statement.{statement}
 use Rattle.opening.proofs.checks.nodes_anew.Tie as tie
 
-sub-nodes : tie.Need-sub-nodes
-sub-nodes c = search needs
-
-nodes-requires : tie.Need-nodes-requires
-nodes-requires c κs = search needs
-
 sub-result : tie.Need-sub-result
-sub-result c = omega (arith, c .nodes .ensures, nodesIn-suc (c .before .args .depth - c .before .args .memory), pow-pos (c .before .args .depth - c .before .args .memory))
+sub-result c =
+    omega (
+      arith,
+      c .nodes .ensures,
+      nodesIn-suc (c .before .args .depth - c .before .args .memory),
+      pow-pos (c .before .args .depth - c .before .args .memory),
+    )
 
 returns : tie.Need-returns
 returns c = rw (c .nodes .ensures) (anew-nodes (c .before .args .depth) (c .before .args .memory))
 
 pub nodes-anew-spec : {M : Type 1} → statement M
-nodes-anew-spec = tie.close (tie.spec sub-nodes nodes-requires sub-result returns)
+nodes-anew-spec = tie.close (tie.spec (λ c. search needs) (λ c κs. search needs) sub-result returns)

@@ -20,20 +20,16 @@ depth-fits c = sym (c .before .depth-outside .ensures) ∙ c .if1 .left
 memory-fits : (c : tie.Else2) → memoryOver (c .before .before .before .before .args .depth) (c .before .before .before .before .args .memory) ≡ false
 memory-fits c = sym (c .before .memory-over .ensures) ∙ c .if2 .left
 
-depth-outside-requires : tie.Need-depth-outside-requires
-depth-outside-requires c κs = search needs
-
 returns : tie.Need-returns
 returns c = rw (sym (c .before .depth-outside .ensures) ∙ c .if1 .taken)
-
-memory-over-requires : tie.Need-memory-over-requires
-memory-over-requires c κs = search needs
 
 returns-2 : tie.Need-returns-2
 returns-2 c = rw (depth-fits (c .before .before), sym (c .before .memory-over .ensures) ∙ c .if2 .taken)
 
 nodes-anew-requires : tie.Need-nodes-anew-requires
-nodes-anew-requires c κs = (depth-inside _ (depth-fits (c .before .before)), memory-below (c .before .before .before .before .args .depth) (c .before .before .before .before .args .memory) (memory-fits c))
+nodes-anew-requires c κs =
+    let entry = c .before .before .before .before in
+    (depth-inside _ (depth-fits (c .before .before)), memory-below (entry .args .depth) (entry .args .memory) (memory-fits c))
 
 returns-3 : tie.Need-returns-3
 returns-3 c =
@@ -48,17 +44,15 @@ returns-4 : tie.Need-returns-4
 returns-4 c =
     let a = c .before .before .before .before .before .before .before .args in
     let few : a .made ≤ nodesAnew (a .depth) (a .memory) = omega (arith, c .before .before .nodes-anew .ensures, c .before .if3 .left) in
-    rw (depth-fits (c .before .before .before .before .before), memory-fits (c .before .before .before), le-ltb (nodesAnew (a .depth) (a .memory)) (a .made) few) (c .leaf-outside .ensures)
+    rw (
+      depth-fits (c .before .before .before .before .before),
+      memory-fits (c .before .before .before),
+      le-ltb (nodesAnew (a .depth) (a .memory)) (a .made) few,
+    ) (c .leaf-outside .ensures)
 
 pub not-possible-spec : {M : Type 1} → statement M
 not-possible-spec =
     tie.close
     (tie.spec
-    depth-outside-requires
-    returns
-    memory-over-requires
-    returns-2
-    nodes-anew-requires
-    returns-3
-    leaf-outside-requires
+    (λ c κs. search needs) returns (λ c κs. search needs) returns-2 nodes-anew-requires returns-3 leaf-outside-requires
     returns-4)

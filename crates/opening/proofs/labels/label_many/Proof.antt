@@ -16,7 +16,9 @@ use Rattle.opening.proofs.labels.label_many.Tie as tie
 abbrev Inv-loop : tie.InvT-loop
 Inv-loop count store out₀ statement depth memory leaf made held₀ bytes len i₀ out held i =
     (i ≤ count)
-    × (steps store i (openOf (openingOf statement depth memory leaf made held₀) out₀) ≡ openOf (openingOf statement depth memory leaf (made + i) held) out)
+    ×
+    (steps store i (openOf (openingOf statement depth memory leaf made held₀) out₀)
+    ≡ openOf (openingOf statement depth memory leaf (made + i) held) out)
     × (length held ≡ 1312) × (length out ≡ length out₀)
 
 abbrev μ-loop : tie.MeasureT-loop
@@ -25,19 +27,19 @@ abbrev μ-loop : tie.MeasureT-loop
 -- what was read fits the array
 read-fits : (c : tie.After-labels-above Inv-loop μ-loop) → c .labels-above .result .len ≤ length (c .labels-above .result .bytes)
 read-fits c =
+    let entry = c .before .before .before .before .before in
     let whole : length (c .labels-above .result .bytes) ≡ 640 = search needs in
-    let o = c .before .before .before .before .before .args .opening in
-    let s = c .before .before .before .before .before .pre .0 .0 in
+    let o = entry .args .opening in
+    let s = entry .pre .0 .0 in
     omega (arith, s .kept, above-few (o .depth) (o .leaf) (o .memory) _ (s .above) (s .inside) (c .labels-above .ensures .0))
-
-labels-above-requires : tie.Need-labels-above-requires Inv-loop μ-loop
-labels-above-requires c κs = search needs
 
 loop-holds : tie.Need-loop-holds Inv-loop μ-loop
 loop-holds c = (omega arith, steps-none _ _ _ _ _ _ _ _, search needs, refl)
 
 add-label-one : tie.Need-add-label-one Inv-loop μ-loop
-add-label-one c = omega (arith, anew-small (c .before .before .before .before .before .before .before .before .args .opening .depth) (c .before .before .before .before .before .before .before .before .args .opening .memory) (c .before .before .before .before .before .before .before .before .pre .0 .0 .deep))
+add-label-one c =
+    let entry = c .before .before .before .before .before .before .before .before in
+    omega (arith, anew-small (entry .args .opening .depth) (entry .args .opening .memory) (entry .pre .0 .0 .deep))
 
 array-share-prefix-bytes : tie.Need-array-share-prefix-bytes Inv-loop μ-loop
 array-share-prefix-bytes c = read-fits (c .before .before .before)
@@ -50,26 +52,31 @@ slice-aggregate-label-one-2 c = sym (c .before .before .before .loop .inv .2)
 
 label-one-requires : tie.Need-label-one-requires Inv-loop μ-loop
 label-one-requires c κs =
-    let s = c .before .before .before .before .before .before .before .before .before .before .before in
-    ((s .pre .0 .0, omega arith), (length-take-le _ _ (read-fits (c .before .before .before .before .before .before)) ∙ c .before .before .before .before .before .before .labels-above .ensures .0, c .before .before .before .before .loop .inv .2, omega arith))
-
-add-i : tie.Need-add-i Inv-loop μ-loop
-add-i c = search needs
-
-loop-less : tie.Need-loop-less Inv-loop μ-loop
-loop-less c = search needs
+    let s = c .before .before .before .before .before .before .before .before .before .before .before in (
+      (s .pre .0 .0, omega arith),
+      (
+        length-take-le _ _ (read-fits (c .before .before .before .before .before .before))
+            ∙ c .before .before .before .before .before .before .labels-above .ensures .0,
+        c .before .before .before .before .loop .inv .2,
+        omega arith,
+      ),
+    )
 
 loop-again : tie.Need-loop-again Inv-loop μ-loop
 loop-again c =
     let e = c .before .before .before .label-one .ensures in (
       omega arith,
-      steps-more _ _ _ _ _ _ _ _ _ _ (c .before .before .before .before .before .before .before .before .loop .inv .1) _ (c .before .before .before .before .before .before .before .before .before .before .labels-above .ensures .1 .0) _ _ (e .0) (e .1),
+      steps-more _ _ _ _ _ _ _ _ _ _ (c .before .before .before .before .before .before .before .before .loop .inv .1) _
+          (c .before .before .before .before .before .before .before .before .before .before .labels-above .ensures .1 .0) _ _
+          (e .0) (e .1),
       search needs,
       search needs,
     )
 
 add-t24 : tie.Need-add-t24 Inv-loop μ-loop
-add-t24 c = omega (arith, anew-small (c .before .before .before .before .before .before .before .before .args .opening .depth) (c .before .before .before .before .before .before .before .before .args .opening .memory) (c .before .before .before .before .before .before .before .before .pre .0 .0 .deep))
+add-t24 c =
+    let entry = c .before .before .before .before .before .before .before .before in
+    omega (arith, anew-small (entry .args .opening .depth) (entry .args .opening .memory) (entry .pre .0 .0 .deep))
 
 same-length : tie.Need-same-length Inv-loop μ-loop
 same-length c = c .before .loop .inv .3
@@ -84,18 +91,6 @@ pub label-many-spec : {M : Type 1} → statement M
 label-many-spec =
     tie.close
     (tie.spec
-    Inv-loop
-    μ-loop
-    labels-above-requires
-    loop-holds
-    add-label-one
-    array-share-prefix-bytes
-    slice-aggregate-label-one
-    slice-aggregate-label-one-2
-    label-one-requires
-    add-i
-    loop-less
-    loop-again
-    add-t24
-    same-length
-    returns)
+    Inv-loop μ-loop (λ c κs. search needs) loop-holds add-label-one array-share-prefix-bytes slice-aggregate-label-one
+    slice-aggregate-label-one-2 label-one-requires (λ c. search needs) (λ c. search needs) loop-again add-t24
+    same-length returns)

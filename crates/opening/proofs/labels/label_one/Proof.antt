@@ -10,12 +10,6 @@ use Rattle.opening.proofs.PlaceLaws.{way-inside}
 use Rattle.opening.proofs.labels.label_one.Statement.{statement}
 use Rattle.opening.proofs.labels.label_one.Tie as tie
 
-sub-height : tie.Need-sub-height
-sub-height c = search needs
-
-shr-position : tie.Need-shr-position
-shr-position c = search needs
-
 label-next-requires : tie.Need-label-next-requires
 label-next-requires c κs =
     let s = c .before .before .before .before in
@@ -23,24 +17,19 @@ label-next-requires c κs =
     let few = anew-few (a .depth) (a .memory) (a .made) (s .pre .0 .1) in
     ((omega arith, way-inside (a .depth) (a .leaf) (a .memory) (s .pre .0 .0 .above) (s .pre .0 .0 .inside), omega arith), (omega arith, omega arith))
 
-slice-aggregate-put-label : tie.Need-slice-aggregate-put-label
-slice-aggregate-put-label c = search needs
-
 put-label-requires : tie.Need-put-label-requires
 put-label-requires c κs =
     let s = c .before .before .before .before .before .before .before .before .before .before in
     let a = s .args in
     let w = c .before .before .before .before .before .label-next in
     let few = anew-few (a .depth) (a .memory) (a .made) (s .pre .0 .1) in
-    let low = next-below (a .depth - a .memory) (a .made) (ancestor (a .depth) (a .leaf) (a .memory)) (node (w .result .level) (w .result .position)) few (w .ensures .0) in
-    let high = next-level (a .depth - a .memory) (a .memory) (a .leaf / 2 ^ (a .depth - a .memory)) (a .made) (w .result .level) (w .result .position) (omega arith) (w .ensures .0) .1 in
+    let low =
+    next-below (a .depth - a .memory) (a .made) (ancestor (a .depth) (a .leaf) (a .memory))
+    (node (w .result .level) (w .result .position)) few (w .ensures .0) in
+    let high =
+    next-level (a .depth - a .memory) (a .memory) (a .leaf / 2 ^ (a .depth - a .memory)) (a .made) (w .result .level)
+    (w .result .position) (omega arith) (w .ensures .0) .1 in
     ((s .pre .0 .0 .deep, omega arith, omega arith), (omega arith, search needs))
-
-same-length : tie.Need-same-length
-same-length c = search needs
-
-same-length-2 : tie.Need-same-length-2
-same-length-2 c = search needs
 
 returns : tie.Need-returns
 returns c =
@@ -51,11 +40,5 @@ pub label-one-spec : {M : Type 1} → statement M
 label-one-spec =
     tie.close
     (tie.spec
-    sub-height
-    shr-position
-    label-next-requires
-    slice-aggregate-put-label
-    put-label-requires
-    same-length
-    same-length-2
-    returns)
+    (λ c. search needs) (λ c. search needs) label-next-requires (λ c. search needs) put-label-requires
+    (λ c. search needs) (λ c. search needs) returns)

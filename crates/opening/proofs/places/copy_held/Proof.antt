@@ -8,9 +8,6 @@ use Rattle.opening.proofs.PlaceLaws.{copied-with-leaf, copied-no-leaf}
 use Rattle.opening.proofs.places.copy_held.Statement.{statement}
 use Rattle.opening.proofs.places.copy_held.Tie as tie
 
-copy-siblings-requires : tie.Need-copy-siblings-requires
-copy-siblings-requires c κs = search needs
-
 copy-label-requires : tie.Need-copy-label-requires
 copy-label-requires c κs =
     let s = c .before .before .before .before .before .before .before .before in
@@ -18,14 +15,11 @@ copy-label-requires c κs =
     let k = slot-inside (a .memory) (node (a .depth) (a .leaf)) (omega arith, s .pre .0 .inside) in
     ((s .pre .0 .deep, s .pre .0 .some, omega arith, s .pre .0 .inside), (omega arith, omega arith))
 
-same-length : tie.Need-same-length
-same-length c = search needs
-
 returns : tie.Need-returns
-returns c = c .before .before .copy-label .ensures ∙ copied-with-leaf _ _ _ _ _ _ (c .before .before .before .before .before .before .before .copy-siblings .ensures) (omega (arith, c .before .before .before .before .if1 .taken))
-
-same-length-2 : tie.Need-same-length-2
-same-length-2 c = search needs
+returns c =
+    c .before .before .copy-label .ensures
+    ∙ copied-with-leaf _ _ _ _ _ _ (c .before .before .before .before .before .before .before .copy-siblings .ensures)
+    (omega (arith, c .before .before .before .before .if1 .taken))
 
 returns-2 : tie.Need-returns-2
 returns-2 c = copied-no-leaf _ _ _ _ _ _ (c .before .before .before .copy-siblings .ensures) (λ e. omega (arith, c .if1 .left))
@@ -34,9 +28,4 @@ pub copy-held-spec : {M : Type 1} → statement M
 copy-held-spec =
     tie.close
     (tie.spec
-    copy-siblings-requires
-    copy-label-requires
-    same-length
-    returns
-    same-length-2
-    returns-2)
+    (λ c κs. search needs) copy-label-requires (λ c. search needs) returns (λ c. search needs) returns-2)

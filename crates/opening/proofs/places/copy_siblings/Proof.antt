@@ -21,31 +21,23 @@ abbrev μ-loop : tie.MeasureT-loop
 loop-holds : tie.Need-loop-holds Inv-loop μ-loop
 loop-holds c = (omega arith, copied-none _ _ _ _, refl)
 
-add-level : tie.Need-add-level Inv-loop μ-loop
-add-level c = search needs
-
-sub-sibling-of : tie.Need-sub-sibling-of Inv-loop μ-loop
-sub-sibling-of c = search needs
-
-shr-sibling-of : tie.Need-shr-sibling-of Inv-loop μ-loop
-shr-sibling-of c = search needs
-
-sibling-of-requires : tie.Need-sibling-of-requires Inv-loop μ-loop
-sibling-of-requires c κs = search needs
-
 copy-label-requires : tie.Need-copy-label-requires Inv-loop μ-loop
 copy-label-requires c κs =
-    let a = c .before .before .before .before .before .before .args in
+    let entry = c .before .before .before .before .before .before in
+    let a = entry .args in
     let l = c .before .before .before .loop .level in
-    let b = beside-inside (a .depth) (a .leaf) l _ (omega arith) (c .before .before .before .before .before .before .pre .0 .inside) (c .before .sibling-of .ensures) in
+    let b = beside-inside (a .depth) (a .leaf) l _ (omega arith) (entry .pre .0 .inside) (c .before .sibling-of .ensures) in
     let s = slot-inside (a .memory) (node (l + 1) (c .before .sibling-of .result)) (omega arith, b) in
-    ((c .before .before .before .before .before .before .pre .0 .deep, omega arith, omega arith, b), (omega arith, omega arith))
-
-loop-less : tie.Need-loop-less Inv-loop μ-loop
-loop-less c = search needs
+    ((entry .pre .0 .deep, omega arith, omega arith, b), (omega arith, omega arith))
 
 loop-again : tie.Need-loop-again Inv-loop μ-loop
-loop-again c = (omega arith, c .before .before .copy-label .ensures ∙ copied-more _ _ _ _ _ _ _ (c .before .before .before .before .before .before .loop .inv .1) (c .before .before .before .before .sibling-of .ensures), search needs)
+loop-again c = (
+  omega arith,
+  c .before .before .copy-label .ensures
+      ∙ copied-more _ _ _ _ _ _ _ (c .before .before .before .before .before .before .loop .inv .1)
+      (c .before .before .before .before .sibling-of .ensures),
+  search needs,
+)
 
 same-length : tie.Need-same-length Inv-loop μ-loop
 same-length c = c .before .loop .inv .2
@@ -57,15 +49,5 @@ pub copy-siblings-spec : {M : Type 1} → statement M
 copy-siblings-spec =
     tie.close
     (tie.spec
-    Inv-loop
-    μ-loop
-    loop-holds
-    add-level
-    sub-sibling-of
-    shr-sibling-of
-    sibling-of-requires
-    copy-label-requires
-    loop-less
-    loop-again
-    same-length
-    returns)
+    Inv-loop μ-loop loop-holds (λ c. search needs) (λ c. search needs) (λ c. search needs) (λ c κs. search needs)
+    copy-label-requires (λ c. search needs) loop-again same-length returns)

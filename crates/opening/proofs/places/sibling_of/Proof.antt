@@ -5,12 +5,6 @@ use Rattle.base.proofs.ChoiceLaws.{is-odd, is-even}
 use Rattle.opening.proofs.places.sibling_of.Statement.{statement}
 use Rattle.opening.proofs.places.sibling_of.Tie as tie
 
-sub-result : tie.Need-sub-result
-sub-result c = search needs
-
-add-result : tie.Need-add-result
-add-result c = search needs
-
 returns : tie.Need-returns
 returns c = rw (is-odd _ (c .if1 .taken))
 
@@ -18,4 +12,4 @@ returns-2 : tie.Need-returns-2
 returns-2 c = rw (is-even (c .before .args .position) (omega (arith, c .if1 .left)))
 
 pub sibling-of-spec : {M : Type 1} → statement M
-sibling-of-spec = tie.close (tie.spec sub-result add-result returns returns-2)
+sibling-of-spec = tie.close (tie.spec (λ c. search needs) (λ c. search needs) returns returns-2)

@@ -6,9 +6,6 @@ use Rattle.label.proofs.Walking.{full}
 use Rattle.opening.proofs.places.slot_of.Statement.{statement}
 use Rattle.opening.proofs.places.slot_of.Tie as tie
 
-shl-result : tie.Need-shl-result
-shl-result c = search needs
-
 sub-result : tie.Need-sub-result
 sub-result c = omega (arith, full (c .args .level) (c .pre .0), pow-pos (c .args .level), pow-mono {i = c .args .level} {j = 40} (c .pre .0))
 
@@ -22,4 +19,4 @@ returns : tie.Need-returns
 returns c = rw (full (c .args .level) (c .pre .0))
 
 pub slot-of-spec : {M : Type 1} → statement M
-slot-of-spec = tie.close (tie.spec shl-result sub-result add-result mul-result returns)
+slot-of-spec = tie.close (tie.spec (λ c. search needs) sub-result add-result mul-result returns)

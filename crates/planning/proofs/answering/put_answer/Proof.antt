@@ -7,31 +7,19 @@ use borrow.Author.Needs.{needs}
 use Rattle.planning.proofs.answering.put_answer.Statement.{statement}
 use Rattle.planning.proofs.answering.put_answer.Tie as tie
 
-slice-aggregate-plan : tie.Need-slice-aggregate-plan
-slice-aggregate-plan c = search needs
-
-plan-requires : tie.Need-plan-requires
-plan-requires c κs = search needs
-
-enum-known-outcome : tie.Need-enum-known-outcome
-enum-known-outcome c = search needs
-
-number-requires : tie.Need-number-requires
-number-requires c κs = search needs
-
-put-refused-requires : tie.Need-put-refused-requires
-put-refused-requires c κs = search needs
-
-enum-told : tie.Need-enum-told
-enum-told c = search needs
-
 array-share-prefix-codes : tie.Need-array-share-prefix-codes
 array-share-prefix-codes c =
     let p = c .before .before .before .plan in
     let s = c .before .before .before .before .before .before .before in
     let done = done-row (s .args .depth) (s .args .leaves .now) _ _ refl (p .ensures .0) (c .enum-told .given .1) in
     let count = done-count (s .args .depth) (s .args .leaves .now) _ _ refl done (p .ensures .1 .0) in
-    omega (arith, count, few-codes (s .args .depth) (s .args .leaves .now) _ done refl, codes-count (s .args .depth) (s .args .leaves .now) _ done refl, p .kept .1 .1 .0)
+    omega (
+      arith,
+      count,
+      few-codes (s .args .depth) (s .args .leaves .now) _ done refl,
+      codes-count (s .args .depth) (s .args .leaves .now) _ done refl,
+      p .kept .1 .1 .0,
+    )
 
 slice-aggregate-put-plan : tie.Need-slice-aggregate-put-plan
 slice-aggregate-put-plan c =
@@ -39,7 +27,10 @@ slice-aggregate-put-plan c =
     let s = c .before .before .before .before .before .before .before .before in
     let done = done-row (s .args .depth) (s .args .leaves .now) _ _ refl (p .ensures .0) (c .before .enum-told .given .1) in
     let count = done-count (s .args .depth) (s .args .leaves .now) _ _ refl done (p .ensures .1 .0) in
-    count ∙ sym (ap length (done-codes (s .args .depth) (s .args .leaves .now) _ _ _ refl done count (p .ensures .1 .1)) ∙ codes-count (s .args .depth) (s .args .leaves .now) _ done refl)
+    count
+    ∙ sym
+    (ap length (done-codes (s .args .depth) (s .args .leaves .now) _ _ _ refl done count (p .ensures .1 .1))
+    ∙ codes-count (s .args .depth) (s .args .leaves .now) _ done refl)
 
 put-plan-requires : tie.Need-put-plan-requires
 put-plan-requires c κs =
@@ -49,38 +40,24 @@ put-plan-requires c κs =
     let count = done-count (s .args .depth) (s .args .leaves .now) _ _ refl done (p .ensures .1 .0) in
     (done, (done-codes (s .args .depth) (s .args .leaves .now) _ _ _ refl done count (p .ensures .1 .1), s .pre))
 
-same-length : tie.Need-same-length
-same-length c = search needs
-
 returns : tie.Need-returns
 returns c =
     let p = c .before .before .before .before .before .before .before .before .before .plan in
-    refused-wrote _ _ _ _ _ _ _ _ _ refl (p .ensures .0) (c .before .before .before .before .before .before .outcome .given .1) (c .before .before .before .number .ensures) (c .before .before .put-refused .ensures)
-
-same-length-2 : tie.Need-same-length-2
-same-length-2 c = search needs
+    refused-wrote _ _ _ _ _ _ _ _ _ refl (p .ensures .0) (c .before .before .before .before .before .before .outcome .given .1)
+    (c .before .before .before .number .ensures) (c .before .before .put-refused .ensures)
 
 returns-2 : tie.Need-returns-2
 returns-2 c =
     let t = c .before .before .before .before .before in
     let p = t .before .before .before .plan in
     let s = t .before .before .before .before .before .before .before in
-    done-wrote _ _ _ _ _ (done-row (s .args .depth) (s .args .leaves .now) _ _ refl (p .ensures .0) (t .enum-told .given .1)) (c .before .before .put-plan .ensures)
+    done-wrote _ _ _ _ _ (done-row (s .args .depth) (s .args .leaves .now) _ _ refl (p .ensures .0) (t .enum-told .given .1))
+    (c .before .before .put-plan .ensures)
 
 pub put-answer-spec : {M : Type 1} → statement M
 put-answer-spec =
     tie.close
     (tie.spec
-    slice-aggregate-plan
-    plan-requires
-    enum-known-outcome
-    number-requires
-    put-refused-requires
-    enum-told
-    array-share-prefix-codes
-    slice-aggregate-put-plan
-    put-plan-requires
-    same-length
-    returns
-    same-length-2
-    returns-2)
+    (λ c. search needs) (λ c κs. search needs) (λ c. search needs) (λ c κs. search needs) (λ c κs. search needs)
+    (λ c. search needs) array-share-prefix-codes slice-aggregate-put-plan put-plan-requires (λ c. search needs) returns
+    (λ c. search needs) returns-2)

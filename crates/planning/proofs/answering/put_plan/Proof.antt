@@ -4,7 +4,7 @@ use Rattle.planning.proofs.Laying.{node-short, nodes-short}
 use Rattle.tree.specs.Nodes.{node}
 use Rattle.planning.proofs.AnswerLaws.{few-codes, codes-count, code-positive, the-node}
 use Rattle.planning.specs.Output.{nodesText}
-use Rattle.ways.specs.Ways.{chain}
+use Rattle.chain_theory.specs.Ways.{chain}
 use Rattle.base.specs.Bytes.{written}
 use lib.ListN.{length, drop}
 use native.Mathlib.Omega.{arith}
@@ -15,44 +15,42 @@ use Rattle.planning.proofs.answering.put_plan.Statement.{statement}
 use Rattle.planning.proofs.answering.put_plan.Tie as tie
 
 abbrev Inv-loop : tie.InvT-loop
-Inv-loop depth leaves codes out₀ at₀ i₀ out at i = (i ≤ length codes) × (written out at (nodesText (drop i (chain depth leaves))) ≡ written out₀ at₀ (nodesText (chain depth leaves))) × (at + length (nodesText (drop i (chain depth leaves))) ≡ at₀ + length (nodesText (chain depth leaves))) × (length out ≡ length out₀) × (at ≤ at₀ + 42 * i)
+Inv-loop depth leaves codes out₀ at₀ i₀ out at i =
+    (i ≤ length codes)
+    × (written out at (nodesText (drop i (chain depth leaves))) ≡ written out₀ at₀ (nodesText (chain depth leaves)))
+    × (at + length (nodesText (drop i (chain depth leaves))) ≡ at₀ + length (nodesText (chain depth leaves)))
+    × (length out ≡ length out₀) × (at ≤ at₀ + 42 * i)
 
 abbrev μ-loop : tie.MeasureT-loop
 μ-loop depth leaves codes out₀ at₀ i₀ out at i = length codes - i
-
-different-leaves-requires : tie.Need-different-leaves-requires Inv-loop μ-loop
-different-leaves-requires c κs = search needs
-
-put-head-requires : tie.Need-put-head-requires Inv-loop μ-loop
-put-head-requires c κs = search needs
-
-loop-holds : tie.Need-loop-holds Inv-loop μ-loop
-loop-holds c = search needs
-
-mul-node-of : tie.Need-mul-node-of Inv-loop μ-loop
-mul-node-of c = search needs
-
-shared-slice-read-node-of : tie.Need-shared-slice-read-node-of Inv-loop μ-loop
-shared-slice-read-node-of c = search needs
 
 node-of-requires : tie.Need-node-of-requires Inv-loop μ-loop
 node-of-requires c κs =
     let at = c .before .before in
     let s = at .before .before .before .before .before .before .before .before .before in
-    code-positive (s .args .depth) (s .args .leaves .now) (s .args .codes .now) (s .pre .1 .0) (at .loop .i) (omega (arith, c .before .loop-test .taken, codes-count (s .args .depth) (s .args .leaves .now) (s .args .codes .now) (s .pre .0) (s .pre .1 .0)))
+    code-positive (s .args .depth) (s .args .leaves .now) (s .args .codes .now) (s .pre .1 .0) (at .loop .i)
+    (omega (
+      arith,
+      c .before .loop-test .taken,
+      codes-count (s .args .depth) (s .args .leaves .now) (s .args .codes .now) (s .pre .0) (s .pre .1 .0),
+    ))
 
 put-node-requires : tie.Need-put-node-requires Inv-loop μ-loop
 put-node-requires c κs =
     let at = c .before .before .before .before in
     let s = at .before .before .before .before .before .before .before .before .before in
     let head = at .before .before .before .put-head in
-    omega (arith, c .before .before .before .loop-test .taken, at .loop .inv .3, at .loop .inv .4, head .ensures .next, head .kept .0, head-room (s .args .depth) (at .before .before .before .before .different-leaves .result) (length (s .args .codes .now)), s .pre .1 .1, few-codes (s .args .depth) (s .args .leaves .now) (s .args .codes .now) (s .pre .0) (s .pre .1 .0))
-
-add-i : tie.Need-add-i Inv-loop μ-loop
-add-i c = search needs
-
-loop-less : tie.Need-loop-less Inv-loop μ-loop
-loop-less c = search needs
+    omega (
+      arith,
+      c .before .before .before .loop-test .taken,
+      at .loop .inv .3,
+      at .loop .inv .4,
+      head .ensures .next,
+      head .kept .0,
+      head-room (s .args .depth) (at .before .before .before .before .different-leaves .result) (length (s .args .codes .now)),
+      s .pre .1 .1,
+      few-codes (s .args .depth) (s .args .leaves .now) (s .args .codes .now) (s .pre .0) (s .pre .1 .0),
+    )
 
 loop-again : tie.Need-loop-again Inv-loop μ-loop
 loop-again c =
@@ -68,7 +66,9 @@ loop-again c =
     let few = few-codes (a .depth) (a .leaves .now) (a .codes .now) (s .pre .0) (s .pre .1 .0) in
     let short = head-room (a .depth) (at .before .before .before .before .different-leaves .result) (length (a .codes .now)) in
     let all = nodes-short (chain (a .depth) (a .leaves .now)) in
-    let the = the-node (a .depth) (a .leaves .now) (a .codes .now) (s .pre .1 .0) (l .i) (omega arith) (spot .result .level) (spot .result .position) (spot .ensures .0) (spot .ensures .1) in
+    let the =
+    the-node (a .depth) (a .leaves .now) (a .codes .now) (s .pre .1 .0) (l .i) (omega arith) (spot .result .level)
+    (spot .result .position) (spot .ensures .0) (spot .ensures .1) in
     let wrote = nodes-wrote (chain (a .depth) (a .leaves .now)) (l .i) (node (spot .result .level) (spot .result .position)) (l .out) (put .last .0) (l .at) (put .result) (omega arith) the (put .ensures) (omega (arith, l .inv .2, l .inv .3, head .ensures .next, head .kept .0, s .pre .1 .1)) in (
       omega arith,
       wrote .0 ∙ l .inv .1,
@@ -77,32 +77,20 @@ loop-again c =
       omega (arith, put .ensures .next, l .inv .4, node-short (node (spot .result .level) (spot .result .position))),
     )
 
-same-length : tie.Need-same-length Inv-loop μ-loop
-same-length c = search needs
-
 returns : tie.Need-returns Inv-loop μ-loop
 returns c =
     let at = c .before in
     let l = at .loop in
     let s = at .before .before .before .before .before .before .before .before .before in
     let a = s .args in
-    plan-wrote (a .depth) (a .leaves .now) (a .codes .now) (s .pre .0) (s .pre .1 .0) (a .out .now) _ _ _ _ _ (l .i) (at .before .before .before .before .different-leaves .ensures) (at .before .before .before .put-head .ensures) (c .loop-test .left) (l .inv .1) (l .inv .2) (s .pre .1 .1)
+    plan-wrote (a .depth) (a .leaves .now) (a .codes .now) (s .pre .0) (s .pre .1 .0) (a .out .now) _ _ _ _ _ (l .i)
+    (at .before .before .before .before .different-leaves .ensures) (at .before .before .before .put-head .ensures)
+    (c .loop-test .left) (l .inv .1) (l .inv .2) (s .pre .1 .1)
 
 pub put-plan-spec : {M : Type 1} → statement M
 put-plan-spec =
     tie.close
     (tie.spec
-    Inv-loop
-    μ-loop
-    different-leaves-requires
-    put-head-requires
-    loop-holds
-    mul-node-of
-    shared-slice-read-node-of
-    node-of-requires
-    put-node-requires
-    add-i
-    loop-less
-    loop-again
-    same-length
-    returns)
+    Inv-loop μ-loop (λ c κs. search needs) (λ c κs. search needs) (λ c. search needs) (λ c. search needs)
+    (λ c. search needs) node-of-requires put-node-requires (λ c. search needs) (λ c. search needs) loop-again
+    (λ c. search needs) returns)

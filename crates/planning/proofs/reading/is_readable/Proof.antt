@@ -21,27 +21,14 @@ abbrev μ-loop : tie.MeasureT-loop
 loop-holds : tie.Need-loop-holds Inv-loop μ-loop
 loop-holds c = (omega arith, refl, all-start _)
 
-shared-slice-read-wide : tie.Need-shared-slice-read-wide Inv-loop μ-loop
-shared-slice-read-wide c = search needs
-
-wide-requires : tie.Need-wide-requires Inv-loop μ-loop
-wide-requires c κs = search needs
-
-step-requires : tie.Need-step-requires Inv-loop μ-loop
-step-requires c κs = search needs
-
 returns : tie.Need-returns Inv-loop μ-loop
 returns c =
     let l = c .before .before .before .before .before .before .loop in
     let s = c .before .before .before .before .before .before .before .before in
     let b = c .before .before .before .wide in
-    sym (all-stop (s .args .input .now) (l .i) (b .result) (l .value) (omega arith) (b .ensures .0) (sym (c .before .before .step .ensures .right) ∙ not-true _ (c .if1 .taken))) ∙ l .inv .2
-
-add-i : tie.Need-add-i Inv-loop μ-loop
-add-i c = search needs
-
-loop-less : tie.Need-loop-less Inv-loop μ-loop
-loop-less c = search needs
+    sym
+    (all-stop (s .args .input .now) (l .i) (b .result) (l .value) (omega arith) (b .ensures .0)
+    (sym (c .before .before .step .ensures .right) ∙ not-true _ (c .if1 .taken))) ∙ l .inv .2
 
 loop-again : tie.Need-loop-again Inv-loop μ-loop
 loop-again c =
@@ -53,7 +40,8 @@ loop-again c =
     let on = sym (step .ensures .right) ∙ good in (
       omega arith,
       next-fits (b .result) (l .value) _ on (step .ensures .after good),
-      all-turn (s .args .input .now) (l .i) (b .result) (l .value) (omega arith) (b .ensures .0) _ (l .inv .1) on (step .ensures .after good) ∙ l .inv .2,
+      all-turn (s .args .input .now) (l .i) (b .result) (l .value) (omega arith) (b .ensures .0) _ (l .inv .1) on
+          (step .ensures .after good) ∙ l .inv .2,
     )
 
 returns-2 : tie.Need-returns-2 Inv-loop μ-loop
@@ -63,14 +51,5 @@ pub is-readable-spec : {M : Type 1} → statement M
 is-readable-spec =
     tie.close
     (tie.spec
-    Inv-loop
-    μ-loop
-    loop-holds
-    shared-slice-read-wide
-    wide-requires
-    step-requires
-    returns
-    add-i
-    loop-less
-    loop-again
-    returns-2)
+    Inv-loop μ-loop loop-holds (λ c. search needs) (λ c κs. search needs) (λ c κs. search needs) returns
+    (λ c. search needs) (λ c. search needs) loop-again returns-2)

@@ -6,27 +6,24 @@ use Rattle.planning.proofs.reading.push.Statement.{statement}
 use Rattle.planning.proofs.reading.push.Tie as tie
 
 returns : tie.Need-returns
-returns c = let a = c .before .args in kept-none (a .within) (a .digit) (a .value) (a .count) (a .list .now) (none-open (a .within) (a .digit) (not-true _ (c .if1 .taken)))
+returns c =
+    let a = c .before .args in
+    kept-none (a .within) (a .digit) (a .value) (a .count) (a .list .now)
+    (none-open (a .within) (a .digit) (not-true _ (c .if1 .taken)))
 
 returns-2 : tie.Need-returns-2
-returns-2 c = let a = c .before .before .args in kept-none (a .within) (a .digit) (a .value) (a .count) (a .list .now) (goes-on (a .within) (a .digit) (c .if2 .taken))
-
-mul-list : tie.Need-mul-list
-mul-list c = search needs
-
-slice-write-list : tie.Need-slice-write-list
-slice-write-list c = search needs
-
-add-result : tie.Need-add-result
-add-result c = search needs
-
-same-length : tie.Need-same-length
-same-length c = search needs
+returns-2 c =
+    let a = c .before .before .args in
+    kept-none (a .within) (a .digit) (a .value) (a .count) (a .list .now) (goes-on (a .within) (a .digit) (c .if2 .taken))
 
 returns-3 : tie.Need-returns-3
-returns-3 c = let a = c .before .before .args in kept-one (a .list .now) (a .count) (a .value) (a .within) (a .digit) (c .before .before .pre) (ends-here (a .within) (a .digit) (not-false _ (c .before .if1 .left)) (c .if2 .left))
+returns-3 c =
+    let a = c .before .before .args in
+    kept-one (a .list .now) (a .count) (a .value) (a .within) (a .digit) (c .before .before .pre)
+    (ends-here (a .within) (a .digit) (not-false _ (c .before .if1 .left)) (c .if2 .left))
 
 pub push-spec : {M : Type 1} → statement M
 push-spec =
     tie.close
-    (tie.spec returns returns-2 mul-list slice-write-list add-result same-length returns-3)
+    (tie.spec
+    returns returns-2 (λ c. search needs) (λ c. search needs) (λ c. search needs) (λ c. search needs) returns-3)

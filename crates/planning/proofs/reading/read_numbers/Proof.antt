@@ -15,7 +15,10 @@ use Rattle.planning.proofs.reading.read_numbers.Statement.{statement}
 use Rattle.planning.proofs.reading.read_numbers.Tie as tie
 
 abbrev Inv-loop : tie.InvT-loop
-Inv-loop input list₀ count₀ value₀ within₀ i₀ list count value within i = (i ≤ length input) × (length list ≡ 202) × (count < 202) × (take count list ++ numbersFrom within value (drop i input) ≡ numbers input) × (fits value ≡ true) × (allFit true value (drop i input) ≡ true) × (drop count list ≡ drop count (zeros 202))
+Inv-loop input list₀ count₀ value₀ within₀ i₀ list count value within i =
+    (i ≤ length input) × (length list ≡ 202) × (count < 202)
+    × (take count list ++ numbersFrom within value (drop i input) ≡ numbers input) × (fits value ≡ true)
+    × (allFit true value (drop i input) ≡ true) × (drop count list ≡ drop count (zeros 202))
 
 abbrev μ-loop : tie.MeasureT-loop
 μ-loop input list₀ count₀ value₀ within₀ i₀ list count value within i = length input - i
@@ -23,18 +26,6 @@ abbrev μ-loop : tie.MeasureT-loop
 loop-holds : tie.Need-loop-holds Inv-loop μ-loop
 unfolding numbers
 loop-holds c = (omega arith, refl, omega arith, refl, refl, all-start _ ∙ c .before .pre, refl)
-
-shared-slice-read-wide : tie.Need-shared-slice-read-wide Inv-loop μ-loop
-shared-slice-read-wide c = search needs
-
-wide-requires : tie.Need-wide-requires Inv-loop μ-loop
-wide-requires c κs = search needs
-
-step-requires : tie.Need-step-requires Inv-loop μ-loop
-step-requires c κs = search needs
-
-slice-aggregate-push : tie.Need-slice-aggregate-push Inv-loop μ-loop
-slice-aggregate-push c = search needs
 
 push-requires : tie.Need-push-requires Inv-loop μ-loop
 push-requires c κs = omega (arith, c .before .before .before .before .before .loop .inv .1)
@@ -48,17 +39,21 @@ returns c =
     let push = c .before .before .push in
     let bytes = s .args .input .now in
     let short = ended-short (l .within) (step .result .digit) (l .value) in
-    let room : l .count + length (ended (l .within) (step .result .digit) (l .value)) ≤ length (l .list) = omega (arith, l .inv .1, l .inv .2, short) in
+    let room : l .count + length (ended (l .within) (step .result .digit) (l .value)) ≤ length (l .list) =
+    omega (arith, l .inv .1, l .inv .2, short) in
     let good = step .ensures .right ∙ must-go bytes (l .i) (b .result) (l .value) (omega arith) (b .ensures .0) (l .inv .5) in
-    let turn = numbers-turn bytes (l .i) (b .result) (l .value) (omega arith) (b .ensures .0) (l .within) (step .result .digit) (step .result .value) (take (l .count) (l .list)) (take (push .result) (push .last .0)) (numbers bytes) (step .ensures .kind good) (step .ensures .after good) (kept-first (l .list) _ _ (l .count) _ (push .ensures) room) (l .inv .3) in
-    let all = first-full (push .last .0) _ (numbers bytes) (push .result) (omega (arith, push .ensures .next, room, push .kept .0)) (push .kept .0 ∙ l .inv .1) (c .if1 .taken) turn in
-    (all-kept (push .last .0) (zeros 202) _ (push .result) (all .0) (all .1) (kept-behind (l .list) _ _ (l .count) _ (push .ensures) room (zeros 202) (l .inv .6)), all .1)
-
-add-i : tie.Need-add-i Inv-loop μ-loop
-add-i c = search needs
-
-loop-less : tie.Need-loop-less Inv-loop μ-loop
-loop-less c = search needs
+    let turn =
+    numbers-turn bytes (l .i) (b .result) (l .value) (omega arith) (b .ensures .0) (l .within) (step .result .digit)
+    (step .result .value) (take (l .count) (l .list)) (take (push .result) (push .last .0)) (numbers bytes)
+    (step .ensures .kind good) (step .ensures .after good) (kept-first (l .list) _ _ (l .count) _ (push .ensures) room)
+    (l .inv .3) in
+    let all =
+    first-full (push .last .0) _ (numbers bytes) (push .result) (omega (arith, push .ensures .next, room, push .kept .0))
+    (push .kept .0 ∙ l .inv .1) (c .if1 .taken) turn in (
+      all-kept (push .last .0) (zeros 202) _ (push .result) (all .0) (all .1)
+          (kept-behind (l .list) _ _ (l .count) _ (push .ensures) room (zeros 202) (l .inv .6)),
+      all .1,
+    )
 
 loop-again : tie.Need-loop-again Inv-loop μ-loop
 loop-again c =
@@ -69,20 +64,21 @@ loop-again c =
     let push = c .before .before .push in
     let bytes = s .args .input .now in
     let short = ended-short (l .within) (step .result .digit) (l .value) in
-    let room : l .count + length (ended (l .within) (step .result .digit) (l .value)) ≤ length (l .list) = omega (arith, l .inv .1, l .inv .2, short) in
+    let room : l .count + length (ended (l .within) (step .result .digit) (l .value)) ≤ length (l .list) =
+    omega (arith, l .inv .1, l .inv .2, short) in
     let on = must-go bytes (l .i) (b .result) (l .value) (omega arith) (b .ensures .0) (l .inv .5) in
     let good = step .ensures .right ∙ on in (
       omega arith,
       push .kept .0 ∙ l .inv .1,
       c .if1 .left,
-      numbers-turn bytes (l .i) (b .result) (l .value) (omega arith) (b .ensures .0) (l .within) (step .result .digit) (step .result .value) (take (l .count) (l .list)) (take (push .result) (push .last .0)) (numbers bytes) (step .ensures .kind good) (step .ensures .after good) (kept-first (l .list) _ _ (l .count) _ (push .ensures) room) (l .inv .3),
+      numbers-turn bytes (l .i) (b .result) (l .value) (omega arith) (b .ensures .0) (l .within) (step .result .digit)
+          (step .result .value) (take (l .count) (l .list)) (take (push .result) (push .last .0)) (numbers bytes)
+          (step .ensures .kind good) (step .ensures .after good) (kept-first (l .list) _ _ (l .count) _ (push .ensures) room)
+          (l .inv .3),
       next-fits (b .result) (l .value) _ on (step .ensures .after good),
       all-turn bytes (l .i) (b .result) (l .value) (omega arith) (b .ensures .0) _ (l .inv .4) on (step .ensures .after good) ∙ l .inv .5,
       kept-behind (l .list) _ _ (l .count) _ (push .ensures) room (zeros 202) (l .inv .6),
     )
-
-slice-aggregate-push-2 : tie.Need-slice-aggregate-push-2 Inv-loop μ-loop
-slice-aggregate-push-2 c = search needs
 
 push-requires-2 : tie.Need-push-requires-2 Inv-loop μ-loop
 push-requires-2 c κs = omega (arith, c .before .before .loop .inv .1, c .before .before .loop .inv .2)
@@ -94,26 +90,22 @@ returns-2 c =
     let push = c .before .push2 in
     let short = ended-short (l .within) false (l .value) in
     let room : l .count + length (ended (l .within) false (l .value)) ≤ length (l .list) = omega (arith, l .inv .1, l .inv .2, short) in
-    let last = numbers-last bytes (l .i) (l .value) (l .within) (take (l .count) (l .list)) (take (push .result) (push .last .0)) (numbers bytes) (c .before .before .before .loop-test .left) (kept-first (l .list) _ _ (l .count) _ (push .ensures) room) (l .inv .3) in
-    let all = first-all (push .last .0) (numbers bytes) (push .result) (omega (arith, push .ensures .next, room, push .kept .0)) (push .kept .0 ∙ l .inv .1) last in
-    (all-kept (push .last .0) (zeros 202) _ (push .result) (all .0) (all .1) (kept-behind (l .list) _ _ (l .count) _ (push .ensures) room (zeros 202) (l .inv .6)), all .1)
+    let last =
+    numbers-last bytes (l .i) (l .value) (l .within) (take (l .count) (l .list)) (take (push .result) (push .last .0))
+    (numbers bytes) (c .before .before .before .loop-test .left)
+    (kept-first (l .list) _ _ (l .count) _ (push .ensures) room) (l .inv .3) in
+    let all =
+    first-all (push .last .0) (numbers bytes) (push .result) (omega (arith, push .ensures .next, room, push .kept .0))
+    (push .kept .0 ∙ l .inv .1) last in (
+      all-kept (push .last .0) (zeros 202) _ (push .result) (all .0) (all .1)
+          (kept-behind (l .list) _ _ (l .count) _ (push .ensures) room (zeros 202) (l .inv .6)),
+      all .1,
+    )
 
 pub read-numbers-spec : {M : Type 1} → statement M
 read-numbers-spec =
     tie.close
     (tie.spec
-    Inv-loop
-    μ-loop
-    loop-holds
-    shared-slice-read-wide
-    wide-requires
-    step-requires
-    slice-aggregate-push
-    push-requires
-    returns
-    add-i
-    loop-less
-    loop-again
-    slice-aggregate-push-2
-    push-requires-2
+    Inv-loop μ-loop loop-holds (λ c. search needs) (λ c κs. search needs) (λ c κs. search needs) (λ c. search needs)
+    push-requires returns (λ c. search needs) (λ c. search needs) loop-again (λ c. search needs) push-requires-2
     returns-2)

@@ -17,17 +17,8 @@ returns-3 c = low-step _ _ (c .before .before .if1 .left) (c .before .if2 .left)
 returns-4 : tie.Need-returns-4
 returns-4 c = high-step _ _ (c .before .before .before .if1 .left) (c .before .before .if2 .left) (c .if4 .taken)
 
-sub-if5 : tie.Need-sub-if5
-sub-if5 c = search needs
-
 returns-5 : tie.Need-returns-5
 returns-5 c = over-step _ _ (omega arith) (omega arith) (omega arith)
-
-mul-t5 : tie.Need-mul-t5
-mul-t5 c = search needs
-
-add-t6 : tie.Need-add-t6
-add-t6 c = search needs
 
 returns-6 : tie.Need-returns-6
 returns-6 c = digit-step _ _ (omega arith) (omega arith) (omega arith)
@@ -35,4 +26,6 @@ returns-6 c = digit-step _ _ (omega arith) (omega arith) (omega arith)
 pub step-spec : {M : Type 1} → statement M
 step-spec =
     tie.close
-    (tie.spec returns returns-2 returns-3 returns-4 sub-if5 returns-5 mul-t5 add-t6 returns-6)
+    (tie.spec
+    returns returns-2 returns-3 returns-4 (λ c. search needs) returns-5 (λ c. search needs) (λ c. search needs)
+    returns-6)

@@ -4,17 +4,8 @@ use borrow.Author.Needs.{needs}
 use Rattle.planning.proofs.texts.end_line.Statement.{statement}
 use Rattle.planning.proofs.texts.end_line.Tie as tie
 
-slice-write-out : tie.Need-slice-write-out
-slice-write-out c = search needs
-
-add-result : tie.Need-add-result
-add-result c = search needs
-
-same-length : tie.Need-same-length
-same-length c = search needs
-
 returns : tie.Need-returns
 returns c = one-byte _ _ _ (c .pre)
 
 pub end-line-spec : {M : Type 1} → statement M
-end-line-spec = tie.close (tie.spec slice-write-out add-result same-length returns)
+end-line-spec = tie.close (tie.spec (λ c. search needs) (λ c. search needs) (λ c. search needs) returns)

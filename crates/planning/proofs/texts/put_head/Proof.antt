@@ -6,58 +6,63 @@ use borrow.Author.Needs.{needs}
 use Rattle.planning.proofs.texts.put_head.Statement.{statement}
 use Rattle.planning.proofs.texts.put_head.Tie as tie
 
-slice-aggregate-put-field : tie.Need-slice-aggregate-put-field
-slice-aggregate-put-field c = search needs
-
-put-field-requires : tie.Need-put-field-requires
-put-field-requires c κs = search needs
-
-slice-aggregate-put-field-2 : tie.Need-slice-aggregate-put-field-2
-slice-aggregate-put-field-2 c = search needs
-
 put-field-requires-2 : tie.Need-put-field-requires-2
-put-field-requires-2 c κs = let f = c .before .before .before .before .put-field in omega (arith, field-end depthWord _ (f .ensures), f .kept .0, c .before .before .before .before .before .before .before .before .pre)
-
-slice-aggregate-put-field-3 : tie.Need-slice-aggregate-put-field-3
-slice-aggregate-put-field-3 c = search needs
+put-field-requires-2 c κs =
+    let f = c .before .before .before .before .put-field in
+    omega (
+      arith,
+      field-end depthWord _ (f .ensures),
+      f .kept .0,
+      c .before .before .before .before .before .before .before .before .pre,
+    )
 
 put-field-requires-3 : tie.Need-put-field-requires-3
 put-field-requires-3 c κs =
     let g = c .before .before .before .before .put-field2 in
     let f = c .before .before .before .before .before .before .before .before .before .put-field in
-    omega (arith, field-end leavesWord _ (g .ensures), g .kept .0, field-end depthWord _ (f .ensures), f .kept .0, c .before .before .before .before .before .before .before .before .before .before .before .before .before .pre)
+    omega (
+      arith,
+      field-end leavesWord _ (g .ensures),
+      g .kept .0,
+      field-end depthWord _ (f .ensures),
+      f .kept .0,
+      c .before .before .before .before .before .before .before .before .before .before .before .before .before .pre,
+    )
 
 end-line-requires : tie.Need-end-line-requires
 end-line-requires c κs =
     let h = c .before .before .before .put-field3 in
     let g = c .before .before .before .before .before .before .before .before .put-field2 in
     let f = c .before .before .before .before .before .before .before .before .before .before .before .before .before .put-field in
-    omega (arith, field-end chainWord _ (h .ensures), h .kept .0, field-end leavesWord _ (g .ensures), g .kept .0, field-end depthWord _ (f .ensures), f .kept .0, c .before .before .before .before .before .before .before .before .before .before .before .before .before .before .before .before .before .pre)
-
-same-length : tie.Need-same-length
-same-length c = search needs
+    omega (
+      arith,
+      field-end chainWord _ (h .ensures),
+      h .kept .0,
+      field-end leavesWord _ (g .ensures),
+      g .kept .0,
+      field-end depthWord _ (f .ensures),
+      f .kept .0,
+      c .before .before .before .before .before .before .before .before .before .before .before .before .before .before .before .before .before .pre,
+    )
 
 returns : tie.Need-returns
 unfolding headText
 returns c =
     let h = c .before .before .before .before .before .before .put-field3 in
     let g = c .before .before .before .before .before .before .before .before .before .before .before .put-field2 in
-    let f = c .before .before .before .before .before .before .before .before .before .before .before .before .before .before .before .before .put-field in
-    let s = c .before .before .before .before .before .before .before .before .before .before .before .before .before .before .before .before .before .before .before .before in
+    let f =
+    c .before .before .before .before .before .before .before .before .before .before .before .before .before .before .before .before .put-field in
+    let s =
+    c .before .before .before .before .before .before .before .before .before .before .before .before .before .before .before .before .before .before .before .before in
     let a = s .args in
-    then (then (then (f .ensures) (g .ensures) (omega (arith, head-one (a .depth) (a .different), s .pre))) (h .ensures) (omega (arith, head-two (a .depth) (a .different) (a .count), s .pre)))
+    then
+    (then (then (f .ensures) (g .ensures) (omega (arith, head-one (a .depth) (a .different), s .pre))) (h .ensures)
+    (omega (arith, head-two (a .depth) (a .different) (a .count), s .pre)))
     (c .before .before .end-line .ensures) (omega (arith, head-short (a .depth) (a .different) (a .count), s .pre))
 
 pub put-head-spec : {M : Type 1} → statement M
 put-head-spec =
     tie.close
     (tie.spec
-    slice-aggregate-put-field
-    put-field-requires
-    slice-aggregate-put-field-2
-    put-field-requires-2
-    slice-aggregate-put-field-3
-    put-field-requires-3
-    end-line-requires
-    same-length
-    returns)
+    (λ c. search needs) (λ c κs. search needs) (λ c. search needs) put-field-requires-2 (λ c. search needs)
+    put-field-requires-3 end-line-requires (λ c. search needs) returns)

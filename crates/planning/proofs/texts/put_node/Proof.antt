@@ -8,26 +8,23 @@ use borrow.Author.Needs.{needs}
 use Rattle.planning.proofs.texts.put_node.Statement.{statement}
 use Rattle.planning.proofs.texts.put_node.Tie as tie
 
-slice-aggregate-put-field : tie.Need-slice-aggregate-put-field
-slice-aggregate-put-field c = search needs
-
-put-field-requires : tie.Need-put-field-requires
-put-field-requires c κs = search needs
-
-slice-aggregate-put-field-2 : tie.Need-slice-aggregate-put-field-2
-slice-aggregate-put-field-2 c = search needs
-
 put-field-requires-2 : tie.Need-put-field-requires-2
-put-field-requires-2 c κs = let f = c .before .before .before .before .put-field in omega (arith, field-end [] _ (f .ensures), f .kept .0, c .before .before .before .before .before .before .before .before .pre)
+put-field-requires-2 c κs =
+    let f = c .before .before .before .before .put-field in
+    omega (arith, field-end [] _ (f .ensures), f .kept .0, c .before .before .before .before .before .before .before .before .pre)
 
 end-line-requires : tie.Need-end-line-requires
 end-line-requires c κs =
     let g = c .before .before .before .put-field2 in
     let f = c .before .before .before .before .before .before .before .before .put-field in
-    omega (arith, field-end (32 ∷ []) _ (g .ensures), g .kept .0, field-end [] _ (f .ensures), f .kept .0, c .before .before .before .before .before .before .before .before .before .before .before .before .pre)
-
-same-length : tie.Need-same-length
-same-length c = search needs
+    omega (
+      arith,
+      field-end (32 ∷ []) _ (g .ensures),
+      g .kept .0,
+      field-end [] _ (f .ensures),
+      f .kept .0,
+      c .before .before .before .before .before .before .before .before .before .before .before .before .pre,
+    )
 
 returns : tie.Need-returns
 unfolding nodeText
@@ -43,10 +40,5 @@ pub put-node-spec : {M : Type 1} → statement M
 put-node-spec =
     tie.close
     (tie.spec
-    slice-aggregate-put-field
-    put-field-requires
-    slice-aggregate-put-field-2
-    put-field-requires-2
-    end-line-requires
-    same-length
-    returns)
+    (λ c. search needs) (λ c κs. search needs) (λ c. search needs) put-field-requires-2 end-line-requires
+    (λ c. search needs) returns)

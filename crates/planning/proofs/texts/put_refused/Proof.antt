@@ -6,17 +6,11 @@ use borrow.Author.Needs.{needs}
 use Rattle.planning.proofs.texts.put_refused.Statement.{statement}
 use Rattle.planning.proofs.texts.put_refused.Tie as tie
 
-slice-aggregate-put-field : tie.Need-slice-aggregate-put-field
-slice-aggregate-put-field c = search needs
-
-put-field-requires : tie.Need-put-field-requires
-put-field-requires c κs = search needs
-
 end-line-requires : tie.Need-end-line-requires
-end-line-requires c κs = let f = c .before .before .before .put-field in omega (arith, field-end refusedWord _ (f .ensures), f .kept .0, c .before .before .before .before .before .before .before .pre)
-
-same-length : tie.Need-same-length
-same-length c = search needs
+end-line-requires c κs =
+    let f = c .before .before .before .put-field in
+    omega
+    (arith, field-end refusedWord _ (f .ensures), f .kept .0, c .before .before .before .before .before .before .before .pre)
 
 returns : tie.Need-returns
 unfolding refusedText
@@ -28,4 +22,5 @@ returns c =
 pub put-refused-spec : {M : Type 1} → statement M
 put-refused-spec =
     tie.close
-    (tie.spec slice-aggregate-put-field put-field-requires end-line-requires same-length returns)
+    (tie.spec
+    (λ c. search needs) (λ c κs. search needs) end-line-requires (λ c. search needs) returns)

@@ -13,7 +13,9 @@ use Rattle.planning.proofs.texts.spell.Statement.{statement}
 use Rattle.planning.proofs.texts.spell.Tie as tie
 
 abbrev Inv-loop : tie.InvT-loop
-Inv-loop x text₀ i₀ rest₀ text i rest = (i < 20) × (length text ≡ 20) × (digits (i + 1) rest ++ drop (i + 1) text ≡ decimal x) × (rest < 10 ^ (i + 1)) × (take (i + 1) text ≡ zeros (i + 1))
+Inv-loop x text₀ i₀ rest₀ text i rest =
+    (i < 20) × (length text ≡ 20) × (digits (i + 1) rest ++ drop (i + 1) text ≡ decimal x) × (rest < 10 ^ (i + 1))
+    × (take (i + 1) text ≡ zeros (i + 1))
 
 abbrev μ-loop : tie.MeasureT-loop
 μ-loop x text₀ i₀ rest₀ text i rest = i
@@ -21,15 +23,6 @@ abbrev μ-loop : tie.MeasureT-loop
 loop-holds : tie.Need-loop-holds Inv-loop μ-loop
 unfolding decimal
 loop-holds c = (omega arith, refl, append-nil _, omega arith, refl)
-
-add-text : tie.Need-add-text Inv-loop μ-loop
-add-text c = search needs
-
-cast-text : tie.Need-cast-text Inv-loop μ-loop
-cast-text c = search needs
-
-array-write-text : tie.Need-array-write-text Inv-loop μ-loop
-array-write-text c = search needs
 
 sub-i : tie.Need-sub-i Inv-loop μ-loop
 sub-i c = omega (arith, ten-left (c .before .loop .i) (c .before .loop .rest) (c .loop-test .taken) (c .before .loop .inv .3))
@@ -48,34 +41,19 @@ loop-again c =
       zeros-more (l .text) (l .i) _ more (l .inv .4),
     )
 
-add-text-2 : tie.Need-add-text-2 Inv-loop μ-loop
-add-text-2 c = search needs
-
-cast-text-2 : tie.Need-cast-text-2 Inv-loop μ-loop
-cast-text-2 c = search needs
-
-array-write-text-2 : tie.Need-array-write-text-2 Inv-loop μ-loop
-array-write-text-2 c = search needs
-
 returns : tie.Need-returns Inv-loop μ-loop
 returns c =
-    let l = c .before .loop in
-    ((spelled-last (l .text) _ (l .i) (l .rest) (omega (arith, l .inv .1)) (c .loop-test .left) (l .inv .2), zeros-last (l .text) (l .i) _ (l .inv .4)), (l .inv .0, simp length-set (l .inv .1)))
+    let l = c .before .loop in (
+      (
+        spelled-last (l .text) _ (l .i) (l .rest) (omega (arith, l .inv .1)) (c .loop-test .left) (l .inv .2),
+        zeros-last (l .text) (l .i) _ (l .inv .4),
+      ),
+      (l .inv .0, simp length-set (l .inv .1)),
+    )
 
 pub spell-spec : {M : Type 1} → statement M
 spell-spec =
     tie.close
     (tie.spec
-    Inv-loop
-    μ-loop
-    loop-holds
-    add-text
-    cast-text
-    array-write-text
-    sub-i
-    loop-less
-    loop-again
-    add-text-2
-    cast-text-2
-    array-write-text-2
-    returns)
+    Inv-loop μ-loop loop-holds (λ c. search needs) (λ c. search needs) (λ c. search needs) sub-i loop-less loop-again
+    (λ c. search needs) (λ c. search needs) (λ c. search needs) returns)

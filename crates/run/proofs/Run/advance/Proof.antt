@@ -9,15 +9,13 @@ use Rattle.run.proofs.RowLaws.{Whole, may-go-on, labels-done, labels-re
 use Rattle.run.proofs.Run.advance.Statement.{statement}
 use Rattle.run.proofs.Run.advance.Tie as tie
 
-may-continue-requires : tie.Need-may-continue-requires
-may-continue-requires c κs = search needs
-
-enum-told : tie.Need-enum-told
-enum-told c = search needs
-
 -- the run may be continued
-whole : (c : tie.After-enum-told) → Whole (c .before .before .before .before .args .self) (length (c .before .before .before .before .args .store .now))
-whole c = may-go-on (c .before .before .before .before .args .self) (length (c .before .before .before .before .args .store .now)) (is-done _ _ (c .before .before .may-continue .ensures) (c .enum-told .given .1))
+whole :
+    (c : tie.After-enum-told)
+    → Whole (c .before .before .before .before .args .self) (length (c .before .before .before .before .args .store .now))
+whole c =
+    let entry = c .before .before .before .before in
+    may-go-on (entry .args .self) (length (entry .args .store .now)) (is-done _ _ (c .before .before .may-continue .ensures) (c .enum-told .given .1))
 
 nodes-requires : tie.Need-nodes-requires
 nodes-requires c κs = whole c .possible .depth
@@ -25,26 +23,28 @@ nodes-requires c κs = whole c .possible .depth
 sub-left : tie.Need-sub-left
 sub-left c = omega (arith, c .before .nodes .ensures, whole (c .before .before) .possible .made-few)
 
-smaller-requires : tie.Need-smaller-requires
-smaller-requires c κs = search needs
-
 label-many-requires : tie.Need-label-many-requires
 label-many-requires c κs =
     let w = whole (c .before .before .before .before) in
     (w .possible .depth, omega (arith, c .before .smaller .ensures, c .before .before .before .nodes .ensures, w .possible .made-few), w .room)
 
-enum-told-2 : tie.Need-enum-told-2
-enum-told-2 c = search needs
-
-same-length : tie.Need-same-length
-same-length c = search needs
-
 returns : tie.Need-returns
 returns c =
     let a = c .before .before .before .before .before .before .before .before .before .before .before .args in
     let o = c .before .before .before .before .before .before .before .before .before .may-continue in
-    let k = c .before .before .before .before .smaller .ensures ∙ ap (λ (x : ℕ). min (a .budget) (x - a .self .made)) (c .before .before .before .before .before .before .nodes .ensures) ∙ labels-done (a .self) (a .store .now) (a .budget) (is-done _ _ (o .ensures) (c .before .before .before .before .before .before .before .enum-told .given .1)) in
-    (o .ensures, (k, advanced-by (a .self) (a .store .now) (a .budget) _ _ _ k (c .before .before .label-many .ensures .0) (c .before .before .label-many .ensures .1)))
+    let k =
+    c .before .before .before .before .smaller .ensures
+    ∙ ap (λ (x : ℕ). min (a .budget) (x - a .self .made))
+    (c .before .before .before .before .before .before .nodes .ensures)
+    ∙ labels-done (a .self) (a .store .now) (a .budget)
+    (is-done _ _ (o .ensures) (c .before .before .before .before .before .before .before .enum-told .given .1)) in (
+      o .ensures,
+      (
+        k,
+        advanced-by (a .self) (a .store .now) (a .budget) _ _ _ k (c .before .before .label-many .ensures .0)
+            (c .before .before .label-many .ensures .1),
+      ),
+    )
 
 returns-2 : tie.Need-returns-2
 returns-2 c =
@@ -57,13 +57,5 @@ pub advance-spec : {M : Type 1} → statement M
 advance-spec =
     tie.close
     (tie.spec
-    may-continue-requires
-    enum-told
-    nodes-requires
-    sub-left
-    smaller-requires
-    label-many-requires
-    enum-told-2
-    same-length
-    returns
-    returns-2)
+    (λ c κs. search needs) (λ c. search needs) nodes-requires sub-left (λ c κs. search needs) label-many-requires
+    (λ c. search needs) (λ c. search needs) returns returns-2)

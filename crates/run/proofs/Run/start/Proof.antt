@@ -7,35 +7,29 @@ use borrow.Author.Needs.{needs}
 use Rattle.run.proofs.Run.start.Statement.{statement}
 use Rattle.run.proofs.Run.start.Tie as tie
 
-may-start-requires : tie.Need-may-start-requires
-may-start-requires c κs = search needs
-
-enum-told : tie.Need-enum-told
-enum-told c = search needs
-
-new-run-requires : tie.Need-new-run-requires
-new-run-requires c κs = search needs
-
-enum-told-2 : tie.Need-enum-told-2
-enum-told-2 c = search needs
-
-new-run-requires-2 : tie.Need-new-run-requires-2
-new-run-requires-2 c κs = search needs
-
 returns : tie.Need-returns
-returns c = (c .before .before .before .may-start .ensures, c .new-run .ensures ∙ start-done (c .before .before .before .before .before .args .statement) (c .before .before .before .before .before .args .depth) (c .before .before .before .before .before .args .memory) (length (c .before .before .before .before .before .args .store .now)) (is-done _ _ (c .before .before .before .may-start .ensures) (c .before .enum-told .given .1)))
+returns c =
+    let entry = c .before .before .before .before .before in
+    let may-start = c .before .before .before .may-start in (
+      may-start .ensures,
+      c .new-run .ensures
+          ∙ start-done (entry .args .statement) (entry .args .depth) (entry .args .memory) (length (entry .args .store .now))
+          (is-done _ _ (may-start .ensures) (c .before .enum-told .given .1)),
+    )
 
 returns-2 : tie.Need-returns-2
-returns-2 c = (c .before .before .before .may-start .ensures, c .new-run2 .ensures ∙ start-refused (c .before .before .before .before .before .args .statement) (c .before .before .before .before .before .args .depth) (c .before .before .before .before .before .args .memory) (length (c .before .before .before .before .before .args .store .now)) (is-refused _ _ _ (c .before .before .before .may-start .ensures) (c .before .enum-told2 .given .1)))
+returns-2 c =
+    let entry = c .before .before .before .before .before in
+    let may-start = c .before .before .before .may-start in (
+      may-start .ensures,
+      c .new-run2 .ensures
+          ∙ start-refused (entry .args .statement) (entry .args .depth) (entry .args .memory) (length (entry .args .store .now))
+          (is-refused _ _ _ (may-start .ensures) (c .before .enum-told2 .given .1)),
+    )
 
 pub start-spec : {M : Type 1} → statement M
 start-spec =
     tie.close
     (tie.spec
-    may-start-requires
-    enum-told
-    new-run-requires
-    enum-told-2
-    new-run-requires-2
-    returns
+    (λ c κs. search needs) (λ c. search needs) (λ c κs. search needs) (λ c. search needs) (λ c κs. search needs) returns
     returns-2)

@@ -6,24 +6,33 @@ use borrow.Author.Needs.{needs}
 use Rattle.run.proofs.checks.may_continue.Statement.{statement}
 use Rattle.run.proofs.checks.may_continue.Tie as tie
 
-not-possible-requires : tie.Need-not-possible-requires
-not-possible-requires c κs = search needs
-
 returns : tie.Need-returns
 unfolding continueRow
 returns c = rw (sym (c .before .not-possible .ensures) ∙ c .if1 .taken)
 
 store-short-requires : tie.Need-store-short-requires
-store-short-requires c κs = possible (c .before .before .args .run .depth) (c .before .before .args .run .memory) (c .before .before .args .run .made) (sym (c .before .not-possible .ensures) ∙ c .if1 .left) .memory
+store-short-requires c κs =
+    possible (c .before .before .args .run .depth) (c .before .before .args .run .memory) (c .before .before .args .run .made)
+    (sym (c .before .not-possible .ensures) ∙ c .if1 .left) .memory
 
 returns-2 : tie.Need-returns-2
 unfolding continueRow
-returns-2 c = rw (sym (c .before .before .before .not-possible .ensures) ∙ c .before .before .if1 .left, sym (c .before .store-short .ensures) ∙ c .if2 .taken)
+returns-2 c =
+    rw (
+      sym (c .before .before .before .not-possible .ensures) ∙ c .before .before .if1 .left,
+      sym (c .before .store-short .ensures) ∙ c .if2 .taken,
+    )
 
 returns-3 : tie.Need-returns-3
 unfolding continueRow
-returns-3 c = rw (sym (c .before .before .before .not-possible .ensures) ∙ c .before .before .if1 .left, sym (c .before .store-short .ensures) ∙ c .if2 .left)
+returns-3 c =
+    rw (
+      sym (c .before .before .before .not-possible .ensures) ∙ c .before .before .if1 .left,
+      sym (c .before .store-short .ensures) ∙ c .if2 .left,
+    )
 
 pub may-continue-spec : {M : Type 1} → statement M
 may-continue-spec =
-    tie.close (tie.spec not-possible-requires returns store-short-requires returns-2 returns-3)
+    tie.close
+    (tie.spec
+    (λ c κs. search needs) returns store-short-requires returns-2 returns-3)

@@ -6,39 +6,43 @@ use borrow.Author.Needs.{needs}
 use Rattle.run.proofs.checks.may_start.Statement.{statement}
 use Rattle.run.proofs.checks.may_start.Tie as tie
 
-depth-outside-requires : tie.Need-depth-outside-requires
-depth-outside-requires c κs = search needs
-
 returns : tie.Need-returns
 unfolding startRow
 returns c = rw (sym (c .before .depth-outside .ensures) ∙ c .if1 .taken)
 
-memory-over-requires : tie.Need-memory-over-requires
-memory-over-requires c κs = search needs
-
 returns-2 : tie.Need-returns-2
 unfolding startRow
-returns-2 c = rw (sym (c .before .before .before .depth-outside .ensures) ∙ c .before .before .if1 .left, sym (c .before .memory-over .ensures) ∙ c .if2 .taken)
+returns-2 c =
+    rw (
+      sym (c .before .before .before .depth-outside .ensures) ∙ c .before .before .if1 .left,
+      sym (c .before .memory-over .ensures) ∙ c .if2 .taken,
+    )
 
 store-short-requires : tie.Need-store-short-requires
-store-short-requires c κs = memory-inside (c .before .before .before .before .args .depth) (c .before .before .before .before .args .memory) (sym (c .before .memory-over .ensures) ∙ c .if2 .left)
+store-short-requires c κs =
+    let entry = c .before .before .before .before in
+    memory-inside (entry .args .depth) (entry .args .memory) (sym (c .before .memory-over .ensures) ∙ c .if2 .left)
 
 returns-3 : tie.Need-returns-3
 unfolding startRow
-returns-3 c = rw (sym (c .before .before .before .before .before .depth-outside .ensures) ∙ c .before .before .before .before .if1 .left, sym (c .before .before .before .memory-over .ensures) ∙ c .before .before .if2 .left, sym (c .before .store-short .ensures) ∙ c .if3 .taken)
+returns-3 c =
+    rw (
+      sym (c .before .before .before .before .before .depth-outside .ensures) ∙ c .before .before .before .before .if1 .left,
+      sym (c .before .before .before .memory-over .ensures) ∙ c .before .before .if2 .left,
+      sym (c .before .store-short .ensures) ∙ c .if3 .taken,
+    )
 
 returns-4 : tie.Need-returns-4
 unfolding startRow
-returns-4 c = rw (sym (c .before .before .before .before .before .depth-outside .ensures) ∙ c .before .before .before .before .if1 .left, sym (c .before .before .before .memory-over .ensures) ∙ c .before .before .if2 .left, sym (c .before .store-short .ensures) ∙ c .if3 .left)
+returns-4 c =
+    rw (
+      sym (c .before .before .before .before .before .depth-outside .ensures) ∙ c .before .before .before .before .if1 .left,
+      sym (c .before .before .before .memory-over .ensures) ∙ c .before .before .if2 .left,
+      sym (c .before .store-short .ensures) ∙ c .if3 .left,
+    )
 
 pub may-start-spec : {M : Type 1} → statement M
 may-start-spec =
     tie.close
     (tie.spec
-    depth-outside-requires
-    returns
-    memory-over-requires
-    returns-2
-    store-short-requires
-    returns-3
-    returns-4)
+    (λ c κs. search needs) returns (λ c κs. search needs) returns-2 store-short-requires returns-3 returns-4)

@@ -7,9 +7,6 @@ use Rattle.run.proofs.StepLaws.{nodes-full}
 use Rattle.run.proofs.checks.nodes.Statement.{statement}
 use Rattle.run.proofs.checks.nodes.Tie as tie
 
-shl-result : tie.Need-shl-result
-shl-result c = search needs
-
 mul-result : tie.Need-mul-result
 mul-result c = omega (arith, full (c .args .depth) (c .pre), pow-pos (c .args .depth), pow-mono {i = c .args .depth} {j = 40} (c .pre))
 
@@ -20,4 +17,4 @@ returns : tie.Need-returns
 returns c = nodes-full (c .args .depth) (c .pre)
 
 pub nodes-spec : {M : Type 1} → statement M
-nodes-spec = tie.close (tie.spec shl-result mul-result sub-result returns)
+nodes-spec = tie.close (tie.spec (λ c. search needs) mul-result sub-result returns)

@@ -5,31 +5,31 @@ use borrow.Author.Needs.{needs}
 use Rattle.run.proofs.checks.not_possible.Statement.{statement}
 use Rattle.run.proofs.checks.not_possible.Tie as tie
 
-depth-outside-requires : tie.Need-depth-outside-requires
-depth-outside-requires c κs = search needs
-
 returns : tie.Need-returns
 returns c = rw (sym (c .before .depth-outside .ensures) ∙ c .if1 .taken)
 
-memory-over-requires : tie.Need-memory-over-requires
-memory-over-requires c κs = search needs
-
 returns-2 : tie.Need-returns-2
-returns-2 c = rw (sym (c .before .before .before .depth-outside .ensures) ∙ c .before .before .if1 .left, sym (c .before .memory-over .ensures) ∙ c .if2 .taken)
+returns-2 c =
+    rw (
+      sym (c .before .before .before .depth-outside .ensures) ∙ c .before .before .if1 .left,
+      sym (c .before .memory-over .ensures) ∙ c .if2 .taken,
+    )
 
 nodes-requires : tie.Need-nodes-requires
-nodes-requires c κs = depth-inside (c .before .before .before .before .args .depth) (sym (c .before .before .before .depth-outside .ensures) ∙ c .before .before .if1 .left)
+nodes-requires c κs =
+    depth-inside (c .before .before .before .before .args .depth)
+    (sym (c .before .before .before .depth-outside .ensures) ∙ c .before .before .if1 .left)
 
 returns-3 : tie.Need-returns-3
-returns-3 c = rw (sym (c .before .before .before .before .depth-outside .ensures) ∙ c .before .before .before .if1 .left, sym (c .before .before .memory-over .ensures) ∙ c .before .if2 .left, c .nodes .ensures)
+returns-3 c =
+    rw (
+      sym (c .before .before .before .before .depth-outside .ensures) ∙ c .before .before .before .if1 .left,
+      sym (c .before .before .memory-over .ensures) ∙ c .before .if2 .left,
+      c .nodes .ensures,
+    )
 
 pub not-possible-spec : {M : Type 1} → statement M
 not-possible-spec =
     tie.close
     (tie.spec
-    depth-outside-requires
-    returns
-    memory-over-requires
-    returns-2
-    nodes-requires
-    returns-3)
+    (λ c κs. search needs) returns (λ c κs. search needs) returns-2 nodes-requires returns-3)

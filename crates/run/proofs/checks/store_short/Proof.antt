@@ -7,9 +7,6 @@ use borrow.Author.Needs.{needs}
 use Rattle.run.proofs.checks.store_short.Statement.{statement}
 use Rattle.run.proofs.checks.store_short.Tie as tie
 
-nodes-requires : tie.Need-nodes-requires
-nodes-requires c κs = search needs
-
 mul-size : tie.Need-mul-size
 mul-size c = omega (arith, c .nodes .ensures, nodesIn-suc (c .before .args .memory), pow-mono {i = c .before .args .memory} {j = 20} (c .before .pre))
 
@@ -18,4 +15,4 @@ unfolding nodesIn
 returns c = rw (c .nodes .ensures)
 
 pub store-short-spec : {M : Type 1} → statement M
-store-short-spec = tie.close (tie.spec nodes-requires mul-size returns)
+store-short-spec = tie.close (tie.spec (λ c κs. search needs) mul-size returns)

@@ -10,43 +10,76 @@ use borrow.Author.Needs.{needs}
 use Rattle.run.proofs.labels.keep.Statement.{statement}
 use Rattle.run.proofs.labels.keep.Tie as tie
 
-shl-at : tie.Need-shl-at
-shl-at c = search needs
-
 sub-at : tie.Need-sub-at
-sub-at c = omega (arith, full (c .before .before .before .before .args .w .level) (c .before .before .before .before .pre .0), pow-pos (c .before .before .before .before .args .w .level), pow-mono {i = c .before .before .before .before .args .w .level} {j = 40} (c .before .before .before .before .pre .0), c .before .before .before .before .pre .1)
+sub-at c =
+    let entry = c .before .before .before .before in
+    omega (
+      arith,
+      full (entry .args .w .level) (entry .pre .0),
+      pow-pos (entry .args .w .level),
+      pow-mono {i =
+          entry .args .w .level} {j = 40} (entry .pre .0),
+      entry .pre .1,
+    )
 
 add-at : tie.Need-add-at
-add-at c = omega (arith, full (c .before .before .before .before .before .args .w .level) (c .before .before .before .before .before .pre .0), pow-pos (c .before .before .before .before .before .args .w .level), pow-mono {i = c .before .before .before .before .before .args .w .level} {j = 40} (c .before .before .before .before .before .pre .0), c .before .before .before .before .before .pre .1)
+add-at c =
+    let entry = c .before .before .before .before .before in
+    omega (
+      arith,
+      full (entry .args .w .level) (entry .pre .0),
+      pow-pos (entry .args .w .level),
+      pow-mono {i =
+          entry .args .w .level} {j = 40} (entry .pre .0),
+      entry .pre .1,
+    )
 
 mul-at : tie.Need-mul-at
-mul-at c = omega (arith, full (c .before .before .before .before .before .args .w .level) (c .before .before .before .before .before .pre .0), pow-pos (c .before .before .before .before .before .args .w .level), pow-mono {i = c .before .before .before .before .before .args .w .level} {j = 40} (c .before .before .before .before .before .pre .0), c .before .before .before .before .before .pre .1)
+mul-at c =
+    let entry = c .before .before .before .before .before in
+    omega (
+      arith,
+      full (entry .args .w .level) (entry .pre .0),
+      pow-pos (entry .args .w .level),
+      pow-mono {i =
+          entry .args .w .level} {j = 40} (entry .pre .0),
+      entry .pre .1,
+    )
 
 slice-aggregate-put : tie.Need-slice-aggregate-put
 slice-aggregate-put c = search needs
 
 put-requires : tie.Need-put-requires
-put-requires c κs = let s = c .before .before .before .before .before .before .before .before in omega (arith, full (c .before .before .before .before .before .before .before .before .args .w .level) (c .before .before .before .before .before .before .before .before .pre .0), pow-pos (c .before .before .before .before .before .before .before .before .args .w .level), pow-mono {i = c .before .before .before .before .before .before .before .before .args .w .level} {j = 40} (c .before .before .before .before .before .before .before .before .pre .0), c .before .before .before .before .before .before .before .before .pre .1, slice-aggregate-put c, s .pre .2, slot-inside (s .args .memory) (node (s .args .w .level) (s .args .w .position)) (omega (arith, c .before .before .before .before .before .if1 .taken), s .pre .1))
-
-same-length : tie.Need-same-length
-same-length c = search needs
+put-requires c κs =
+    let entry = c .before .before .before .before .before .before .before .before in
+    let s = c .before .before .before .before .before .before .before .before in
+    omega (
+      arith,
+      full (entry .args .w .level) (entry .pre .0),
+      pow-pos (entry .args .w .level),
+      pow-mono {i = entry .args .w .level} {j = 40} (entry .pre .0),
+      entry .pre .1,
+      slice-aggregate-put c,
+      s .pre .2,
+      slot-inside (s .args .memory) (node (s .args .w .level) (s .args .w .position))
+          (omega (arith, c .before .before .before .before .before .if1 .taken), s .pre .1),
+    )
 
 returns : tie.Need-returns
-returns c = c .before .before .put .ensures ∙ kept (c .before .before .before .before .before .before .before .before .before .before .before .args .memory) (c .before .before .before .before .before .before .before .before .before .before .before .args .store .now) (c .before .before .before .before .before .before .before .before .before .before .before .args .w .level) (c .before .before .before .before .before .before .before .before .before .before .before .args .w .position) (c .before .before .before .before .before .before .before .before .before .before .before .args .w .label) (c .before .before .before .before .before .before .before .before .before .before .before .pre .0) (omega (arith, c .before .before .before .before .before .before .before .before .if1 .taken))
+returns c =
+    let entry = c .before .before .before .before .before .before .before .before .before .before .before in
+    c .before .before .put .ensures
+    ∙ kept (entry .args .memory) (entry .args .store .now) (entry .args .w .level) (entry .args .w .position)
+    (entry .args .w .label) (entry .pre .0)
+    (omega (arith, c .before .before .before .before .before .before .before .before .if1 .taken))
 
 returns-2 : tie.Need-returns-2
-returns-2 c = not-kept (c .before .before .before .args .memory) (c .before .before .before .args .store .now) (c .before .before .before .args .w .level) (c .before .before .before .args .w .position) (c .before .before .before .args .w .label) (c .if1 .left)
+returns-2 c =
+    let entry = c .before .before .before in
+    not-kept (entry .args .memory) (entry .args .store .now) (entry .args .w .level) (entry .args .w .position) (entry .args .w .label) (c .if1 .left)
 
 pub keep-spec : {M : Type 1} → statement M
 keep-spec =
     tie.close
     (tie.spec
-    shl-at
-    sub-at
-    add-at
-    mul-at
-    slice-aggregate-put
-    put-requires
-    same-length
-    returns
-    returns-2)
+    (λ c. search needs) sub-at add-at mul-at slice-aggregate-put put-requires (λ c. search needs) returns returns-2)

@@ -20,55 +20,64 @@ abbrev μ-loop : tie.MeasureT-loop
 μ-loop count store₀ statement depth memory made held₀ i₀ store held i = count - i
 
 loop-holds : tie.Need-loop-holds Inv-loop μ-loop
-loop-holds c = (omega arith, no-step (c .before .before .before .args .run .statement) (c .before .before .before .args .run .depth) (c .before .before .before .args .run .memory) (c .before .before .before .args .run .made) (c .before .before .before .args .run .held) (c .before .before .before .args .store .now), search needs, refl)
+loop-holds c =
+    let entry = c .before .before .before in (
+      omega arith,
+      no-step (entry .args .run .statement) (entry .args .run .depth) (entry .args .run .memory) (entry .args .run .made)
+          (entry .args .run .held) (entry .args .store .now),
+      search needs,
+      refl,
+    )
 
 add-label-one : tie.Need-add-label-one Inv-loop μ-loop
-add-label-one c = omega (arith, c .before .before .before .before .before .pre, small-nodes (c .before .before .before .before .before .args .run .depth) (c .before .before .before .before .before .pre .0))
+add-label-one c =
+    let entry = c .before .before .before .before .before in
+    omega (arith, entry .pre, small-nodes (entry .args .run .depth) (entry .pre .0))
 
 slice-aggregate-label-one : tie.Need-slice-aggregate-label-one Inv-loop μ-loop
 slice-aggregate-label-one c = sym (c .before .before .loop .inv .2)
 
 label-one-requires : tie.Need-label-one-requires Inv-loop μ-loop
-label-one-requires c κs = omega (arith, c .before .before .before .before .before .before .before .pre, c .before .before .before .loop .inv, c .before .before .loop-test .taken)
-
-add-i : tie.Need-add-i Inv-loop μ-loop
-add-i c = search needs
-
-loop-less : tie.Need-loop-less Inv-loop μ-loop
-loop-less c = search needs
+label-one-requires c κs =
+    omega (
+      arith,
+      c .before .before .before .before .before .before .before .pre,
+      c .before .before .before .loop .inv,
+      c .before .before .loop-test .taken,
+    )
 
 loop-again : tie.Need-loop-again Inv-loop μ-loop
 loop-again c =
+    let entry = c .before .before .before .before .before .before .before .before .before .before .before in
     let l = c .before .before .before .before .before .before .before .loop in
     let o = c .before .before .before .label-one in (
       search needs,
-      next-step (stamped (c .before .before .before .before .before .before .before .before .before .before .before .args .run) (c .before .before .before .before .before .before .before .before .before .before .before .args .store .now)) (c .before .before .before .before .before .before .before .before .before .before .before .args .run .statement) (c .before .before .before .before .before .before .before .before .before .before .before .args .run .depth) (c .before .before .before .before .before .before .before .before .before .before .before .args .run .memory) (c .before .before .before .before .before .before .before .before .before .before .before .args .run .made) (l .i) (l .held) (l .store) (l .inv .1) _ _ (o .ensures .0) (o .ensures .1),
+      next-step (stamped (entry .args .run) (entry .args .store .now)) (entry .args .run .statement) (entry .args .run .depth)
+          (entry .args .run .memory) (entry .args .run .made) (l .i) (l .held) (l .store) (l .inv .1) _ _ (o .ensures .0)
+          (o .ensures .1),
       omega (arith, o .kept, l .inv .2),
       omega (arith, o .kept, l .inv .3),
     )
 
 add-t17 : tie.Need-add-t17 Inv-loop μ-loop
-add-t17 c = omega (arith, c .before .before .before .before .before .pre, small-nodes (c .before .before .before .before .before .args .run .depth) (c .before .before .before .before .before .pre .0))
+add-t17 c =
+    let entry = c .before .before .before .before .before in
+    omega (arith, entry .pre, small-nodes (entry .args .run .depth) (entry .pre .0))
 
 same-length : tie.Need-same-length Inv-loop μ-loop
 same-length c = c .before .loop .inv .3
 
 returns : tie.Need-returns Inv-loop μ-loop
-returns c = let l = c .before .loop in all-steps (stamped (c .before .before .before .before .before .args .run) (c .before .before .before .before .before .args .store .now)) (c .before .before .before .before .before .args .run .statement) (c .before .before .before .before .before .args .run .depth) (c .before .before .before .before .before .args .run .memory) (c .before .before .before .before .before .args .run .made) (l .i) (l .held) (l .store) (l .inv .1) (c .before .before .before .before .before .args .count) (l .inv .0) (c .loop-test .left)
+returns c =
+    let entry = c .before .before .before .before .before in
+    let l = c .before .loop in
+    all-steps (stamped (entry .args .run) (entry .args .store .now)) (entry .args .run .statement) (entry .args .run .depth)
+    (entry .args .run .memory) (entry .args .run .made) (l .i) (l .held) (l .store) (l .inv .1) (entry .args .count) (l .inv .0)
+    (c .loop-test .left)
 
 pub label-many-spec : {M : Type 1} → statement M
 label-many-spec =
     tie.close
     (tie.spec
-    Inv-loop
-    μ-loop
-    loop-holds
-    add-label-one
-    slice-aggregate-label-one
-    label-one-requires
-    add-i
-    loop-less
-    loop-again
-    add-t17
-    same-length
-    returns)
+    Inv-loop μ-loop loop-holds add-label-one slice-aggregate-label-one label-one-requires (λ c. search needs)
+    (λ c. search needs) loop-again add-t17 same-length returns)

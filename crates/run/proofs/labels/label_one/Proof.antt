@@ -6,9 +6,6 @@ use borrow.Author.Needs.{needs}
 use Rattle.run.proofs.labels.label_one.Statement.{statement}
 use Rattle.run.proofs.labels.label_one.Tie as tie
 
-slice-aggregate-label-next : tie.Need-slice-aggregate-label-next
-slice-aggregate-label-next c = search needs
-
 label-next-requires : tie.Need-label-next-requires
 label-next-requires c κs = omega (arith, ones-zero)
 
@@ -19,25 +16,16 @@ keep-requires c κs =
     let t = next-in-tree (s .args .depth) (s .args .made) (w .result .level) (w .result .position) (s .pre .1) (w .ensures .0) in
     (omega (arith, t .0, s .pre .0), t .1, s .pre .3)
 
-same-length : tie.Need-same-length
-same-length c = search needs
-
-same-length-2 : tie.Need-same-length-2
-same-length-2 c = search needs
-
 returns : tie.Need-returns
 returns c =
     let s = c .before .before .before .before .before .before .before .before .before .before .before in
     let w = c .before .before .before .before .before .before .label-next in
-    one-step (s .args .statement) (s .args .depth) (s .args .memory) (s .args .made) (s .args .held .now) (s .args .store .now) (w .result .level) (w .result .position) (w .result .label) _ _ (w .ensures .0) (w .ensures .1 .0) (w .ensures .1 .1) (c .before .before .keep .ensures)
+    one-step (s .args .statement) (s .args .depth) (s .args .memory) (s .args .made) (s .args .held .now) (s .args .store .now)
+    (w .result .level) (w .result .position) (w .result .label) _ _ (w .ensures .0) (w .ensures .1 .0) (w .ensures .1 .1)
+    (c .before .before .keep .ensures)
 
 pub label-one-spec : {M : Type 1} → statement M
 label-one-spec =
     tie.close
     (tie.spec
-    slice-aggregate-label-next
-    label-next-requires
-    keep-requires
-    same-length
-    same-length-2
-    returns)
+    (λ c. search needs) label-next-requires keep-requires (λ c. search needs) (λ c. search needs) returns)

@@ -5,7 +5,7 @@ use borrow.Author.Needs.{needs}
 use native.Mathlib.Omega.{arith}
 use lib.ListN.{length}
 use Prim.Native.Nat.{_-_, _≤_}
-use Rattle.filed.specs.Filed.{labelsAnew}
+use Rattle.writing_theory.specs.Filed.{labelsAnew}
 use Rattle.writing.specs.Possible.{writtenOf}
 use Rattle.writing.specs.Steps.{steps}
 use Rattle.sealing.proofs.CountLaws.{small-anew}
@@ -15,7 +15,8 @@ use Rattle.sealing.proofs.opening_all.write_openings.Tie as tie
 
 abbrev Inv-loop : tie.InvT-loop
 Inv-loop depth memory challenges before all portion store file₀ err labels state₀ made₀ file state made =
-    (made ≤ labelsAnew depth memory challenges) × (state ≡ steps store made (writtenOf state₀ file₀) .writing) × (file ≡ steps store made (writtenOf state₀ file₀) .file) × (length file ≡ length file₀)
+    (made ≤ labelsAnew depth memory challenges) × (state ≡ steps store made (writtenOf state₀ file₀) .writing)
+    × (file ≡ steps store made (writtenOf state₀ file₀) .file) × (length file ≡ length file₀)
 
 abbrev μ-loop : tie.MeasureT-loop
 μ-loop depth memory challenges before all portion store file₀ err labels state₀ made₀ file state made = labelsAnew depth memory challenges - made
@@ -24,54 +25,146 @@ nodes-anew-requires : tie.Need-nodes-anew-requires Inv-loop μ-loop
 nodes-anew-requires c κs = let a = c .before .before in omega (arith, a .pre .0 .0 .depth, a .pre .0 .0 .memory)
 
 mul-labels : tie.Need-mul-labels Inv-loop μ-loop
-mul-labels c = let a = c .before .before .before in let size : length (a .args .statement) ≡ 32 = search needs in let few = small-anew (a .args .depth) (a .args .memory) (a .args .challenges) _ (a .pre .0 .0 .depth .1) (a .pre .0 .0 .count .1) refl in let all : a .args .challenges * c .nodes-anew .result ≡ labelsAnew (a .args .depth) (a .args .memory) (a .args .challenges) = rw (c .nodes-anew .ensures) in omega (arith, few, all)
-
-start-requires : tie.Need-start-requires Inv-loop μ-loop
-start-requires c κs = search needs
+mul-labels c =
+    let a = c .before .before .before in
+    let size : length (a .args .statement) ≡ 32 = search needs in
+    let few =
+    small-anew (a .args .depth) (a .args .memory) (a .args .challenges) _ (a .pre .0 .0 .depth .1) (a .pre .0 .0 .count .1)
+    refl in
+    let all : a .args .challenges * c .nodes-anew .result ≡ labelsAnew (a .args .depth) (a .args .memory) (a .args .challenges) =
+    rw (c .nodes-anew .ensures) in
+    omega (arith, few, all)
 
 loop-holds : tie.Need-loop-holds Inv-loop μ-loop
 unfolding steps
 loop-holds c = (omega arith, refl, refl, refl)
 
-advance-requires : tie.Need-advance-requires Inv-loop μ-loop
-advance-requires c κs = search needs
-
 add-made : tie.Need-add-made Inv-loop μ-loop
-add-made c = let a = c .before .before .before .before .before .before .before .before .before .before .before .before .before .before .before .before in let size : length (a .args .statement) ≡ 32 = search needs in let few = small-anew (a .args .depth) (a .args .memory) (a .args .challenges) _ (a .pre .0 .0 .depth .1) (a .pre .0 .0 .count .1) refl in let all : a .args .challenges * c .before .before .before .before .before .before .before .before .before .before .before .before .before .nodes-anew .result ≡ labelsAnew (a .args .depth) (a .args .memory) (a .args .challenges) = rw (c .before .before .before .before .before .before .before .before .before .before .before .before .before .nodes-anew .ensures) in let l = c .before .before .before .before .before .before .before .loop in let call = c .before .before .before .before .advance in let taken = c .before .before .before .before .before .before .loop-test .taken in let e = call .ensures .1 .0 ∙ call-labels (a .args .statement) (a .args .root) (a .args .depth) (a .args .memory) (a .args .challenges) (a .args .store .now) (a .args .file .now) size (a .pre .0 .2) (a .pre .0 .0) (a .pre .0 .1) _ _ (c .before .before .before .before .before .before .before .before .before .before .before .start .ensures .1 .0) (c .before .before .before .before .before .before .before .before .before .before .before .start .ensures .1 .1) (l .made) (a .args .portion) (l .inv .0) _ _ (l .inv .1) (l .inv .2) in omega (arith, e, few, l .inv .0)
+add-made c =
+    let nodes-anew = c .before .before .before .before .before .before .before .before .before .before .before .before .before .nodes-anew in
+    let start = c .before .before .before .before .before .before .before .before .before .before .before .start in
+    let a =
+    c .before .before .before .before .before .before .before .before .before .before .before .before .before .before .before .before in
+    let size : length (a .args .statement) ≡ 32 = search needs in
+    let few =
+    small-anew (a .args .depth) (a .args .memory) (a .args .challenges) _ (a .pre .0 .0 .depth .1) (a .pre .0 .0 .count .1)
+    refl in
+    let all : a .args .challenges * nodes-anew .result ≡ labelsAnew (a .args .depth) (a .args .memory) (a .args .challenges) =
+    rw (nodes-anew .ensures) in
+    let l = c .before .before .before .before .before .before .before .loop in
+    let call = c .before .before .before .before .advance in
+    let taken = c .before .before .before .before .before .before .loop-test .taken in
+    let e =
+    call .ensures .1 .0
+    ∙ call-labels (a .args .statement) (a .args .root) (a .args .depth) (a .args .memory) (a .args .challenges)
+    (a .args .store .now) (a .args .file .now) size (a .pre .0 .2) (a .pre .0 .0) (a .pre .0 .1) _ _
+    (start .ensures .1 .0) (start .ensures .1 .1) (l .made) (a .args .portion) (l .inv .0) _ _ (l .inv .1)
+    (l .inv .2) in
+    omega (arith, e, few, l .inv .0)
 
 add-show-progress : tie.Need-add-show-progress Inv-loop μ-loop
-add-show-progress c = let a = c .before .before .before .before .before .before .before .before .before .before .before .before .before .before .before .before in let size : length (a .args .statement) ≡ 32 = search needs in let few = small-anew (a .args .depth) (a .args .memory) (a .args .challenges) _ (a .pre .0 .0 .depth .1) (a .pre .0 .0 .count .1) refl in let all : a .args .challenges * c .before .before .before .before .before .before .before .before .before .before .before .before .before .nodes-anew .result ≡ labelsAnew (a .args .depth) (a .args .memory) (a .args .challenges) = rw (c .before .before .before .before .before .before .before .before .before .before .before .before .before .nodes-anew .ensures) in let l = c .before .before .before .before .before .before .before .loop in let call = c .before .before .before .before .advance in let taken = c .before .before .before .before .before .before .loop-test .taken in let e = call .ensures .1 .0 ∙ call-labels (a .args .statement) (a .args .root) (a .args .depth) (a .args .memory) (a .args .challenges) (a .args .store .now) (a .args .file .now) size (a .pre .0 .2) (a .pre .0 .0) (a .pre .0 .1) _ _ (c .before .before .before .before .before .before .before .before .before .before .before .start .ensures .1 .0) (c .before .before .before .before .before .before .before .before .before .before .before .start .ensures .1 .1) (l .made) (a .args .portion) (l .inv .0) _ _ (l .inv .1) (l .inv .2) in omega (arith, e, few, l .inv .0, a .pre .1 .1)
-
-show-progress-requires : tie.Need-show-progress-requires Inv-loop μ-loop
-show-progress-requires c κs = search needs
+add-show-progress c =
+    let nodes-anew = c .before .before .before .before .before .before .before .before .before .before .before .before .before .nodes-anew in
+    let start = c .before .before .before .before .before .before .before .before .before .before .before .start in
+    let a =
+    c .before .before .before .before .before .before .before .before .before .before .before .before .before .before .before .before in
+    let size : length (a .args .statement) ≡ 32 = search needs in
+    let few =
+    small-anew (a .args .depth) (a .args .memory) (a .args .challenges) _ (a .pre .0 .0 .depth .1) (a .pre .0 .0 .count .1)
+    refl in
+    let all : a .args .challenges * nodes-anew .result ≡ labelsAnew (a .args .depth) (a .args .memory) (a .args .challenges) =
+    rw (nodes-anew .ensures) in
+    let l = c .before .before .before .before .before .before .before .loop in
+    let call = c .before .before .before .before .advance in
+    let taken = c .before .before .before .before .before .before .loop-test .taken in
+    let e =
+    call .ensures .1 .0
+    ∙ call-labels (a .args .statement) (a .args .root) (a .args .depth) (a .args .memory) (a .args .challenges)
+    (a .args .store .now) (a .args .file .now) size (a .pre .0 .2) (a .pre .0 .0) (a .pre .0 .1) _ _
+    (start .ensures .1 .0) (start .ensures .1 .1) (l .made) (a .args .portion) (l .inv .0) _ _ (l .inv .1)
+    (l .inv .2) in
+    omega (arith, e, few, l .inv .0, a .pre .1 .1)
 
 loop-less : tie.Need-loop-less Inv-loop μ-loop
-loop-less c = let a = c .before .before .before .before .before .before .before .before .before .before .before .before .before .before .before .before .before in let size : length (a .args .statement) ≡ 32 = search needs in let few = small-anew (a .args .depth) (a .args .memory) (a .args .challenges) _ (a .pre .0 .0 .depth .1) (a .pre .0 .0 .count .1) refl in let all : a .args .challenges * c .before .before .before .before .before .before .before .before .before .before .before .before .before .before .nodes-anew .result ≡ labelsAnew (a .args .depth) (a .args .memory) (a .args .challenges) = rw (c .before .before .before .before .before .before .before .before .before .before .before .before .before .before .nodes-anew .ensures) in let l = c .before .before .before .before .before .before .before .before .loop in let call = c .before .before .before .before .before .advance in let taken = c .before .before .before .before .before .before .before .loop-test .taken in let e = call .ensures .1 .0 ∙ call-labels (a .args .statement) (a .args .root) (a .args .depth) (a .args .memory) (a .args .challenges) (a .args .store .now) (a .args .file .now) size (a .pre .0 .2) (a .pre .0 .0) (a .pre .0 .1) _ _ (c .before .before .before .before .before .before .before .before .before .before .before .before .start .ensures .1 .0) (c .before .before .before .before .before .before .before .before .before .before .before .before .start .ensures .1 .1) (l .made) (a .args .portion) (l .inv .0) _ _ (l .inv .1) (l .inv .2) in omega (arith, e, taken, all, a .pre .1 .0)
+loop-less c =
+    let nodes-anew = c .before .before .before .before .before .before .before .before .before .before .before .before .before .before .nodes-anew in
+    let start = c .before .before .before .before .before .before .before .before .before .before .before .before .start in
+    let a =
+    c .before .before .before .before .before .before .before .before .before .before .before .before .before .before .before .before .before in
+    let size : length (a .args .statement) ≡ 32 = search needs in
+    let few =
+    small-anew (a .args .depth) (a .args .memory) (a .args .challenges) _ (a .pre .0 .0 .depth .1) (a .pre .0 .0 .count .1)
+    refl in
+    let all : a .args .challenges * nodes-anew .result ≡ labelsAnew (a .args .depth) (a .args .memory) (a .args .challenges) =
+    rw (nodes-anew .ensures) in
+    let l = c .before .before .before .before .before .before .before .before .loop in
+    let call = c .before .before .before .before .before .advance in
+    let taken = c .before .before .before .before .before .before .before .loop-test .taken in
+    let e =
+    call .ensures .1 .0
+    ∙ call-labels (a .args .statement) (a .args .root) (a .args .depth) (a .args .memory) (a .args .challenges)
+    (a .args .store .now) (a .args .file .now) size (a .pre .0 .2) (a .pre .0 .0) (a .pre .0 .1) _ _
+    (start .ensures .1 .0) (start .ensures .1 .1) (l .made) (a .args .portion) (l .inv .0) _ _ (l .inv .1)
+    (l .inv .2) in
+    omega (arith, e, taken, all, a .pre .1 .0)
 
 loop-again : tie.Need-loop-again Inv-loop μ-loop
-loop-again c = let a = c .before .before .before .before .before .before .before .before .before .before .before .before .before .before .before .before .before in let size : length (a .args .statement) ≡ 32 = search needs in let few = small-anew (a .args .depth) (a .args .memory) (a .args .challenges) _ (a .pre .0 .0 .depth .1) (a .pre .0 .0 .count .1) refl in let all : a .args .challenges * c .before .before .before .before .before .before .before .before .before .before .before .before .before .before .nodes-anew .result ≡ labelsAnew (a .args .depth) (a .args .memory) (a .args .challenges) = rw (c .before .before .before .before .before .before .before .before .before .before .before .before .before .before .nodes-anew .ensures) in let l = c .before .before .before .before .before .before .before .before .loop in let call = c .before .before .before .before .before .advance in let taken = c .before .before .before .before .before .before .before .loop-test .taken in let e = call .ensures .1 .0 ∙ call-labels (a .args .statement) (a .args .root) (a .args .depth) (a .args .memory) (a .args .challenges) (a .args .store .now) (a .args .file .now) size (a .pre .0 .2) (a .pre .0 .0) (a .pre .0 .1) _ _ (c .before .before .before .before .before .before .before .before .before .before .before .before .start .ensures .1 .0) (c .before .before .before .before .before .before .before .before .before .before .before .before .start .ensures .1 .1) (l .made) (a .args .portion) (l .inv .0) _ _ (l .inv .1) (l .inv .2) in (omega (arith, e, l .inv .0), next-state (a .args .statement) (a .args .root) (a .args .depth) (a .args .memory) (a .args .challenges) (a .args .store .now) (a .args .file .now) size (a .pre .0 .2) (a .pre .0 .0) (a .pre .0 .1) _ _ (c .before .before .before .before .before .before .before .before .before .before .before .before .start .ensures .1 .0) (c .before .before .before .before .before .before .before .before .before .before .before .before .start .ensures .1 .1) (l .made) (a .args .portion) (l .inv .0) _ _ (l .inv .1) (l .inv .2) _ (call .ensures .1 .0) _ (call .ensures .1 .1 .0), next-file (a .args .statement) (a .args .root) (a .args .depth) (a .args .memory) (a .args .challenges) (a .args .store .now) (a .args .file .now) size (a .pre .0 .2) (a .pre .0 .0) (a .pre .0 .1) _ _ (c .before .before .before .before .before .before .before .before .before .before .before .before .start .ensures .1 .0) (c .before .before .before .before .before .before .before .before .before .before .before .before .start .ensures .1 .1) (l .made) (a .args .portion) (l .inv .0) _ _ (l .inv .1) (l .inv .2) _ (call .ensures .1 .0) _ (call .ensures .1 .1 .1), search needs)
-
-same-length : tie.Need-same-length Inv-loop μ-loop
-same-length c = search needs
+loop-again c =
+    let nodes-anew = c .before .before .before .before .before .before .before .before .before .before .before .before .before .before .nodes-anew in
+    let start = c .before .before .before .before .before .before .before .before .before .before .before .before .start in
+    let a =
+    c .before .before .before .before .before .before .before .before .before .before .before .before .before .before .before .before .before in
+    let size : length (a .args .statement) ≡ 32 = search needs in
+    let few =
+    small-anew (a .args .depth) (a .args .memory) (a .args .challenges) _ (a .pre .0 .0 .depth .1) (a .pre .0 .0 .count .1)
+    refl in
+    let all : a .args .challenges * nodes-anew .result ≡ labelsAnew (a .args .depth) (a .args .memory) (a .args .challenges) =
+    rw (nodes-anew .ensures) in
+    let l = c .before .before .before .before .before .before .before .before .loop in
+    let call = c .before .before .before .before .before .advance in
+    let taken = c .before .before .before .before .before .before .before .loop-test .taken in
+    let e =
+    call .ensures .1 .0
+    ∙ call-labels (a .args .statement) (a .args .root) (a .args .depth) (a .args .memory) (a .args .challenges)
+    (a .args .store .now) (a .args .file .now) size (a .pre .0 .2) (a .pre .0 .0) (a .pre .0 .1) _ _
+    (start .ensures .1 .0) (start .ensures .1 .1) (l .made) (a .args .portion) (l .inv .0) _ _ (l .inv .1)
+    (l .inv .2) in (
+      omega (arith, e, l .inv .0),
+      next-state (a .args .statement) (a .args .root) (a .args .depth) (a .args .memory) (a .args .challenges)
+          (a .args .store .now) (a .args .file .now) size (a .pre .0 .2) (a .pre .0 .0) (a .pre .0 .1) _ _ (start .ensures .1 .0)
+          (start .ensures .1 .1) (l .made) (a .args .portion) (l .inv .0) _ _ (l .inv .1) (l .inv .2) _ (call .ensures .1 .0) _
+          (call .ensures .1 .1 .0),
+      next-file (a .args .statement) (a .args .root) (a .args .depth) (a .args .memory) (a .args .challenges)
+          (a .args .store .now) (a .args .file .now) size (a .pre .0 .2) (a .pre .0 .0) (a .pre .0 .1) _ _ (start .ensures .1 .0)
+          (start .ensures .1 .1) (l .made) (a .args .portion) (l .inv .0) _ _ (l .inv .1) (l .inv .2) _ (call .ensures .1 .0) _
+          (call .ensures .1 .1 .1),
+      search needs,
+    )
 
 returns : tie.Need-returns Inv-loop μ-loop
-returns c = let a = c .before .before .before .before .before .before .before .before .before .before in let size : length (a .args .statement) ≡ 32 = search needs in let few = small-anew (a .args .depth) (a .args .memory) (a .args .challenges) _ (a .pre .0 .0 .depth .1) (a .pre .0 .0 .count .1) refl in let all : a .args .challenges * c .before .before .before .before .before .before .before .nodes-anew .result ≡ labelsAnew (a .args .depth) (a .args .memory) (a .args .challenges) = rw (c .before .before .before .before .before .before .before .nodes-anew .ensures) in let l = c .before .loop in let done : l .made ≡ labelsAnew (a .args .depth) (a .args .memory) (a .args .challenges) = omega (arith, l .inv .0, c .loop-test .left, all) in (done, l .inv .2 ∙ ends (a .args .statement) (a .args .root) (a .args .depth) (a .args .memory) (a .args .challenges) (a .args .store .now) (a .args .file .now) size (a .pre .0 .2) (a .pre .0 .0) (a .pre .0 .1) _ _ (c .before .before .before .before .before .start .ensures .1 .0) (c .before .before .before .before .before .start .ensures .1 .1) (l .made) done)
+returns c =
+    let nodes-anew = c .before .before .before .before .before .before .before .nodes-anew in
+    let start = c .before .before .before .before .before .start in
+    let a = c .before .before .before .before .before .before .before .before .before .before in
+    let size : length (a .args .statement) ≡ 32 = search needs in
+    let few =
+    small-anew (a .args .depth) (a .args .memory) (a .args .challenges) _ (a .pre .0 .0 .depth .1) (a .pre .0 .0 .count .1)
+    refl in
+    let all : a .args .challenges * nodes-anew .result ≡ labelsAnew (a .args .depth) (a .args .memory) (a .args .challenges) =
+    rw (nodes-anew .ensures) in
+    let l = c .before .loop in
+    let done : l .made ≡ labelsAnew (a .args .depth) (a .args .memory) (a .args .challenges) =
+    omega (arith, l .inv .0, c .loop-test .left, all) in (
+      done,
+      l .inv .2
+          ∙ ends (a .args .statement) (a .args .root) (a .args .depth) (a .args .memory) (a .args .challenges)
+          (a .args .store .now) (a .args .file .now) size (a .pre .0 .2) (a .pre .0 .0) (a .pre .0 .1) _ _
+          (start .ensures .1 .0) (start .ensures .1 .1) (l .made) done,
+    )
 
 pub write-openings-spec : {M : Type 1} → statement M
 write-openings-spec =
     tie.close
     (tie.spec
-    Inv-loop
-    μ-loop
-    nodes-anew-requires
-    mul-labels
-    start-requires
-    loop-holds
-    advance-requires
-    add-made
-    add-show-progress
-    show-progress-requires
-    loop-less
-    loop-again
-    same-length
-    returns)
+    Inv-loop μ-loop nodes-anew-requires mul-labels (λ c κs. search needs) loop-holds (λ c κs. search needs) add-made
+    add-show-progress (λ c κs. search needs) loop-less loop-again (λ c. search needs) returns)

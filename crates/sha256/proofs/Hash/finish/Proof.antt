@@ -9,19 +9,20 @@ use borrow.Author.Needs.{needs}
 use Rattle.sha256.proofs.Hash.finish.Statement.{statement}
 use Rattle.sha256.proofs.Hash.finish.Tie as tie
 
-too-many-requires : tie.Need-too-many-requires
-too-many-requires c κs = search needs
-
 returns : tie.Need-returns
 unfolding finishRow finishDigest
 returns c = rw (sym (c .before .too-many .ensures) ∙ c .if1 .taken) (refl, (refl, refl))
 
 closed-requires : tie.Need-closed-requires
-closed-requires c κs = omega (arith, leb-false (maxHashed + 1) (c .before .before .args .self .taken + 0) (sym (c .before .too-many .ensures) ∙ c .if1 .left))
+closed-requires c κs =
+    omega (
+      arith,
+      leb-false (maxHashed + 1) (c .before .before .args .self .taken + 0) (sym (c .before .too-many .ensures) ∙ c .if1 .left),
+    )
 
 returns-2 : tie.Need-returns-2
 unfolding finishRow finishDigest
 returns-2 c = rw (sym (c .before .before .too-many .ensures) ∙ c .before .if1 .left) (refl, (c .closed .ensures, refl))
 
 pub finish-spec : {M : Type 1} → statement M
-finish-spec = tie.close (tie.spec too-many-requires returns closed-requires returns-2)
+finish-spec = tie.close (tie.spec (λ c κs. search needs) returns closed-requires returns-2)

@@ -20,39 +20,16 @@ loop-holds : tie.Need-loop-holds Inv-loop μ-loop
 unfolding hashAfter
 loop-holds c = (search needs, refl, refl)
 
-mul-at : tie.Need-mul-at Inv-loop μ-loop
-mul-at c = search needs
-
-sub-gather : tie.Need-sub-gather Inv-loop μ-loop
-sub-gather c = search needs
-
-part-gather-start : tie.Need-part-gather-start Inv-loop μ-loop
-part-gather-start c = search needs
-
-part-gather-end : tie.Need-part-gather-end Inv-loop μ-loop
-part-gather-end c = search needs
-
-gather-requires : tie.Need-gather-requires Inv-loop μ-loop
-gather-requires c κs = search needs
-
-compress-requires : tie.Need-compress-requires Inv-loop μ-loop
-compress-requires c κs = search needs
-
-add-i : tie.Need-add-i Inv-loop μ-loop
-add-i c = search needs
-
-loop-less : tie.Need-loop-less Inv-loop μ-loop
-loop-less c = search needs
-
 loop-again : tie.Need-loop-again Inv-loop μ-loop
-loop-again c = (
-  omega arith,
-  refl,
-  hashAfter-more _ _ _ _ _ _
-      (c .before .before .before .before .loop .inv .2)
-      (c .before .gather .ensures ∙ ap (words 16) (part-from (64 * c .before .before .before .before .loop .i) (c .before .before .before .before .before .before .args .bytes .now)))
-      (c .compress .ensures),
-)
+loop-again c =
+    let loop = c .before .before .before .before .loop in (
+      omega arith,
+      refl,
+      hashAfter-more _ _ _ _ _ _
+          (loop .inv .2)
+          (c .before .gather .ensures ∙ ap (words 16) (part-from (64 * loop .i) (c .before .before .before .before .before .before .args .bytes .now)))
+          (c .compress .ensures),
+    )
 
 returns : tie.Need-returns Inv-loop μ-loop
 returns c = c .before .loop .inv .2 ∙ ap (hashAfter _ _) (omega arith)
@@ -61,16 +38,5 @@ pub absorb-spec : {M : Type 1} → statement M
 absorb-spec =
     tie.close
     (tie.spec
-    Inv-loop
-    μ-loop
-    loop-holds
-    mul-at
-    sub-gather
-    part-gather-start
-    part-gather-end
-    gather-requires
-    compress-requires
-    add-i
-    loop-less
-    loop-again
-    returns)
+    Inv-loop μ-loop loop-holds (λ c. search needs) (λ c. search needs) (λ c. search needs) (λ c. search needs)
+    (λ c κs. search needs) (λ c κs. search needs) (λ c. search needs) (λ c. search needs) loop-again returns)

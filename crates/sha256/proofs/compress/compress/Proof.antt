@@ -5,21 +5,6 @@ use Rattle.sha256.proofs.Rounds.{compressed-sixteens}
 use Rattle.sha256.proofs.compress.compress.Statement.{statement}
 use Rattle.sha256.proofs.compress.compress.Tie as tie
 
-turn-and-extend-requires : tie.Need-turn-and-extend-requires
-turn-and-extend-requires c κs = search needs
-
-turn-and-extend-requires-2 : tie.Need-turn-and-extend-requires-2
-turn-and-extend-requires-2 c κs = search needs
-
-turn-and-extend-requires-3 : tie.Need-turn-and-extend-requires-3
-turn-and-extend-requires-3 c κs = search needs
-
-sixteen-requires : tie.Need-sixteen-requires
-sixteen-requires c κs = search needs
-
-sums-requires : tie.Need-sums-requires
-sums-requires c κs = search needs
-
 returns : tie.Need-returns
 returns c =
     let four = c .before in
@@ -40,9 +25,5 @@ pub compress-spec : {M : Type 1} → statement M
 compress-spec =
     tie.close
     (tie.spec
-    turn-and-extend-requires
-    turn-and-extend-requires-2
-    turn-and-extend-requires-3
-    sixteen-requires
-    sums-requires
+    (λ c κs. search needs) (λ c κs. search needs) (λ c κs. search needs) (λ c κs. search needs) (λ c κs. search needs)
     returns)

@@ -4,105 +4,6 @@ use Rattle.sha256.specs.Block.{sixteenRounds}
 use Rattle.sha256.proofs.compress.turn_and_extend.Statement.{statement}
 use Rattle.sha256.proofs.compress.turn_and_extend.Tie as tie
 
-turn-requires : tie.Need-turn-requires
-turn-requires c κs = search needs
-
-schedule-requires : tie.Need-schedule-requires
-schedule-requires c κs = search needs
-
-turn-requires-2 : tie.Need-turn-requires-2
-turn-requires-2 c κs = search needs
-
-schedule-requires-2 : tie.Need-schedule-requires-2
-schedule-requires-2 c κs = search needs
-
-turn-requires-3 : tie.Need-turn-requires-3
-turn-requires-3 c κs = search needs
-
-schedule-requires-3 : tie.Need-schedule-requires-3
-schedule-requires-3 c κs = search needs
-
-turn-requires-4 : tie.Need-turn-requires-4
-turn-requires-4 c κs = search needs
-
-schedule-requires-4 : tie.Need-schedule-requires-4
-schedule-requires-4 c κs = search needs
-
-turn-requires-5 : tie.Need-turn-requires-5
-turn-requires-5 c κs = search needs
-
-schedule-requires-5 : tie.Need-schedule-requires-5
-schedule-requires-5 c κs = search needs
-
-turn-requires-6 : tie.Need-turn-requires-6
-turn-requires-6 c κs = search needs
-
-schedule-requires-6 : tie.Need-schedule-requires-6
-schedule-requires-6 c κs = search needs
-
-turn-requires-7 : tie.Need-turn-requires-7
-turn-requires-7 c κs = search needs
-
-schedule-requires-7 : tie.Need-schedule-requires-7
-schedule-requires-7 c κs = search needs
-
-turn-requires-8 : tie.Need-turn-requires-8
-turn-requires-8 c κs = search needs
-
-schedule-requires-8 : tie.Need-schedule-requires-8
-schedule-requires-8 c κs = search needs
-
-turn-requires-9 : tie.Need-turn-requires-9
-turn-requires-9 c κs = search needs
-
-schedule-requires-9 : tie.Need-schedule-requires-9
-schedule-requires-9 c κs = search needs
-
-turn-requires-10 : tie.Need-turn-requires-10
-turn-requires-10 c κs = search needs
-
-schedule-requires-10 : tie.Need-schedule-requires-10
-schedule-requires-10 c κs = search needs
-
-turn-requires-11 : tie.Need-turn-requires-11
-turn-requires-11 c κs = search needs
-
-schedule-requires-11 : tie.Need-schedule-requires-11
-schedule-requires-11 c κs = search needs
-
-turn-requires-12 : tie.Need-turn-requires-12
-turn-requires-12 c κs = search needs
-
-schedule-requires-12 : tie.Need-schedule-requires-12
-schedule-requires-12 c κs = search needs
-
-turn-requires-13 : tie.Need-turn-requires-13
-turn-requires-13 c κs = search needs
-
-schedule-requires-13 : tie.Need-schedule-requires-13
-schedule-requires-13 c κs = search needs
-
-turn-requires-14 : tie.Need-turn-requires-14
-turn-requires-14 c κs = search needs
-
-schedule-requires-14 : tie.Need-schedule-requires-14
-schedule-requires-14 c κs = search needs
-
-turn-requires-15 : tie.Need-turn-requires-15
-turn-requires-15 c κs = search needs
-
-schedule-requires-15 : tie.Need-schedule-requires-15
-schedule-requires-15 c κs = search needs
-
-turn-requires-16 : tie.Need-turn-requires-16
-turn-requires-16 c κs = search needs
-
-schedule-requires-16 : tie.Need-schedule-requires-16
-schedule-requires-16 c κs = search needs
-
-block-of-requires : tie.Need-block-of-requires
-block-of-requires c κs = search needs
-
 returns : tie.Need-returns
 unfolding sixteenRounds
 returns c =
@@ -122,45 +23,56 @@ returns c =
     let s3 = s4 .before .before in
     let s2 = s3 .before .before in
     let s1 = s2 .before .before in (
-      rw (s16 .before .turn16 .ensures, s15 .before .turn15 .ensures, s14 .before .turn14 .ensures, s13 .before .turn13 .ensures, s12 .before .turn12 .ensures, s11 .before .turn11 .ensures, s10 .before .turn10 .ensures, s9 .before .turn9 .ensures, s8 .before .turn8 .ensures, s7 .before .turn7 .ensures, s6 .before .turn6 .ensures, s5 .before .turn5 .ensures, s4 .before .turn4 .ensures, s3 .before .turn3 .ensures, s2 .before .turn2 .ensures, s1 .before .turn .ensures),
-      rw (c .block-of .ensures) (record { w0 = s1 .schedule .ensures; w1 = s2 .schedule2 .ensures; w2 = s3 .schedule3 .ensures; w3 = s4 .schedule4 .ensures; w4 = s5 .schedule5 .ensures; w5 = s6 .schedule6 .ensures; w6 = s7 .schedule7 .ensures; w7 = s8 .schedule8 .ensures; w8 = s9 .schedule9 .ensures; w9 = s10 .schedule10 .ensures; w10 = s11 .schedule11 .ensures; w11 = s12 .schedule12 .ensures; w12 = s13 .schedule13 .ensures; w13 = s14 .schedule14 .ensures; w14 = s15 .schedule15 .ensures; w15 = s16 .schedule16 .ensures }),
+      rw (
+        s16 .before .turn16 .ensures,
+        s15 .before .turn15 .ensures,
+        s14 .before .turn14 .ensures,
+        s13 .before .turn13 .ensures,
+        s12 .before .turn12 .ensures,
+        s11 .before .turn11 .ensures,
+        s10 .before .turn10 .ensures,
+        s9 .before .turn9 .ensures,
+        s8 .before .turn8 .ensures,
+        s7 .before .turn7 .ensures,
+        s6 .before .turn6 .ensures,
+        s5 .before .turn5 .ensures,
+        s4 .before .turn4 .ensures,
+        s3 .before .turn3 .ensures,
+        s2 .before .turn2 .ensures,
+        s1 .before .turn .ensures,
+      ),
+      rw (c .block-of .ensures) (record {
+        w0 =
+            s1 .schedule .ensures;
+        w1 = s2 .schedule2 .ensures;
+        w2 = s3 .schedule3 .ensures;
+        w3 = s4 .schedule4 .ensures;
+        w4 =
+            s5 .schedule5 .ensures;
+        w5 = s6 .schedule6 .ensures;
+        w6 = s7 .schedule7 .ensures;
+        w7 = s8 .schedule8 .ensures;
+        w8 =
+            s9 .schedule9 .ensures;
+        w9 = s10 .schedule10 .ensures;
+        w10 = s11 .schedule11 .ensures;
+        w11 = s12 .schedule12 .ensures;
+        w12 = s13 .schedule13 .ensures;
+        w13 = s14 .schedule14 .ensures;
+        w14 = s15 .schedule15 .ensures;
+        w15 =
+            s16 .schedule16 .ensures;
+      }),
     )
 
 pub turn-and-extend-spec : {M : Type 1} → statement M
 turn-and-extend-spec =
     tie.close
     (tie.spec
-    turn-requires
-    schedule-requires
-    turn-requires-2
-    schedule-requires-2
-    turn-requires-3
-    schedule-requires-3
-    turn-requires-4
-    schedule-requires-4
-    turn-requires-5
-    schedule-requires-5
-    turn-requires-6
-    schedule-requires-6
-    turn-requires-7
-    schedule-requires-7
-    turn-requires-8
-    schedule-requires-8
-    turn-requires-9
-    schedule-requires-9
-    turn-requires-10
-    schedule-requires-10
-    turn-requires-11
-    schedule-requires-11
-    turn-requires-12
-    schedule-requires-12
-    turn-requires-13
-    schedule-requires-13
-    turn-requires-14
-    schedule-requires-14
-    turn-requires-15
-    schedule-requires-15
-    turn-requires-16
-    schedule-requires-16
-    block-of-requires
-    returns)
+    (λ c κs. search needs) (λ c κs. search needs) (λ c κs. search needs) (λ c κs. search needs) (λ c κs. search needs)
+    (λ c κs. search needs) (λ c κs. search needs) (λ c κs. search needs) (λ c κs. search needs) (λ c κs. search needs)
+    (λ c κs. search needs) (λ c κs. search needs) (λ c κs. search needs) (λ c κs. search needs) (λ c κs. search needs)
+    (λ c κs. search needs) (λ c κs. search needs) (λ c κs. search needs) (λ c κs. search needs) (λ c κs. search needs)
+    (λ c κs. search needs) (λ c κs. search needs) (λ c κs. search needs) (λ c κs. search needs) (λ c κs. search needs)
+    (λ c κs. search needs) (λ c κs. search needs) (λ c κs. search needs) (λ c κs. search needs) (λ c κs. search needs)
+    (λ c κs. search needs) (λ c κs. search needs) (λ c κs. search needs) returns)

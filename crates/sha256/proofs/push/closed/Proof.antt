@@ -37,12 +37,6 @@ slice-aggregate-absorb c =
     let n : length (c .before .before .before .last-blocks .result .bytes) ≡ 128 = search needs in
     sym (length-take-le _ _ (omega arith))
 
-absorb-requires : tie.Need-absorb-requires
-absorb-requires c κs = search needs
-
-digest-bytes-requires : tie.Need-digest-bytes-requires
-digest-bytes-requires c κs = search needs
-
 returns : tie.Need-returns
 returns c =
     let a = c .before in
@@ -51,17 +45,12 @@ returns c =
     c .digest-bytes .ensures ∙
     ap
     digestOf
-    (a .absorb .ensures ∙ ap (λ (l : List ℕ). hashAfter (s .words) l (blocks l)) (b .last-blocks .ensures .0) ∙ sym (pushed-padding s (tail-size (b .before .before))))
+    (a .absorb .ensures ∙ ap (λ (l : List ℕ). hashAfter (s .words) l (blocks l)) (b .last-blocks .ensures .0)
+    ∙ sym (pushed-padding s (tail-size (b .before .before))))
 
 pub closed-spec : {M : Type 1} → statement M
 closed-spec =
     tie.close
     (tie.spec
-    array-share-prefix-tail
-    slice-aggregate-last-blocks
-    last-blocks-requires
-    array-share-prefix-bytes
-    slice-aggregate-absorb
-    absorb-requires
-    digest-bytes-requires
-    returns)
+    array-share-prefix-tail slice-aggregate-last-blocks last-blocks-requires array-share-prefix-bytes
+    slice-aggregate-absorb (λ c κs. search needs) (λ c κs. search needs) returns)

@@ -8,17 +8,15 @@ use Rattle.base.proofs.Copying.{written-sets}
 use Rattle.sha256.proofs.push.within.Statement.{statement}
 use Rattle.sha256.proofs.push.within.Tie as tie
 
-slice-aggregate-put : tie.Need-slice-aggregate-put
-slice-aggregate-put c = search needs
-
 put-requires : tie.Need-put-requires
 put-requires c κs = let n : length (c .before .before .before .before .before .args .state .tail) ≡ 64 = search needs in omega arith
 
-add-t12 : tie.Need-add-t12
-add-t12 c = search needs
-
 returns : tie.Need-returns
-returns c = rw (c .before .before .put .ensures ∙ written-sets _ _ _ (put-requires (c .before .before .before) (c .before .before .put .lifetimes))) (sym (pushedAll-within _ _ (c .before .before .before .before .before .before .before .before .pre .0)))
+returns c =
+    rw
+    (c .before .before .put .ensures
+    ∙ written-sets _ _ _ (put-requires (c .before .before .before) (c .before .before .put .lifetimes)))
+    (sym (pushedAll-within _ _ (c .before .before .before .before .before .before .before .before .pre .0)))
 
 pub within-spec : {M : Type 1} → statement M
-within-spec = tie.close (tie.spec slice-aggregate-put put-requires add-t12 returns)
+within-spec = tie.close (tie.spec (λ c. search needs) put-requires (λ c. search needs) returns)

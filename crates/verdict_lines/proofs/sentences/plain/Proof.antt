@@ -4,17 +4,8 @@ use borrow.Author.Needs.{needs}
 use Rattle.verdict_lines.proofs.sentences.plain.Statement.{statement}
 use Rattle.verdict_lines.proofs.sentences.plain.Tie as tie
 
-slice-aggregate-sentence : tie.Need-slice-aggregate-sentence
-slice-aggregate-sentence c = search needs
-
-sentence-requires : tie.Need-sentence-requires
-sentence-requires c κs = search needs
-
 returns : tie.Need-returns
 returns c = plain-empty _ _ _ (c .before .before .if1 .taken) (c .sentence .ensures)
-
-words-for-requires : tie.Need-words-for-requires
-words-for-requires c κs = search needs
 
 returns-2 : tie.Need-returns-2
 returns-2 c = plain-words _ _ _ (c .before .if1 .left) (c .words-for .ensures)
@@ -22,4 +13,5 @@ returns-2 c = plain-words _ _ _ (c .before .if1 .left) (c .words-for .ensures)
 pub plain-spec : {M : Type 1} → statement M
 plain-spec =
     tie.close
-    (tie.spec slice-aggregate-sentence sentence-requires returns words-for-requires returns-2)
+    (tie.spec
+    (λ c. search needs) (λ c κs. search needs) returns (λ c κs. search needs) returns-2)

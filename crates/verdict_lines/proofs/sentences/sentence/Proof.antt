@@ -4,14 +4,8 @@ use borrow.Author.Needs.{needs}
 use Rattle.verdict_lines.proofs.sentences.sentence.Statement.{statement}
 use Rattle.verdict_lines.proofs.sentences.sentence.Tie as tie
 
-empty-requires : tie.Need-empty-requires
-empty-requires c κs = search needs
-
-add-requires : tie.Need-add-requires
-add-requires c κs = search needs
-
 returns : tie.Need-returns
 returns c = one (c .before .empty .ensures) (c .add .ensures) (c .before .before .before .pre)
 
 pub sentence-spec : {M : Type 1} → statement M
-sentence-spec = tie.close (tie.spec empty-requires add-requires returns)
+sentence-spec = tie.close (tie.spec (λ c κs. search needs) (λ c κs. search needs) returns)

@@ -4,17 +4,11 @@ use borrow.Author.Needs.{needs}
 use Rattle.verdict_lines.proofs.telling.refused.Statement.{statement}
 use Rattle.verdict_lines.proofs.telling.refused.Tie as tie
 
-plain-requires : tie.Need-plain-requires
-plain-requires c κs = search needs
-
-rejected-requires : tie.Need-rejected-requires
-rejected-requires c κs = search needs
-
-add-line-requires : tie.Need-add-line-requires
-add-line-requires c κs = search needs
-
 returns : tie.Need-returns
 returns c = refusal-told _ _ _ (c .add-line .ensures) (c .before .before .plain .ensures) (c .before .rejected .ensures)
 
 pub refused-spec : {M : Type 1} → statement M
-refused-spec = tie.close (tie.spec plain-requires rejected-requires add-line-requires returns)
+refused-spec =
+    tie.close
+    (tie.spec
+    (λ c κs. search needs) (λ c κs. search needs) (λ c κs. search needs) returns)

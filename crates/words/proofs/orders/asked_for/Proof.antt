@@ -5,15 +5,9 @@ use borrow.Author.Needs.{needs}
 use Rattle.words.proofs.orders.asked_for.Statement.{statement}
 use Rattle.words.proofs.orders.asked_for.Tie as tie
 
-seal-order-requires : tie.Need-seal-order-requires
-seal-order-requires c κs = search needs
-
 returns : tie.Need-returns
 unfolding asked
 returns c = rw (eq-eqb _ 1 (c .before .if1 .taken)) (c .seal-order .ensures)
-
-verify-order-requires : tie.Need-verify-order-requires
-verify-order-requires c κs = search needs
 
 returns-2 : tie.Need-returns-2
 unfolding asked
@@ -25,4 +19,6 @@ returns-3 c = rw (ne-eqb _ 1 (c .before .if1 .left), ne-eqb _ 2 (c .if2 .left))
 
 pub asked-for-spec : {M : Type 1} → statement M
 asked-for-spec =
-    tie.close (tie.spec seal-order-requires returns verify-order-requires returns-2 returns-3)
+    tie.close
+    (tie.spec
+    (λ c κs. search needs) returns (λ c κs. search needs) returns-2 returns-3)

@@ -9,14 +9,8 @@ use Rattle.words.proofs.orders.challenges_in.Tie as tie
 returns : tie.Need-returns
 returns c = rw (lt-ltb _ 5 (c .if1 .taken))
 
-word-requires : tie.Need-word-requires
-word-requires c κs = search needs
-
-value-requires : tie.Need-value-requires
-value-requires c κs = search needs
-
 returns-2 : tie.Need-returns-2
 returns-2 c = rw (le-ltb _ 5 (c .before .before .if1 .left)) (c .value .ensures ∙ ap valueOf (c .before .word .ensures))
 
 pub challenges-in-spec : {M : Type 1} → statement M
-challenges-in-spec = tie.close (tie.spec returns word-requires value-requires returns-2)
+challenges-in-spec = tie.close (tie.spec returns (λ c κs. search needs) (λ c κs. search needs) returns-2)

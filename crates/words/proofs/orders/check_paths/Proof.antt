@@ -18,11 +18,23 @@ returns-3 c = rw (ne-eqb _ 0 (c .before .before .if1 .left), ne-eqb _ 0 (c .befo
 
 returns-4 : tie.Need-returns-4
 unfolding pathRow
-returns-4 c = rw (ne-eqb _ 0 (c .before .before .before .if1 .left), ne-eqb _ 0 (c .before .before .if2 .left), le-ltb 4090 _ (c .before .if3 .left), lt-ltb 4090 _ (c .if4 .taken))
+returns-4 c =
+    rw (
+      ne-eqb _ 0 (c .before .before .before .if1 .left),
+      ne-eqb _ 0 (c .before .before .if2 .left),
+      le-ltb 4090 _ (c .before .if3 .left),
+      lt-ltb 4090 _ (c .if4 .taken),
+    )
 
 returns-5 : tie.Need-returns-5
 unfolding pathRow
-returns-5 c = rw (ne-eqb _ 0 (c .before .before .before .if1 .left), ne-eqb _ 0 (c .before .before .if2 .left), le-ltb 4090 _ (c .before .if3 .left), le-ltb 4090 _ (c .if4 .left))
+returns-5 c =
+    rw (
+      ne-eqb _ 0 (c .before .before .before .if1 .left),
+      ne-eqb _ 0 (c .before .before .if2 .left),
+      le-ltb 4090 _ (c .before .if3 .left),
+      le-ltb 4090 _ (c .if4 .left),
+    )
 
 pub check-paths-spec : {M : Type 1} → statement M
 check-paths-spec = tie.close (tie.spec returns returns-2 returns-3 returns-4 returns-5)

@@ -6,15 +6,9 @@ use borrow.Author.Needs.{needs}
 use Rattle.words.proofs.orders.check_seal.Statement.{statement}
 use Rattle.words.proofs.orders.check_seal.Tie as tie
 
-beyond-requires : tie.Need-beyond-requires
-beyond-requires c κs = search needs
-
 returns : tie.Need-returns
 unfolding sealRow
 returns c = rw (sym (c .before .beyond .ensures) ∙ c .if1 .taken)
-
-beyond-requires-2 : tie.Need-beyond-requires-2
-beyond-requires-2 c κs = search needs
 
 returns-2 : tie.Need-returns-2
 unfolding sealRow
@@ -22,17 +16,35 @@ returns-2 c = rw (sym (c .before .before .before .beyond .ensures) ∙ c .before
 
 returns-3 : tie.Need-returns-3
 unfolding sealRow
-returns-3 c = rw (sym (c .before .before .before .before .beyond .ensures) ∙ c .before .before .before .if1 .left, sym (c .before .before .beyond2 .ensures) ∙ c .before .if2 .left, lt-ltb _ _ (c .if3 .taken))
+returns-3 c =
+    rw (
+      sym (c .before .before .before .before .beyond .ensures) ∙ c .before .before .before .if1 .left,
+      sym (c .before .before .beyond2 .ensures) ∙ c .before .if2 .left,
+      lt-ltb _ _ (c .if3 .taken),
+    )
 
 returns-4 : tie.Need-returns-4
 unfolding sealRow
-returns-4 c = rw (sym (c .before .before .before .before .before .beyond .ensures) ∙ c .before .before .before .before .if1 .left, sym (c .before .before .before .beyond2 .ensures) ∙ c .before .before .if2 .left, le-ltb _ _ (c .before .if3 .left), lt-ltb 14 _ (c .if4 .taken))
+returns-4 c =
+    rw (
+      sym (c .before .before .before .before .before .beyond .ensures) ∙ c .before .before .before .before .if1 .left,
+      sym (c .before .before .before .beyond2 .ensures) ∙ c .before .before .if2 .left,
+      le-ltb _ _ (c .before .if3 .left),
+      lt-ltb 14 _ (c .if4 .taken),
+    )
 
 returns-5 : tie.Need-returns-5
 unfolding sealRow
-returns-5 c = rw (sym (c .before .before .before .before .before .beyond .ensures) ∙ c .before .before .before .before .if1 .left, sym (c .before .before .before .beyond2 .ensures) ∙ c .before .before .if2 .left, le-ltb _ _ (c .before .if3 .left), le-ltb 14 _ (c .if4 .left))
+returns-5 c =
+    rw (
+      sym (c .before .before .before .before .before .beyond .ensures) ∙ c .before .before .before .before .if1 .left,
+      sym (c .before .before .before .beyond2 .ensures) ∙ c .before .before .if2 .left,
+      le-ltb _ _ (c .before .if3 .left),
+      le-ltb 14 _ (c .if4 .left),
+    )
 
 pub check-seal-spec : {M : Type 1} → statement M
 check-seal-spec =
     tie.close
-    (tie.spec beyond-requires returns beyond-requires-2 returns-2 returns-3 returns-4 returns-5)
+    (tie.spec
+    (λ c κs. search needs) returns (λ c κs. search needs) returns-2 returns-3 returns-4 returns-5)

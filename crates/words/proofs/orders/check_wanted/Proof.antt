@@ -5,15 +5,9 @@ use borrow.Author.Needs.{needs}
 use Rattle.words.proofs.orders.check_wanted.Statement.{statement}
 use Rattle.words.proofs.orders.check_wanted.Tie as tie
 
-beyond-requires : tie.Need-beyond-requires
-beyond-requires c κs = search needs
-
 returns : tie.Need-returns
 unfolding wantedRow
 returns c = rw (sym (c .before .beyond .ensures) ∙ c .if1 .taken)
-
-beyond-requires-2 : tie.Need-beyond-requires-2
-beyond-requires-2 c κs = search needs
 
 returns-2 : tie.Need-returns-2
 unfolding wantedRow
@@ -25,4 +19,6 @@ returns-3 c = rw (sym (c .before .before .before .beyond .ensures) ∙ c .before
 
 pub check-wanted-spec : {M : Type 1} → statement M
 check-wanted-spec =
-    tie.close (tie.spec beyond-requires returns beyond-requires-2 returns-2 returns-3)
+    tie.close
+    (tie.spec
+    (λ c κs. search needs) returns (λ c κs. search needs) returns-2 returns-3)

@@ -14,41 +14,57 @@ returns-2 : tie.Need-returns-2
 unfolding wordRow
 returns-2 c = rw (ne-eqb _ 0 (c .before .if1 .left), eq-eqb _ 0 (c .if2 .taken))
 
-fewest-words-requires : tie.Need-fewest-words-requires
-fewest-words-requires c κs = search needs
-
 returns-3 : tie.Need-returns-3
 unfolding wordRow
-returns-3 c = rw (ne-eqb _ 0 (c .before .before .before .if1 .left), ne-eqb _ 0 (c .before .before .if2 .left), ← c .before .fewest-words .ensures, lt-ltb _ _ (c .if3 .taken))
-
-most-words-requires : tie.Need-most-words-requires
-most-words-requires c κs = search needs
+returns-3 c =
+    rw (
+      ne-eqb _ 0 (c .before .before .before .if1 .left),
+      ne-eqb _ 0 (c .before .before .if2 .left),
+      ← c .before .fewest-words .ensures,
+      lt-ltb _ _ (c .if3 .taken),
+    )
 
 returns-4 : tie.Need-returns-4
 unfolding wordRow
-returns-4 c = rw (ne-eqb _ 0 (c .before .before .before .before .before .if1 .left), ne-eqb _ 0 (c .before .before .before .before .if2 .left), ← c .before .before .before .fewest-words .ensures, le-ltb _ _ (c .before .before .if3 .left), ← c .before .most-words .ensures, lt-ltb _ _ (c .if4 .taken))
-
-half-wanted-requires : tie.Need-half-wanted-requires
-half-wanted-requires c κs = search needs
+returns-4 c =
+    rw (
+      ne-eqb _ 0 (c .before .before .before .before .before .if1 .left),
+      ne-eqb _ 0 (c .before .before .before .before .if2 .left),
+      ← c .before .before .before .fewest-words .ensures,
+      le-ltb _ _ (c .before .before .if3 .left),
+      ← c .before .most-words .ensures,
+      lt-ltb _ _ (c .if4 .taken),
+    )
 
 returns-5 : tie.Need-returns-5
 unfolding wordRow
-returns-5 c = rw (ne-eqb _ 0 (c .before .before .before .before .before .before .before .if1 .left), ne-eqb _ 0 (c .before .before .before .before .before .before .if2 .left), ← c .before .before .before .before .before .fewest-words .ensures, le-ltb _ _ (c .before .before .before .before .if3 .left), ← c .before .before .before .most-words .ensures, le-ltb _ _ (c .before .before .if4 .left), sym (c .before .half-wanted .ensures) ∙ c .if5 .taken)
+returns-5 c =
+    rw (
+      ne-eqb _ 0 (c .before .before .before .before .before .before .before .if1 .left),
+      ne-eqb _ 0 (c .before .before .before .before .before .before .if2 .left),
+      ← c .before .before .before .before .before .fewest-words .ensures,
+      le-ltb _ _ (c .before .before .before .before .if3 .left),
+      ← c .before .before .before .most-words .ensures,
+      le-ltb _ _ (c .before .before .if4 .left),
+      sym (c .before .half-wanted .ensures) ∙ c .if5 .taken,
+    )
 
 returns-6 : tie.Need-returns-6
 unfolding wordRow
-returns-6 c = rw (ne-eqb _ 0 (c .before .before .before .before .before .before .before .if1 .left), ne-eqb _ 0 (c .before .before .before .before .before .before .if2 .left), ← c .before .before .before .before .before .fewest-words .ensures, le-ltb _ _ (c .before .before .before .before .if3 .left), ← c .before .before .before .most-words .ensures, le-ltb _ _ (c .before .before .if4 .left), sym (c .before .half-wanted .ensures) ∙ c .if5 .left)
+returns-6 c =
+    rw (
+      ne-eqb _ 0 (c .before .before .before .before .before .before .before .if1 .left),
+      ne-eqb _ 0 (c .before .before .before .before .before .before .if2 .left),
+      ← c .before .before .before .before .before .fewest-words .ensures,
+      le-ltb _ _ (c .before .before .before .before .if3 .left),
+      ← c .before .before .before .most-words .ensures,
+      le-ltb _ _ (c .before .before .if4 .left),
+      sym (c .before .half-wanted .ensures) ∙ c .if5 .left,
+    )
 
 pub check-words-spec : {M : Type 1} → statement M
 check-words-spec =
     tie.close
     (tie.spec
-    returns
-    returns-2
-    fewest-words-requires
-    returns-3
-    most-words-requires
-    returns-4
-    half-wanted-requires
-    returns-5
+    returns returns-2 (λ c κs. search needs) returns-3 (λ c κs. search needs) returns-4 (λ c κs. search needs) returns-5
     returns-6)

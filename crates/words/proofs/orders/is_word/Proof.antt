@@ -9,11 +9,5 @@ use Rattle.words.proofs.orders.is_word.Tie as tie
 returns : tie.Need-returns
 returns c = sym (test-differ tells-bytes _ _ (λ e. c .if1 .taken (ap length e)))
 
-same-requires : tie.Need-same-requires
-same-requires c κs = search needs
-
-returns-2 : tie.Need-returns-2
-returns-2 c = search needs
-
 pub is-word-spec : {M : Type 1} → statement M
-is-word-spec = tie.close (tie.spec returns same-requires returns-2)
+is-word-spec = tie.close (tie.spec returns (λ c κs. search needs) (λ c. search needs))

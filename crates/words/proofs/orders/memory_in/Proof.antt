@@ -6,21 +6,14 @@ use borrow.Author.Needs.{needs}
 use Rattle.words.proofs.orders.memory_in.Statement.{statement}
 use Rattle.words.proofs.orders.memory_in.Tie as tie
 
-smaller-requires : tie.Need-smaller-requires
-smaller-requires c κs = search needs
-
 returns : tie.Need-returns
 returns c = rw (lt-ltb _ 6 (c .before .if1 .taken)) (c .smaller .ensures)
-
-word-requires : tie.Need-word-requires
-word-requires c κs = search needs
-
-value-requires : tie.Need-value-requires
-value-requires c κs = search needs
 
 returns-2 : tie.Need-returns-2
 returns-2 c = rw (le-ltb _ 6 (c .before .before .if1 .left)) (c .value .ensures ∙ ap valueOf (c .before .word .ensures))
 
 pub memory-in-spec : {M : Type 1} → statement M
 memory-in-spec =
-    tie.close (tie.spec smaller-requires returns word-requires value-requires returns-2)
+    tie.close
+    (tie.spec
+    (λ c κs. search needs) returns (λ c κs. search needs) (λ c κs. search needs) returns-2)

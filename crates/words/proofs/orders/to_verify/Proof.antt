@@ -4,15 +4,6 @@ use borrow.Author.Needs.{needs}
 use Rattle.words.proofs.orders.to_verify.Statement.{statement}
 use Rattle.words.proofs.orders.to_verify.Tie as tie
 
-check-wanted-requires : tie.Need-check-wanted-requires
-check-wanted-requires c κs = search needs
-
-enum-known-row : tie.Need-enum-known-row
-enum-known-row c = search needs
-
-enum-told : tie.Need-enum-told
-enum-told c = search needs
-
 returns : tie.Need-returns
 returns c = rw (sym (c .before .before .before .check-wanted .ensures) ∙ c .before .row .given .1)
 
@@ -21,4 +12,6 @@ returns-2 c = rw (sym (c .before .before .check-wanted .ensures) ∙ c .enum-tol
 
 pub to-verify-spec : {M : Type 1} → statement M
 to-verify-spec =
-    tie.close (tie.spec check-wanted-requires enum-known-row enum-told returns returns-2)
+    tie.close
+    (tie.spec
+    (λ c κs. search needs) (λ c. search needs) (λ c. search needs) returns returns-2)

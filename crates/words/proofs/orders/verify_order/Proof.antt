@@ -9,33 +9,20 @@ returns : tie.Need-returns
 unfolding verifyOrder
 returns c = rw (lt-ltb _ 4 (c .if1 .taken))
 
-word-requires : tie.Need-word-requires
-word-requires c κs = search needs
-
-value-requires : tie.Need-value-requires
-value-requires c κs = search needs
-
-word-requires-2 : tie.Need-word-requires-2
-word-requires-2 c κs = search needs
-
-value-requires-2 : tie.Need-value-requires-2
-value-requires-2 c κs = search needs
-
-to-verify-requires : tie.Need-to-verify-requires
-to-verify-requires c κs = search needs
-
 returns-2 : tie.Need-returns-2
 unfolding verifyOrder
-returns-2 c = rw (le-ltb _ 4 (c .before .before .before .before .before .if1 .left), ← c .before .before .before .before .word .ensures, ← c .before .before .word2 .ensures, ← c .before .before .before .value .ensures, ← c .before .value2 .ensures) (c .to-verify .ensures)
+returns-2 c =
+    rw (
+      le-ltb _ 4 (c .before .before .before .before .before .if1 .left),
+      ← c .before .before .before .before .word .ensures,
+      ← c .before .before .word2 .ensures,
+      ← c .before .before .before .value .ensures,
+      ← c .before .value2 .ensures,
+    ) (c .to-verify .ensures)
 
 pub verify-order-spec : {M : Type 1} → statement M
 verify-order-spec =
     tie.close
     (tie.spec
-    returns
-    word-requires
-    value-requires
-    word-requires-2
-    value-requires-2
-    to-verify-requires
-    returns-2)
+    returns (λ c κs. search needs) (λ c κs. search needs) (λ c κs. search needs) (λ c κs. search needs)
+    (λ c κs. search needs) returns-2)

@@ -9,40 +9,19 @@ use Rattle.words.proofs.parting.join.Tie as tie
 returns : tie.Need-returns
 returns c = let a = c .before .before .before .args in joins-none (a .line .now) (a .word .now) (a .at) (omega arith)
 
-sub-if2 : tie.Need-sub-if2
-sub-if2 c = search needs
-
 returns-2 : tie.Need-returns-2
 returns-2 c = let a = c .before .before .before .before .args in joins-none (a .line .now) (a .word .now) (a .at) (omega arith)
 
-put-requires : tie.Need-put-requires
-put-requires c κs = search needs
-
-add-end : tie.Need-add-end
-add-end c = search needs
-
-slice-write-line : tie.Need-slice-write-line
-slice-write-line c = search needs
-
-add-result : tie.Need-add-result
-add-result c = search needs
-
-same-length : tie.Need-same-length
-same-length c = search needs
-
 returns-3 : tie.Need-returns-3
-returns-3 c = let a = c .before .before .before .before .before .before .before .before .args in joins-one (a .line .now) (a .word .now) (a .at) _ _ _ _ (omega (arith, c .before .before .before .before .before .if1 .left, c .before .before .before .before .if2 .left)) (c .before .before .put .ensures) refl refl refl
+returns-3 c =
+    let a = c .before .before .before .before .before .before .before .before .args in
+    joins-one (a .line .now) (a .word .now) (a .at) _ _ _ _
+    (omega (arith, c .before .before .before .before .before .if1 .left, c .before .before .before .before .if2 .left))
+    (c .before .before .put .ensures) refl refl refl
 
 pub join-spec : {M : Type 1} → statement M
 join-spec =
     tie.close
     (tie.spec
-    returns
-    sub-if2
-    returns-2
-    put-requires
-    add-end
-    slice-write-line
-    add-result
-    same-length
-    returns-3)
+    returns (λ c. search needs) returns-2 (λ c κs. search needs) (λ c. search needs) (λ c. search needs)
+    (λ c. search needs) (λ c. search needs) returns-3)

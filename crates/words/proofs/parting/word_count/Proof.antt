@@ -19,20 +19,14 @@ abbrev μ-loop : tie.MeasureT-loop
 loop-holds : tie.Need-loop-holds Inv-loop μ-loop
 loop-holds c = (omega arith, omega arith, omega arith)
 
-shared-slice-read-if1 : tie.Need-shared-slice-read-if1 Inv-loop μ-loop
-shared-slice-read-if1 c = search needs
-
-add-count : tie.Need-add-count Inv-loop μ-loop
-add-count c = search needs
-
-add-i : tie.Need-add-i Inv-loop μ-loop
-add-i c = search needs
-
-loop-less : tie.Need-loop-less Inv-loop μ-loop
-loop-less c = search needs
-
 loop-again : tie.Need-loop-again Inv-loop μ-loop
-loop-again c = let l = c .before .before .before .loop in let h = c .before .before .loop-test .taken in let line = c .before .before .before .before .args .line .now in ⊎-elim (λ w. (omega arith, omega (arith, w .1), omega (arith, w .1, l .inv .2, counts-here line (l .i) h (w .0 .taken)))) (λ w. (omega arith, omega (arith, w .1), omega (arith, w .1, l .inv .2, counts-on line (l .i) h (w .0 .left)))) (c .if1 .came)
+loop-again c =
+    let l = c .before .before .before .loop in
+    let h = c .before .before .loop-test .taken in
+    let line = c .before .before .before .before .args .line .now in
+    ⊎-elim (λ w. (omega arith, omega (arith, w .1), omega (arith, w .1, l .inv .2, counts-here line (l .i) h (w .0 .taken))))
+    (λ w. (omega arith, omega (arith, w .1), omega (arith, w .1, l .inv .2, counts-on line (l .i) h (w .0 .left))))
+    (c .if1 .came)
 
 returns : tie.Need-returns Inv-loop μ-loop
 returns c = let l = c .before .loop in omega (arith, l .inv .2, counts-none (c .before .before .args .line .now) (l .i) (c .loop-test .left))
@@ -41,12 +35,5 @@ pub word-count-spec : {M : Type 1} → statement M
 word-count-spec =
     tie.close
     (tie.spec
-    Inv-loop
-    μ-loop
-    loop-holds
-    shared-slice-read-if1
-    add-count
-    add-i
-    loop-less
-    loop-again
-    returns)
+    Inv-loop μ-loop loop-holds (λ c. search needs) (λ c. search needs) (λ c. search needs) (λ c. search needs)
+    loop-again returns)

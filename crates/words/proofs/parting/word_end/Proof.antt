@@ -18,34 +18,30 @@ abbrev μ-loop : tie.MeasureT-loop
 loop-holds : tie.Need-loop-holds Inv-loop μ-loop
 loop-holds c = (omega arith, omega arith, refl)
 
-shared-slice-read-if1 : tie.Need-shared-slice-read-if1 Inv-loop μ-loop
-shared-slice-read-if1 c = search needs
-
 returns : tie.Need-returns Inv-loop μ-loop
-returns c = let l = c .before .before .before .loop in let h = c .before .before .loop-test .taken in (omega (arith, l .inv .2, ends-here (c .before .before .before .before .args .line .now) (l .i) h (c .if1 .taken)), omega arith)
-
-add-i : tie.Need-add-i Inv-loop μ-loop
-add-i c = search needs
-
-loop-less : tie.Need-loop-less Inv-loop μ-loop
-loop-less c = search needs
+returns c =
+    let l = c .before .before .before .loop in
+    let h = c .before .before .loop-test .taken in (
+      omega (arith, l .inv .2, ends-here (c .before .before .before .before .args .line .now) (l .i) h (c .if1 .taken)),
+      omega arith,
+    )
 
 loop-again : tie.Need-loop-again Inv-loop μ-loop
-loop-again c = let l = c .before .before .before .loop in let h = c .before .before .loop-test .taken in (omega arith, omega arith, omega (arith, l .inv .2, goes-on (c .before .before .before .before .args .line .now) (l .i) h (c .if1 .left)))
+loop-again c =
+    let l = c .before .before .before .loop in
+    let h = c .before .before .loop-test .taken in (
+      omega arith,
+      omega arith,
+      omega (arith, l .inv .2, goes-on (c .before .before .before .before .args .line .now) (l .i) h (c .if1 .left)),
+    )
 
 returns-2 : tie.Need-returns-2 Inv-loop μ-loop
-returns-2 c = let l = c .before .loop in (omega (arith, l .inv .2, ends-none (c .before .before .args .line .now) (l .i) (c .loop-test .left)), omega arith)
+returns-2 c =
+    let l = c .before .loop in
+    (omega (arith, l .inv .2, ends-none (c .before .before .args .line .now) (l .i) (c .loop-test .left)), omega arith)
 
 pub word-end-spec : {M : Type 1} → statement M
 word-end-spec =
     tie.close
     (tie.spec
-    Inv-loop
-    μ-loop
-    loop-holds
-    shared-slice-read-if1
-    returns
-    add-i
-    loop-less
-    loop-again
-    returns-2)
+    Inv-loop μ-loop loop-holds (λ c. search needs) returns (λ c. search needs) (λ c. search needs) loop-again returns-2)

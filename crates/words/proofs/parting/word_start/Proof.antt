@@ -18,38 +18,32 @@ abbrev μ-loop : tie.MeasureT-loop
 loop-holds : tie.Need-loop-holds Inv-loop μ-loop
 loop-holds c = (omega arith, refl)
 
-word-end-requires : tie.Need-word-end-requires Inv-loop μ-loop
-word-end-requires c κs = search needs
-
 returns : tie.Need-returns Inv-loop μ-loop
-returns c = let l = c .before .before .before .loop in let e = c .before .word-end in (passed-all (c .before .before .before .before .before .args .line .now) (l .left) (l .at) _ (c .before .before .loop-test .taken) (e .ensures .0) (c .if1 .taken) ∙ l .inv .1, e .ensures .1)
-
-add-at : tie.Need-add-at Inv-loop μ-loop
-add-at c = search needs
-
-sub-left : tie.Need-sub-left Inv-loop μ-loop
-sub-left c = search needs
-
-loop-less : tie.Need-loop-less Inv-loop μ-loop
-loop-less c = search needs
+returns c =
+    let l = c .before .before .before .loop in
+    let e = c .before .word-end in (
+      passed-all (c .before .before .before .before .before .args .line .now) (l .left) (l .at) _
+          (c .before .before .loop-test .taken) (e .ensures .0) (c .if1 .taken) ∙ l .inv .1,
+      e .ensures .1,
+    )
 
 loop-again : tie.Need-loop-again Inv-loop μ-loop
-loop-again c = let l = c .before .before .before .loop in let e = c .before .word-end in (omega arith, passed (c .before .before .before .before .before .args .line .now) (l .left) (l .at) _ (c .before .before .loop-test .taken) (e .ensures .0) ∙ l .inv .1)
+loop-again c =
+    let l = c .before .before .before .loop in
+    let e = c .before .word-end in (
+      omega arith,
+      passed (c .before .before .before .before .before .args .line .now) (l .left) (l .at) _
+          (c .before .before .loop-test .taken) (e .ensures .0) ∙ l .inv .1,
+    )
 
 returns-2 : tie.Need-returns-2 Inv-loop μ-loop
-returns-2 c = let l = c .before .loop in (sym (passed-none (c .before .before .before .args .line .now) (l .left) (l .at) (c .loop-test .left)) ∙ l .inv .1, l .inv .0)
+returns-2 c =
+    let l = c .before .loop in
+    (sym (passed-none (c .before .before .before .args .line .now) (l .left) (l .at) (c .loop-test .left)) ∙ l .inv .1, l .inv .0)
 
 pub word-start-spec : {M : Type 1} → statement M
 word-start-spec =
     tie.close
     (tie.spec
-    Inv-loop
-    μ-loop
-    loop-holds
-    word-end-requires
-    returns
-    add-at
-    sub-left
-    loop-less
-    loop-again
-    returns-2)
+    Inv-loop μ-loop loop-holds (λ c κs. search needs) returns (λ c. search needs) (λ c. search needs)
+    (λ c. search needs) loop-again returns-2)

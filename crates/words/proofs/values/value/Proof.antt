@@ -7,9 +7,6 @@ use borrow.Author.Needs.{needs}
 use Rattle.words.proofs.values.value.Statement.{statement}
 use Rattle.words.proofs.values.value.Tie as tie
 
-is-readable-requires : tie.Need-is-readable-requires
-is-readable-requires c κs = search needs
-
 returns : tie.Need-returns
 returns c = not-read _ (sym (c .before .is-readable .ensures) ∙ not-true _ (c .if1 .taken))
 
@@ -17,21 +14,21 @@ read-numbers-requires : tie.Need-read-numbers-requires
 read-numbers-requires c κs = sym (c .before .is-readable .ensures) ∙ not-false _ (c .if1 .left)
 
 returns-2 : tie.Need-returns-2
-returns-2 c = let r = c .before .before .read-numbers in not-one _ (r .result .list) _ (sym (c .before .before .before .before .is-readable .ensures) ∙ not-false _ (c .before .before .before .if1 .left)) (kept-all (r .result .list) _ _ (r .result .count) (r .ensures .0) (r .ensures .1)) (r .ensures .1) (c .if2 .taken)
-
-array-read-result : tie.Need-array-read-result
-array-read-result c = search needs
+returns-2 c =
+    let r = c .before .before .read-numbers in
+    not-one _ (r .result .list) _
+    (sym (c .before .before .before .before .is-readable .ensures) ∙ not-false _ (c .before .before .before .if1 .left))
+    (kept-all (r .result .list) _ _ (r .result .count) (r .ensures .0) (r .ensures .1)) (r .ensures .1) (c .if2 .taken)
 
 returns-3 : tie.Need-returns-3
-returns-3 c = let r = c .before .before .read-numbers in one _ (r .result .list) _ (sym (c .before .before .before .before .is-readable .ensures) ∙ not-false _ (c .before .before .before .if1 .left)) (kept-all (r .result .list) _ _ (r .result .count) (r .ensures .0) (r .ensures .1)) (r .ensures .1) (c .if2 .left)
+returns-3 c =
+    let r = c .before .before .read-numbers in
+    one _ (r .result .list) _
+    (sym (c .before .before .before .before .is-readable .ensures) ∙ not-false _ (c .before .before .before .if1 .left))
+    (kept-all (r .result .list) _ _ (r .result .count) (r .ensures .0) (r .ensures .1)) (r .ensures .1) (c .if2 .left)
 
 pub value-spec : {M : Type 1} → statement M
 value-spec =
     tie.close
     (tie.spec
-    is-readable-requires
-    returns
-    read-numbers-requires
-    returns-2
-    array-read-result
-    returns-3)
+    (λ c κs. search needs) returns read-numbers-requires returns-2 (λ c. search needs) returns-3)

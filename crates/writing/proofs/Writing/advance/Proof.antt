@@ -6,7 +6,7 @@ use borrow.Author.Tests.{ltb-false}
 use lib.Dec.{ltb}
 use Rattle.refusal.proofs.RowLaws.{NoneHolds, none-holds, is-done, is-refused}
 use Rattle.tree.specs.Store.{storeSize}
-use Rattle.proof.specs.Layout.{fileSize}
+use Rattle.proof_file.specs.Layout.{fileSize}
 use Rattle.writing.specs.declared.Writing.{Writing}
 use Prim.Native.Nat.{ℕ, min}
 use native.Mathlib.Omega.{arith}
@@ -59,30 +59,15 @@ CanGoOn s = Ready (s .args .self) (length (s .args .store .now)) (length (s .arg
 ready : (c : tie.After-enum-told) → CanGoOn (c .before .before .before .before .before)
 ready c = rewrite-ready _ _ _ (done c)
 
-may-continue-requires : tie.Need-may-continue-requires
-may-continue-requires c κs = search needs
-
-enum-told : tie.Need-enum-told
-enum-told c = search needs
-
 labels-left-requires : tie.Need-labels-left-requires
 labels-left-requires c κs =
     let r = ready c .0 in
     ((r .room .depth .1, omega (arith, r .room .memory)), (r .few, (r .room .number .1, r .room .count)))
 
-smaller-requires : tie.Need-smaller-requires
-smaller-requires c κs = search needs
-
 label-many-requires : tie.Need-label-many-requires
 label-many-requires c κs =
     let k = c .before in
     (ready (k .before .before), omega (arith, k .smaller .ensures, k .before .labels-left .ensures))
-
-enum-told-2 : tie.Need-enum-told-2
-enum-told-2 c = search needs
-
-same-length : tie.Need-same-length
-same-length c = search needs
 
 returns : tie.Need-returns
 returns c =
@@ -91,26 +76,28 @@ returns c =
     let t = k .before .before in
     let a = t .before .before .before .before .before .args in
     let e : k .smaller .result ≡ labelsIn (a .store .now) (writtenOf (a .self) (a .file .now)) (a .budget) =
-    k .smaller .ensures ∙ ap (min (a .budget)) (k .before .labels-left .ensures) ∙ labels-done (a .self) (a .store .now) (a .file .now) (a .budget) (done t) in
-    (t .before .before .may-continue .ensures, (e, advanced-by (a .self) (a .store .now) (a .file .now) (a .budget) _ _ _ e (m .label-many .ensures .0) (m .label-many .ensures .1)))
+    k .smaller .ensures ∙ ap (min (a .budget)) (k .before .labels-left .ensures)
+    ∙ labels-done (a .self) (a .store .now) (a .file .now) (a .budget) (done t) in (
+      t .before .before .may-continue .ensures,
+      (
+        e,
+        advanced-by (a .self) (a .store .now) (a .file .now) (a .budget) _ _ _ e (m .label-many .ensures .0)
+            (m .label-many .ensures .1),
+      ),
+    )
 
 returns-2 : tie.Need-returns-2
 returns-2 c =
     let m = c .before .before in
     let a = m .before .before .before .args in
-    let z = labels-refused (a .self) (a .store .now) (a .file .now) (a .budget) (is-refused _ _ _ (m .may-continue .ensures) (c .enum-told2 .given .1)) in
+    let z =
+    labels-refused (a .self) (a .store .now) (a .file .now) (a .budget)
+    (is-refused _ _ _ (m .may-continue .ensures) (c .enum-told2 .given .1)) in
     (m .may-continue .ensures, (z, unchanged (a .self) (a .store .now) (a .file .now) (a .budget) z))
 
 pub advance-spec : {M : Type 1} → statement M
 advance-spec =
     tie.close
     (tie.spec
-    may-continue-requires
-    enum-told
-    labels-left-requires
-    smaller-requires
-    label-many-requires
-    enum-told-2
-    same-length
-    returns
-    returns-2)
+    (λ c κs. search needs) (λ c. search needs) labels-left-requires (λ c κs. search needs) label-many-requires
+    (λ c. search needs) (λ c. search needs) returns returns-2)

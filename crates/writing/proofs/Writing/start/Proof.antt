@@ -10,8 +10,8 @@ use Rattle.refusal.specs.Row.{outside}
 use Rattle.refusal.proofs.RowLaws.{NoneHolds, none-holds, is-done, is-refused}
 use Rattle.tree.specs.Store.{storeSize}
 use Rattle.run.specs.Rows.{memoryOver}
-use Rattle.proof.specs.Layout.{fileSize}
-use Rattle.accepted.proofs.RowLaws.{bounds}
+use Rattle.proof_file.specs.Layout.{fileSize}
+use Rattle.check_theory.proofs.RowLaws.{bounds}
 use Rattle.writing.specs.Possible.{Room}
 use borrow.Author.Needs.{needs}
 use mathlib.Core.Path.{_≡_, refl, ap, _∙_}
@@ -51,23 +51,8 @@ row s = writeRow (s .args .depth) (s .args .memory) (s .args .count) (length (s 
 done : (c : tie.After-enum-told) → row (c .before .before .before .before .before) ≡ 0
 done c = is-done _ _ (c .before .before .may-start .ensures) (c .enum-told .given .1)
 
-may-start-requires : tie.Need-may-start-requires
-may-start-requires c κs = search needs
-
-enum-told : tie.Need-enum-told
-enum-told c = search needs
-
 write-first-requires : tie.Need-write-first-requires
 write-first-requires c κs = write-room _ _ _ _ _ (done (c .before))
-
-enum-told-2 : tie.Need-enum-told-2
-enum-told-2 c = search needs
-
-no-writing-requires : tie.Need-no-writing-requires
-no-writing-requires c κs = search needs
-
-same-length : tie.Need-same-length
-same-length c = search needs
 
 returns : tie.Need-returns
 returns c =
@@ -83,18 +68,14 @@ returns-2 : tie.Need-returns-2
 returns-2 c =
     let m = c .before .before .before in
     let a = m .before .before .before .args in
-    let (o, f) = start-refused (a .statement) (a .root) (a .depth) (a .memory) (a .count) (a .store .now) (a .file .now) (is-refused _ _ _ (m .may-start .ensures) (c .before .enum-told2 .given .1)) in
+    let (o, f) =
+    start-refused (a .statement) (a .root) (a .depth) (a .memory) (a .count) (a .store .now) (a .file .now)
+    (is-refused _ _ _ (m .may-start .ensures) (c .before .enum-told2 .given .1)) in
     (m .may-start .ensures, (c .no-writing .ensures ∙ o, f))
 
 pub start-spec : {M : Type 1} → statement M
 start-spec =
     tie.close
     (tie.spec
-    may-start-requires
-    enum-told
-    write-first-requires
-    enum-told-2
-    no-writing-requires
-    same-length
-    returns
-    returns-2)
+    (λ c κs. search needs) (λ c. search needs) write-first-requires (λ c. search needs) (λ c κs. search needs)
+    (λ c. search needs) returns returns-2)

@@ -6,7 +6,7 @@ use native.Mathlib.Omega.{arith}
 use borrow.Author.Tests.{lt-ltb, le-ltb}
 use lib.Dec.{ltb}
 use Rattle.tree.specs.Store.{storeSize}
-use Rattle.proof.specs.Layout.{fileSize}
+use Rattle.proof_file.specs.Layout.{fileSize}
 use Rattle.writing.specs.Rows.{rewriteRow}
 use Rattle.writing.specs.Possible.{stateOutside}
 use Rattle.writing.proofs.RowLaws.{Bounded, state-bounds}
@@ -17,11 +17,11 @@ use Rattle.writing.proofs.checks.may_continue.Tie as tie
 can-go-on : (c : tie.Else1) → stateOutside (c .before .before .args .writing) ≡ false
 can-go-on c = sym (c .before .state-outside .ensures) ∙ c .if1 .left
 
-store-fits : (c : tie.Else2) → ltb (c .before .before .before .before .before .args .store) (storeSize (c .before .before .before .before .before .args .writing .opening .memory)) ≡ false
+store-fits :
+    (c : tie.Else2)
+    → ltb (c .before .before .before .before .before .args .store)
+    (storeSize (c .before .before .before .before .before .args .writing .opening .memory)) ≡ false
 store-fits c = sym (c .before .store-short .ensures) ∙ c .if2 .left
-
-state-outside-requires : tie.Need-state-outside-requires
-state-outside-requires c κs = search needs
 
 returns : tie.Need-returns
 unfolding rewriteRow
@@ -46,22 +46,26 @@ returns-3 : tie.Need-returns-3
 unfolding rewriteRow
 returns-3 c =
     let a = c .before .before .before .before .before .before .before .args in
-    rw (can-go-on (c .before .before .before .before .before), store-fits (c .before .before), lt-ltb (a .file) (fileSize (a .writing .opening .depth) (a .writing .count)) (rw (c .before .file-size .ensures) at (c .if3 .taken)))
+    rw (
+      can-go-on (c .before .before .before .before .before),
+      store-fits (c .before .before),
+      lt-ltb (a .file) (fileSize (a .writing .opening .depth) (a .writing .count))
+          (rw (c .before .file-size .ensures) at (c .if3 .taken)),
+    )
 
 returns-4 : tie.Need-returns-4
 unfolding rewriteRow
 returns-4 c =
     let a = c .before .before .before .before .before .before .before .args in
-    rw (can-go-on (c .before .before .before .before .before), store-fits (c .before .before), le-ltb (a .file) (fileSize (a .writing .opening .depth) (a .writing .count)) (rw (c .before .file-size .ensures) at (c .if3 .left)))
+    rw (
+      can-go-on (c .before .before .before .before .before),
+      store-fits (c .before .before),
+      le-ltb (a .file) (fileSize (a .writing .opening .depth) (a .writing .count))
+          (rw (c .before .file-size .ensures) at (c .if3 .left)),
+    )
 
 pub may-continue-spec : {M : Type 1} → statement M
 may-continue-spec =
     tie.close
     (tie.spec
-    state-outside-requires
-    returns
-    store-short-requires
-    returns-2
-    file-size-requires
-    returns-3
-    returns-4)
+    (λ c κs. search needs) returns store-short-requires returns-2 file-size-requires returns-3 returns-4)

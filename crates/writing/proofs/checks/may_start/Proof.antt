@@ -9,8 +9,8 @@ use Rattle.refusal.specs.Row.{outside}
 use Rattle.tree.specs.Store.{storeSize}
 use Rattle.run.specs.Rows.{memoryOver}
 use Rattle.run.proofs.RowLaws.{depth-inside, memory-inside}
-use Rattle.proof.specs.Layout.{fileSize}
-use Rattle.accepted.proofs.RowLaws.{bounds}
+use Rattle.proof_file.specs.Layout.{fileSize}
+use Rattle.check_theory.proofs.RowLaws.{bounds}
 use Rattle.writing.specs.Rows.{writeRow}
 use Rattle.writing.proofs.checks.may_start.Statement.{statement}
 use Rattle.writing.proofs.checks.may_start.Tie as tie
@@ -22,42 +22,50 @@ depth-fits c = sym (c .before .depth-outside .ensures) ∙ c .if1 .left
 memory-fits : (c : tie.Else2) → memoryOver (c .before .before .before .before .args .depth) (c .before .before .before .before .args .memory) ≡ false
 memory-fits c = sym (c .before .memory-over .ensures) ∙ c .if2 .left
 
-store-fits : (c : tie.Else3) → ltb (c .before .before .before .before .before .before .args .store) (storeSize (c .before .before .before .before .before .before .args .memory)) ≡ false
+store-fits :
+    (c : tie.Else3)
+    → ltb (c .before .before .before .before .before .before .args .store)
+    (storeSize (c .before .before .before .before .before .before .args .memory)) ≡ false
 store-fits c = sym (c .before .store-short .ensures) ∙ c .if3 .left
 
 count-fits : (c : tie.Else4) → outside 1 maxChallenges (c .before .before .before .before .before .before .before .before .args .count) ≡ false
 count-fits c = sym (c .before .beyond .ensures) ∙ c .if4 .left
 
-depth-outside-requires : tie.Need-depth-outside-requires
-depth-outside-requires c κs = search needs
-
 returns : tie.Need-returns
 unfolding writeRow
 returns c = rw (sym (c .before .depth-outside .ensures) ∙ c .if1 .taken)
-
-memory-over-requires : tie.Need-memory-over-requires
-memory-over-requires c κs = search needs
 
 returns-2 : tie.Need-returns-2
 unfolding writeRow
 returns-2 c = rw (depth-fits (c .before .before), sym (c .before .memory-over .ensures) ∙ c .if2 .taken)
 
 store-short-requires : tie.Need-store-short-requires
-store-short-requires c κs = memory-inside (c .before .before .before .before .args .depth) (c .before .before .before .before .args .memory) (memory-fits c)
+store-short-requires c κs =
+    let entry = c .before .before .before .before in
+    memory-inside (entry .args .depth) (entry .args .memory) (memory-fits c)
 
 returns-3 : tie.Need-returns-3
 unfolding writeRow
-returns-3 c = rw (depth-fits (c .before .before .before .before), memory-fits (c .before .before), sym (c .before .store-short .ensures) ∙ c .if3 .taken)
-
-beyond-requires : tie.Need-beyond-requires
-beyond-requires c κs = search needs
+returns-3 c =
+    rw (
+      depth-fits (c .before .before .before .before),
+      memory-fits (c .before .before),
+      sym (c .before .store-short .ensures) ∙ c .if3 .taken,
+    )
 
 returns-4 : tie.Need-returns-4
 unfolding writeRow
-returns-4 c = rw (depth-fits (c .before .before .before .before .before .before), memory-fits (c .before .before .before .before), store-fits (c .before .before), sym (c .before .beyond .ensures) ∙ c .if4 .taken)
+returns-4 c =
+    rw (
+      depth-fits (c .before .before .before .before .before .before),
+      memory-fits (c .before .before .before .before),
+      store-fits (c .before .before),
+      sym (c .before .beyond .ensures) ∙ c .if4 .taken,
+    )
 
 file-size-requires : tie.Need-file-size-requires
-file-size-requires c κs = (depth-inside _ (depth-fits (c .before .before .before .before .before .before)), bounds 1 maxChallenges _ (count-fits c) .1)
+file-size-requires c κs =
+    (depth-inside _ (depth-fits (c .before .before .before .before .before .before)), bounds 1 maxChallenges _ (count-fits c) .1)
 
 returns-5 : tie.Need-returns-5
 unfolding writeRow
@@ -87,14 +95,5 @@ pub may-start-spec : {M : Type 1} → statement M
 may-start-spec =
     tie.close
     (tie.spec
-    depth-outside-requires
-    returns
-    memory-over-requires
-    returns-2
-    store-short-requires
-    returns-3
-    beyond-requires
-    returns-4
-    file-size-requires
-    returns-5
-    returns-6)
+    (λ c κs. search needs) returns (λ c κs. search needs) returns-2 store-short-requires returns-3
+    (λ c κs. search needs) returns-4 file-size-requires returns-5 returns-6)

@@ -40,29 +40,22 @@ can-be-so c = sym (c .before .not-possible .ensures) ∙ c .if1 .left
 count-fits : (c : tie.Else2) → noCount (c .before .before .before .before .before) ≡ false
 count-fits c = sym (c .before .beyond .ensures) ∙ c .if2 .left
 
-not-possible-requires : tie.Need-not-possible-requires
-not-possible-requires c κs = search needs
-
 returns : tie.Need-returns
 returns c =
     let s = c .before .before .before in
     state-first (stuck s) (beyondLeaf s) (noCount s) (noNumber s) (left s) (sym (c .before .not-possible .ensures) ∙ c .if1 .taken)
 
-beyond-requires : tie.Need-beyond-requires
-beyond-requires c κs = search needs
-
 returns-2 : tie.Need-returns-2
 returns-2 c =
     let s = c .before .before .before .before .before in
-    state-second (stuck s) (beyondLeaf s) (noCount s) (noNumber s) (left s) (can-be-so (c .before .before)) (sym (c .before .beyond .ensures) ∙ c .if2 .taken)
-
-beyond-requires-2 : tie.Need-beyond-requires-2
-beyond-requires-2 c κs = search needs
+    state-second (stuck s) (beyondLeaf s) (noCount s) (noNumber s) (left s) (can-be-so (c .before .before))
+    (sym (c .before .beyond .ensures) ∙ c .if2 .taken)
 
 returns-3 : tie.Need-returns-3
 returns-3 c =
     let s = c .before .before .before .before .before .before .before in
-    state-third (stuck s) (beyondLeaf s) (noCount s) (noNumber s) (left s) (can-be-so (c .before .before .before .before)) (count-fits (c .before .before))
+    state-third (stuck s) (beyondLeaf s) (noCount s) (noNumber s) (left s) (can-be-so (c .before .before .before .before))
+    (count-fits (c .before .before))
     (sym (c .before .beyond2 .ensures) ∙ c .if3 .taken)
 
 nodes-anew-requires : tie.Need-nodes-anew-requires
@@ -71,9 +64,6 @@ nodes-anew-requires c κs =
     let (p, k) = can-be (o .depth) (o .memory) (o .made) (o .leaf) (can-be-so (c .before .before .before .before)) in
     (p .deep, p .above)
 
-may-follow-requires : tie.Need-may-follow-requires
-may-follow-requires c κs = search needs
-
 returns-4 : tie.Need-returns-4
 returns-4 c =
     let e = c .before .before in
@@ -81,19 +71,13 @@ returns-4 c =
     let w = s .args .writing in
     c .may-follow .ensures
     ∙ ap (λ (k : ℕ). both (eqb (w .opening .made) k) (ltb (w .number) (w .count))) (c .before .nodes-anew .ensures)
-    ∙ state-last (stuck s) (beyondLeaf s) (noCount s) (noNumber s) (left s) (can-be-so (e .before .before .before .before)) (count-fits (e .before .before))
+    ∙ state-last (stuck s) (beyondLeaf s) (noCount s) (noNumber s) (left s) (can-be-so (e .before .before .before .before))
+    (count-fits (e .before .before))
     (sym (e .before .beyond2 .ensures) ∙ e .if3 .left)
 
 pub state-outside-spec : {M : Type 1} → statement M
 state-outside-spec =
     tie.close
     (tie.spec
-    not-possible-requires
-    returns
-    beyond-requires
-    returns-2
-    beyond-requires-2
-    returns-3
-    nodes-anew-requires
-    may-follow-requires
-    returns-4)
+    (λ c κs. search needs) returns (λ c κs. search needs) returns-2 (λ c κs. search needs) returns-3 nodes-anew-requires
+    (λ c κs. search needs) returns-4)

@@ -30,57 +30,44 @@ under c = let w = first (c .before) in writingOf (w .root) (w .count) (c .loop .
 
 answer : (c : tie.After-may-follow Inv-loop μ-loop) (t : Bool) → c .may-follow .result ≡ t → mayFollow (under (c .before)) ≡ t
 answer c t e =
-    test-answer _ _ (first (c .before .before)) _ (under (c .before)) (c .before .loop .inv .0) (c .before .before .nodes-anew .result) (c .before .before .nodes-anew .ensures) _ t (c .may-follow .ensures) e
-
-nodes-anew-requires : tie.Need-nodes-anew-requires Inv-loop μ-loop
-nodes-anew-requires c κs = search needs
+    test-answer _ _ (first (c .before .before)) _ (under (c .before)) (c .before .loop .inv .0)
+    (c .before .before .nodes-anew .result) (c .before .before .nodes-anew .ensures) _ t (c .may-follow .ensures) e
 
 loop-holds : tie.Need-loop-holds Inv-loop μ-loop
 loop-holds c = (following-none _ _ _ (c .before .before .before .before .before .before .pre), refl)
 
-may-follow-requires : tie.Need-may-follow-requires Inv-loop μ-loop
-may-follow-requires c κs = search needs
-
-add-number : tie.Need-add-number Inv-loop μ-loop
-add-number c = search needs
-
 begin-requires : tie.Need-begin-requires Inv-loop μ-loop
 begin-requires c κs =
-    begin-room _ _ (first (c .before .before .before .before)) _ (under (c .before .before .before)) (c .before .before .before .loop .inv .0) (c .before .before .before .loop .inv .1)
+    let loop = c .before .before .before .loop in
+    begin-room _ _ (first (c .before .before .before .before)) _ (under (c .before .before .before)) (loop .inv .0) (loop .inv .1)
     (answer (c .before .before) true (c .before .if1 .taken))
 
 loop-less : tie.Need-loop-less Inv-loop μ-loop
 loop-less c =
     let l = c .before .before .before .before .before .before in
-    let more = not-last _ _ (first (l .before)) _ (under l) (l .loop .inv .0) (l .loop .inv .1) (answer (c .before .before .before .before .before) true (c .before .before .before .before .if1 .taken)) in
+    let more =
+    not-last _ _ (first (l .before)) _ (under l) (l .loop .inv .0) (l .loop .inv .1)
+    (answer (c .before .before .before .before .before) true (c .before .before .before .before .if1 .taken)) in
     omega (arith, more)
 
 loop-again : tie.Need-loop-again Inv-loop μ-loop
 loop-again c =
     let l = c .before .before .before .before .before .before in
     let b = c .before .before .begin in (
-      following-more _ _ (first (l .before)) _ (under l) (l .loop .inv .0) (l .loop .inv .1) (answer (c .before .before .before .before .before) true (c .before .before .before .before .if1 .taken)) _ _ (b .ensures .0) (b .ensures .1),
+      following-more _ _ (first (l .before)) _ (under l) (l .loop .inv .0) (l .loop .inv .1)
+          (answer (c .before .before .before .before .before) true (c .before .before .before .before .if1 .taken)) _ _
+          (b .ensures .0) (b .ensures .1),
       search needs,
     )
 
-same-length : tie.Need-same-length Inv-loop μ-loop
-same-length c = search needs
-
 returns : tie.Need-returns Inv-loop μ-loop
-returns c = following-done _ _ (first (c .before .before .before)) _ (under (c .before .before)) (c .before .before .loop .inv .0) (answer (c .before) false (c .if1 .left))
+returns c =
+    following-done _ _ (first (c .before .before .before)) _ (under (c .before .before)) (c .before .before .loop .inv .0)
+    (answer (c .before) false (c .if1 .left))
 
 pub follow-spec : {M : Type 1} → statement M
 follow-spec =
     tie.close
     (tie.spec
-    Inv-loop
-    μ-loop
-    nodes-anew-requires
-    loop-holds
-    may-follow-requires
-    add-number
-    begin-requires
-    loop-less
-    loop-again
-    same-length
-    returns)
+    Inv-loop μ-loop (λ c κs. search needs) loop-holds (λ c κs. search needs) (λ c. search needs) begin-requires
+    loop-less loop-again (λ c. search needs) returns)

@@ -25,7 +25,8 @@ chunk : (c : tie.After-smaller Inv-loop μ-loop)
     → (1 ≤ c .smaller .result) × (c .smaller .result ≤ c .before .before .before .before .before .loop .left)
     × (under c .opening .made + c .smaller .result ≤ nodesAnew (under c .opening .depth) (under c .opening .memory))
 chunk c =
-    chunk-some _ _ _ _ _ (under c) _ (c .before .before .before .before .before .loop .inv .0) _ (c .smaller .result) (c .before .before .before .before .loop-test .taken)
+    chunk-some _ _ _ _ _ (under c) _ (c .before .before .before .before .before .loop .inv .0) _ (c .smaller .result)
+    (c .before .before .before .before .loop-test .taken)
     (c .before .before .nodes-anew .ensures) (c .smaller .ensures)
 
 loop-holds : tie.Need-loop-holds Inv-loop μ-loop
@@ -40,9 +41,6 @@ nodes-anew-requires c κs =
 
 sub-smaller : tie.Need-sub-smaller Inv-loop μ-loop
 sub-smaller c = omega (arith, c .before .nodes-anew .ensures, c .before .before .before .before .loop .inv .0 .ready .few)
-
-smaller-requires : tie.Need-smaller-requires Inv-loop μ-loop
-smaller-requires c κs = search needs
 
 label-some-requires : tie.Need-label-some-requires Inv-loop μ-loop
 label-some-requires c κs =
@@ -75,15 +73,5 @@ pub label-many-spec : {M : Type 1} → statement M
 label-many-spec =
     tie.close
     (tie.spec
-    Inv-loop
-    μ-loop
-    loop-holds
-    nodes-anew-requires
-    sub-smaller
-    smaller-requires
-    label-some-requires
-    sub-left
-    loop-less
-    loop-again
-    same-length
-    returns)
+    Inv-loop μ-loop loop-holds nodes-anew-requires sub-smaller (λ c κs. search needs) label-some-requires sub-left
+    loop-less loop-again same-length returns)

@@ -4,18 +4,13 @@ use Rattle.writing.proofs.FollowLaws.{under-ready, some-labelled}
 use Rattle.writing.proofs.labels.label_some.Statement.{statement}
 use Rattle.writing.proofs.labels.label_some.Tie as tie
 
-label-part-requires : tie.Need-label-part-requires
-label-part-requires c κs = search needs
-
 follow-requires : tie.Need-follow-requires
 follow-requires c κs =
     let l = c .before .before .before in
     let s = l .before .before .before .before in
-    under-ready (s .args .store .now) (s .args .file .now) (s .args .writing) (s .pre .0 .0) (s .args .labels) (s .pre .1) _ (l .label-part .last .1 .1 .1 .0)
+    under-ready (s .args .store .now) (s .args .file .now) (s .args .writing) (s .pre .0 .0) (s .args .labels) (s .pre .1) _
+    (l .label-part .last .1 .1 .1 .0)
     (l .label-part .ensures .0) (l .label-part .kept .1 .1 .1 .0)
-
-same-length : tie.Need-same-length
-same-length c = search needs
 
 returns : tie.Need-returns
 returns c =
@@ -26,4 +21,4 @@ returns c =
     (l .label-part .ensures .0) (l .label-part .ensures .1) (l .label-part .kept .1 .1 .1 .0) (f .ensures .0) (f .ensures .1 .0) (f .ensures .1 .1)
 
 pub label-some-spec : {M : Type 1} → statement M
-label-some-spec = tie.close (tie.spec label-part-requires follow-requires same-length returns)
+label-some-spec = tie.close (tie.spec (λ c κs. search needs) follow-requires (λ c. search needs) returns)

@@ -9,7 +9,9 @@ use Rattle.writing.proofs.labels.labels_left.Tie as tie
 
 -- few openings, each of few labels
 small : (c : tie.After-struct-known)
-    → ((c .before .before .before .args .writing .count - c .before .before .before .args .writing .number) * c .before .nodes-anew .result ≤ 200 * c .before .nodes-anew .result)
+    →
+    ((c .before .before .before .args .writing .count - c .before .before .before .args .writing .number) *
+    c .before .nodes-anew .result ≤ 200 * c .before .nodes-anew .result)
     × (c .before .nodes-anew .result < 2 ^ 41)
 small c =
     let s = c .before .before .before in
@@ -18,17 +20,8 @@ small c =
       omega (arith, c .before .nodes-anew .ensures, anew-small (w .opening .depth) (w .opening .memory) (s .pre .0 .0)),
     )
 
-nodes-anew-requires : tie.Need-nodes-anew-requires
-nodes-anew-requires c κs = search needs
-
-sub-result : tie.Need-sub-result
-sub-result c = search needs
-
 mul-result : tie.Need-mul-result
 mul-result c = omega (arith, small c)
-
-sub-result-2 : tie.Need-sub-result-2
-sub-result-2 c = search needs
 
 add-result : tie.Need-add-result
 add-result c = omega (arith, small (c .before))
@@ -38,4 +31,6 @@ returns c = rw (c .before .before .nodes-anew .ensures)
 
 pub labels-left-spec : {M : Type 1} → statement M
 labels-left-spec =
-    tie.close (tie.spec nodes-anew-requires sub-result mul-result sub-result-2 add-result returns)
+    tie.close
+    (tie.spec
+    (λ c κs. search needs) (λ c. search needs) mul-result (λ c. search needs) add-result returns)

@@ -5,23 +5,15 @@ use Rattle.writing.proofs.BegunLaws.{first-ready, new-written}
 use Rattle.writing.proofs.labels.write_first.Statement.{statement}
 use Rattle.writing.proofs.labels.write_first.Tie as tie
 
-write-head-requires : tie.Need-write-head-requires
-write-head-requires c κs = search needs
-
-begin-requires : tie.Need-begin-requires
-begin-requires c κs = search needs
-
 follow-requires : tie.Need-follow-requires
 follow-requires c κs =
     let b = c .before .before .before in
     let h = b .before .before .before .before in
     let s = h .before .before .before .before in
     let a = s .args in
-    first-ready (a .statement) (a .root) (a .depth) (a .memory) (a .count) (a .store .now) (a .file .now) _ (s .pre) (h .write-head .ensures .1) _ (b .begin .last .1 .1 .1 .1 .1 .1 .1 .0) (b .begin .ensures .0) (b .begin .ensures .1)
+    first-ready (a .statement) (a .root) (a .depth) (a .memory) (a .count) (a .store .now) (a .file .now) _ (s .pre)
+    (h .write-head .ensures .1) _ (b .begin .last .1 .1 .1 .1 .1 .1 .1 .0) (b .begin .ensures .0) (b .begin .ensures .1)
     (b .begin .kept .1 .1 .1 .1 .1 .1 .1 .0 ∙ h .write-head .kept .1 .1 .1 .1 .0)
-
-same-length : tie.Need-same-length
-same-length c = search needs
 
 returns : tie.Need-returns
 returns c =
@@ -30,8 +22,12 @@ returns c =
     let h = b .before .before .before .before in
     let s = h .before .before .before .before in
     let a = s .args in
-    new-written (a .statement) (a .root) (a .depth) (a .memory) (a .count) (a .store .now) (a .file .now) _ (s .pre) (h .write-head .ensures .1) _ _ (b .begin .ensures .0) (b .begin .ensures .1) _ _ (f .follow .ensures .0) (f .follow .ensures .1 .0)
+    new-written (a .statement) (a .root) (a .depth) (a .memory) (a .count) (a .store .now) (a .file .now) _ (s .pre)
+    (h .write-head .ensures .1) _ _ (b .begin .ensures .0) (b .begin .ensures .1) _ _ (f .follow .ensures .0)
+    (f .follow .ensures .1 .0)
 
 pub write-first-spec : {M : Type 1} → statement M
 write-first-spec =
-    tie.close (tie.spec write-head-requires begin-requires follow-requires same-length returns)
+    tie.close
+    (tie.spec
+    (λ c κs. search needs) (λ c κs. search needs) follow-requires (λ c. search needs) returns)

@@ -9,39 +9,18 @@ use Rattle.writing.proofs.BegunLaws.{begun-opening, begun-file}
 use Rattle.writing.proofs.parts.begin.Statement.{statement}
 use Rattle.writing.proofs.parts.begin.Tie as tie
 
-challenge-requires : tie.Need-challenge-requires
-challenge-requires c κs = search needs
-
-part-start-requires : tie.Need-part-start-requires
-part-start-requires c κs = search needs
-
 -- the part lies within the file
-part-inside : (c : tie.After-part-start) → c .part-start .result + openingSize (c .before .before .before .before .args .depth) ≤ length (c .before .before .before .before .args .file .now)
+part-inside :
+    (c : tie.After-part-start)
+    → c .part-start .result + openingSize (c .before .before .before .before .args .depth) ≤ length
+    (c .before .before .before .before .args .file .now)
 part-inside c = omega (arith, c .part-start .ensures .1, c .before .before .before .before .pre .fileFits)
-
-add-end : tie.Need-add-end
-add-end c = search needs
-
-mul-end : tie.Need-mul-end
-mul-end c = search needs
 
 add-end-2 : tie.Need-add-end-2
 add-end-2 c = omega (arith, part-inside c)
 
-sub-start : tie.Need-sub-start
-sub-start c = search needs
-
-part-start-start : tie.Need-part-start-start
-part-start-start c = search needs
-
 part-start-end : tie.Need-part-start-end
 part-start-end c = part-inside c
-
-start-requires : tie.Need-start-requires
-start-requires c κs = search needs
-
-same-length : tie.Need-same-length
-same-length c = search needs
 
 returns : tie.Need-returns
 returns c =
@@ -61,14 +40,5 @@ pub begin-spec : {M : Type 1} → statement M
 begin-spec =
     tie.close
     (tie.spec
-    challenge-requires
-    part-start-requires
-    add-end
-    mul-end
-    add-end-2
-    sub-start
-    part-start-start
-    part-start-end
-    start-requires
-    same-length
-    returns)
+    (λ c κs. search needs) (λ c κs. search needs) (λ c. search needs) (λ c. search needs) add-end-2 (λ c. search needs)
+    (λ c. search needs) part-start-end (λ c κs. search needs) (λ c. search needs) returns)

@@ -9,36 +9,19 @@ use Rattle.writing.proofs.BegunLaws.{labelled-writing, labelled-file}
 use Rattle.writing.proofs.parts.label_part.Statement.{statement}
 use Rattle.writing.proofs.parts.label_part.Tie as tie
 
-part-start-requires : tie.Need-part-start-requires
-part-start-requires c κs = search needs
-
 -- the part lies within the file
-part-inside : (c : tie.After-struct-known) → c .before .part-start .result + openingSize (c .before .before .before .before .before .before .args .writing .opening .depth) ≤ length (c .before .before .before .before .before .before .args .file .now)
+part-inside :
+    (c : tie.After-struct-known)
+    → c .before .part-start .result + openingSize
+    (c .before .before .before .before .before .before .args .writing .opening .depth) ≤ length
+    (c .before .before .before .before .before .before .args .file .now)
 part-inside c = omega (arith, c .before .part-start .ensures .1, c .before .before .before .before .before .before .pre .0 .room .fileFits)
-
-add-end : tie.Need-add-end
-add-end c = search needs
-
-mul-end : tie.Need-mul-end
-mul-end c = search needs
 
 add-end-2 : tie.Need-add-end-2
 add-end-2 c = omega (arith, part-inside c)
 
-sub-advance : tie.Need-sub-advance
-sub-advance c = search needs
-
-part-advance-start : tie.Need-part-advance-start
-part-advance-start c = search needs
-
 part-advance-end : tie.Need-part-advance-end
 part-advance-end c = part-inside c
-
-advance-requires : tie.Need-advance-requires
-advance-requires c κs = search needs
-
-same-length : tie.Need-same-length
-same-length c = search needs
 
 returns : tie.Need-returns
 returns c =
@@ -56,13 +39,5 @@ pub label-part-spec : {M : Type 1} → statement M
 label-part-spec =
     tie.close
     (tie.spec
-    part-start-requires
-    add-end
-    mul-end
-    add-end-2
-    sub-advance
-    part-advance-start
-    part-advance-end
-    advance-requires
-    same-length
-    returns)
+    (λ c κs. search needs) (λ c. search needs) (λ c. search needs) add-end-2 (λ c. search needs) (λ c. search needs)
+    part-advance-end (λ c κs. search needs) (λ c. search needs) returns)

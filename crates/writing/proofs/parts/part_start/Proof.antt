@@ -1,25 +1,10 @@
 -- `writing::parts::part_start` meets its contract: the openings from number i on end the file.
 use borrow.Author.Needs.{needs}
 use native.Mathlib.Omega.{arith}
-use Rattle.proof.specs.Layout.{fileSize}
+use Rattle.proof_file.specs.Layout.{fileSize}
 use Rattle.writing.proofs.PartLaws.{part-from, part-fits}
 use Rattle.writing.proofs.parts.part_start.Statement.{statement}
 use Rattle.writing.proofs.parts.part_start.Tie as tie
-
-file-size-requires : tie.Need-file-size-requires
-file-size-requires c κs = search needs
-
-add-result : tie.Need-add-result
-add-result c = search needs
-
-sub-result : tie.Need-sub-result
-sub-result c = search needs
-
-add-result-2 : tie.Need-add-result-2
-add-result-2 c = search needs
-
-mul-result : tie.Need-mul-result
-mul-result c = search needs
 
 mul-result-2 : tie.Need-mul-result-2
 mul-result-2 c =
@@ -42,11 +27,5 @@ pub part-start-spec : {M : Type 1} → statement M
 part-start-spec =
     tie.close
     (tie.spec
-    file-size-requires
-    add-result
-    sub-result
-    add-result-2
-    mul-result
-    mul-result-2
-    sub-result-2
-    returns)
+    (λ c κs. search needs) (λ c. search needs) (λ c. search needs) (λ c. search needs) (λ c. search needs) mul-result-2
+    sub-result-2 returns)

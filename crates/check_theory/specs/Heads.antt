@@ -1,0 +1,26 @@
+-- What stands in a head, and when two heads say the same.
+use mathlib.Core.Path.{_≡_}
+use Prim.Native.Nat.{ℕ}
+use mathlib.Core.List.{List, _++_}
+use lib.ListN.{length, drop}
+use Rattle.proof_file.specs.Layout.{headNumbers}
+use Rattle.check_theory.specs.IsProof.{IsDepth, IsCount}
+
+pub record IsHead (statement root : List ℕ) (n t : ℕ) : Type 0 where
+  pub statementSize : length statement ≡ 32
+  pub rootSize : length root ≡ 32
+  pub depth : IsDepth n
+  pub count : IsCount t
+
+pub record SameHead (statement root : List ℕ) (n t : ℕ) (statement′ root′ : List ℕ) (n′ t′ : ℕ) : Type 0 where
+  pub statements : statement ≡ statement′
+  pub roots : root ≡ root′
+  pub depths : n ≡ n′
+  pub counts : t ≡ t′
+
+-- the bytes begin with the numbers of a head, which end at a place
+pub record NumbersRead (bytes : List ℕ) (n t at : ℕ) : Type 0 where
+  pub depth : IsDepth n
+  pub count : IsCount t
+  pub ends : at ≡ length (headNumbers n t)
+  pub form : bytes ≡ headNumbers n t ++ drop at bytes

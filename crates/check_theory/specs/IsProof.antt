@@ -1,0 +1,49 @@
+-- Document 01: the files that are accepted, and the openings that are right.
+use mathlib.Core.Path.{_≡_}
+use Prim.Native.Nat.{ℕ, _-_, _^_, _≤_, _<_}
+use mathlib.Core.List.{List, []}
+use lib.ListN.{length, getD}
+use Rattle.base.specs.Limits.{maxDepth, maxChallenges}
+use Rattle.base.specs.Lists.{EachOf}
+use Rattle.tree.specs.Openings.{Right}
+use Rattle.label.specs.Rule.{stampRule}
+use Rattle.opening.specs.Rows.{openingSize}
+use Rattle.proof_file.specs.Challenge.{challengeLeaf}
+use Rattle.proof_file.specs.Layout.{file}
+use Rattle.opening_check.specs.OpeningCheck.{givenBy}
+
+-- a depth is 1 to 40, a count of challenges 1 to 200
+abbrev pub IsDepth : ℕ → Type 0
+IsDepth n = (1 ≤ n) × (n ≤ maxDepth)
+
+abbrev pub IsCount : ℕ → Type 0
+IsCount t = (1 ≤ t) × (t ≤ maxChallenges)
+
+-- an opening's bytes give labels that are right at a leaf
+abbrev pub OpeningRight : List ℕ → ℕ → ℕ → List ℕ → List ℕ → Type 0
+OpeningRight statement n leaf root bytes = Right (stampRule statement) n leaf (givenBy bytes) root
+
+-- an opening checked alone is accepted
+pub record RightAlone (statement : List ℕ) (n leaf : ℕ) (root bytes : List ℕ) : Type 0 where
+  pub depth : IsDepth n
+  pub position : leaf < 2 ^ n
+  pub size : length bytes ≡ openingSize n
+  pub right : OpeningRight statement n leaf root bytes
+
+-- opening i, from 1
+abbrev pub nth : List (List ℕ) → ℕ → List ℕ
+nth openings i = getD openings (i - 1) []
+
+-- A proof of depth n with t challenges for a statement: the bytes are the file over a root and t openings, of which each is
+-- right at the leaf that its challenge picks.
+pub record IsProof (bytes statement : List ℕ) (n t : ℕ) : Type 0 where
+  pub depth : IsDepth n
+  pub count : IsCount t
+  pub root : List ℕ
+  pub openings : List (List ℕ)
+  pub statementSize : length statement ≡ 32
+  pub rootSize : length root ≡ 32
+  pub openingCount : length openings ≡ t
+  pub openingSizes : EachOf (openingSize n) openings
+  pub isFile : bytes ≡ file statement root n t openings
+  pub allRight : (i : ℕ) → 1 ≤ i → i ≤ t → OpeningRight statement n (challengeLeaf n statement root i) root (nth openings i)

@@ -1,0 +1,36 @@
+-- The program's own store and file hold what an order to seal asks for.
+use mathlib.Core.Path.{_≡_}
+use mathlib.Core.Logic.{⊎-elim}
+use Prim.Native.Nat.{ℕ, _+_, _-_, _≤_}
+use lib.Pow.{pow-mono}
+use native.Mathlib.Omega.{arith}
+use Rattle.groups.proofs.Steps.{lt-or-le}
+use Rattle.tree.specs.Store.{storeSize}
+use Rattle.proof_file.specs.Layout.{fileSize}
+use Rattle.proof_file.proofs.HeadLaws.{openings-small}
+use Rattle.proof_file.proofs.WritingLaws.{size-three, size-four}
+use Rattle.writing_theory.specs.Filed.{Writable}
+use Rattle.words.specs.declared.Words.the-variants.{Right}
+use Rattle.words.specs.Orders.{sealRow}
+use Rattle.words.proofs.OrderLaws.{Sealing, seal-bounds}
+
+pub file-fits : (n t : ℕ) → n ≤ 40 → t ≤ 200 → fileSize n t ≤ 262468
+file-fits n t h k =
+    ⊎-elim
+    (λ few. omega (arith, size-three n t h few, openings-small n t h k))
+    (λ many. omega (arith, size-four n t h many k, openings-small n t h k))
+    (lt-or-le t 128)
+
+store-fits : (m : ℕ) → m ≤ 14 → storeSize m ≤ 1048544
+store-fits m h = omega (arith, pow-mono {i = m + 1} {j = 15} (omega arith))
+
+pub seal-fits : (n t m store file : ℕ) → sealRow n t m ≡ Right → store ≡ 1048544 → file ≡ 262468 → Writable n m t store file
+seal-fits n t m store file r s f =
+    let b : Sealing n t m = seal-bounds n t m r in
+    record {
+      depth = b .depth;
+      memory = omega (arith, b .memory);
+      storeFits = omega (arith, store-fits m (b .memory .1));
+      count = b .count;
+      fileFits = omega (arith, file-fits n t (b .depth .1) (b .count .1));
+    }

@@ -1,0 +1,62 @@
+// Verdict, chain and clash written to a descriptor, each in one piece.
+ghost use mathlib.Core.Path.{_≡_};
+ghost use Rattle.base.specs.Bytes.{zeros};
+ghost use Rattle.planning.specs.Output.{places, maxOutput};
+use crate::heads::wanted_in;
+use lines::complain;
+use lines::say;
+use lines::say_text;
+use verdict_lines::clash_lines;
+use verdict_lines::put_drawing;
+use verdict_lines::verdict;
+
+// Places for the longest chain.
+fn empty_list() -> [u64; 6855]
+    ensures { λ r. ⌜ r ≡ zeros places ⌝ }
+{
+    [0u64; 6855]
+}
+
+// As much as is ever printed of a chain.
+fn empty_text() -> [u8; 287992]
+    ensures { λ r. ⌜ r ≡ zeros maxOutput ⌝ }
+{
+    [0u8; 287992]
+}
+
+// Writes the first bytes of a text to `out`; if that fails, one line on `err` says so.
+fn write_out(text: &[u8], length: usize, out: i32, err: i32) {
+    if text.len() < length {
+        return;
+    }
+    if !say_text(out, &text[..length]) {
+        complain(err, b"standard output", b"could not be written whole");
+    }
+}
+
+// Prints `verdictText` of verdict_lines' specs/Verdict.antt: of the drawing, the depth and count wanted and the file's size.
+pub fn tell_verdict(file: &[u8], statement: [u8; 32], depth: u64, count: u64, out: i32, err: i32) {
+    let mut list = empty_list();
+    let drawn = draw::draw(file, statement, depth, count, &mut list);
+    let drawing = drawn.drawing;
+    let line = verdict(drawing, depth, count, file.len());
+    let text = line.text;
+    write_out(&text, line.length, out, err)
+}
+
+// Prints `chainText` of chain_lines' specs/Text.antt: of the drawing by the depth and count of the head.
+pub fn tell_chain(file: &[u8], statement: [u8; 32], out: i32, err: i32) {
+    let wanted = wanted_in(file);
+    let depth = wanted.depth;
+    let count = wanted.count;
+    let mut list = empty_list();
+    let drawn = draw::draw(file, statement, depth, count, &mut list);
+    let mut text = empty_text();
+    let length = put_drawing(file, statement, depth, count, drawn, &list, &mut text);
+    write_out(&text, length, out, err)
+}
+
+// Prints `clashLines` of verdict_lines' specs/Verdict.antt.
+pub fn say_clash(i: u64, j: u64, level: u64, first: [u8; 105], second: [u8; 105], out: i32) {
+    say(out, clash_lines(i, j, level, first, second));
+}

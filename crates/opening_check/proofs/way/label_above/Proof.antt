@@ -1,0 +1,24 @@
+-- `opening_check::label_above` meets its contract, for a right child and for a left one.
+use mathlib.Core.Path.{_∙_}
+use borrow.Author.Needs.{needs}
+use Rattle.opening_check.proofs.OneOpening.{above-right, above-left}
+use Rattle.opening_check.proofs.way.label_above.Statement.{statement}
+use Rattle.opening_check.proofs.way.label_above.Tie as tie
+
+returns : tie.Need-returns
+returns c =
+    let a = c .before .before .before .before .args in
+    c .label .ensures
+    ∙ above-right (a .statement) (a .level) (a .position) (a .t4) (a .beside .now) (c .before .before .if1 .taken)
+
+returns-2 : tie.Need-returns-2
+returns-2 c =
+    let a = c .before .before .before .before .args in
+    c .label2 .ensures
+    ∙ above-left (a .statement) (a .level) (a .position) (a .t4) (a .beside .now) (c .before .before .if1 .left)
+
+pub label-above-spec : {M : Type 1} → statement M
+label-above-spec =
+    tie.close
+    (tie.spec
+    (λ c. search needs) (λ c κs. search needs) returns (λ c. search needs) (λ c κs. search needs) returns-2)

@@ -1,0 +1,57 @@
+// Document 01, 'Challenges and the file': the file's numbers read.
+ghost use mathlib.Core.Path.{_≡_};
+ghost use Rattle.proof_file.specs.Head.{headAnswer, headOf};
+ghost use Rattle.proof_file.specs.HeadSteps.{countFrom, depthFrom};
+use crate::HeadNumbers;
+use groups::Cursor;
+use groups::Number;
+use opening_check::beyond;
+use refusal::Refusal;
+
+// The count, after the depth.
+fn read_count(bytes: &[u8], n: u64, from: Cursor) -> HeadNumbers
+    ensures { λ r. ⌜ headAnswer r ≡ countFrom (now (bytes .entry)) n (from .at) ⌝ }
+{
+    let number = groups::read(bytes, from, 2);
+    match number {
+        Number::Refused(r) => HeadNumbers::NotRead(r),
+        Number::Value(t, next) => {
+            if beyond(200, t) {
+                return HeadNumbers::NotRead(Refusal::Count);
+            }
+            HeadNumbers::Numbers(n, t, next)
+        }
+    }
+}
+
+// The depth and the count, after the edition.
+fn read_depth(bytes: &[u8], from: Cursor) -> HeadNumbers
+    ensures { λ r. ⌜ headAnswer r ≡ depthFrom (now (bytes .entry)) (from .at) ⌝ }
+{
+    let number = groups::read(bytes, from, 2);
+    match number {
+        Number::Refused(r) => HeadNumbers::NotRead(r),
+        Number::Value(n, next) => {
+            if beyond(40, n) {
+                return HeadNumbers::NotRead(Refusal::Depth);
+            }
+            read_count(bytes, n, next)
+        }
+    }
+}
+
+// The head's numbers, or the first refusal.
+pub fn read_head(bytes: &[u8]) -> HeadNumbers
+    ensures { λ r. ⌜ headAnswer r ≡ headOf (now (bytes .entry)) ⌝ }
+{
+    let number = groups::read(bytes, Cursor { at: 0 }, 2);
+    match number {
+        Number::Refused(r) => HeadNumbers::NotRead(r),
+        Number::Value(edition, next) => {
+            if edition == 1 {
+                return read_depth(bytes, next);
+            }
+            HeadNumbers::NotRead(Refusal::Edition)
+        }
+    }
+}

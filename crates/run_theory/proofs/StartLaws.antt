@@ -1,0 +1,52 @@
+-- Document 01's rows of a run: a start is done just when its numbers are in their bounds, and then each of its calls is.
+use mathlib.Core.Path.{_≡_, refl, ap}
+use Prim.Native.Nat.{ℕ, _≤_, min}
+use mathlib.Core.Bool.{Bool}
+use mathlib.Core.List.{List, [], _∷_}
+use lib.Dec.{ltb, leb}
+use borrow.Author.Tests.{leb-true, le-leb, ltb-false, le-ltb, not-false}
+use Rattle.base.specs.Choice.{pick}
+use Rattle.base.proofs.ChoiceLaws.{both-first, both-second}
+use Rattle.refusal.specs.Row.{outside, isDone}
+use Rattle.refusal.proofs.RowLaws.{none-holds, NoneHolds}
+use Rattle.tree.specs.Walk.{nodesIn}
+use Rattle.tree.specs.Store.{storeSize}
+use Rattle.run.specs.Rows.{memoryOver, startRow, continueRow}
+use Rattle.run.specs.Steps.{newRun, noRun, started}
+use Rattle.run_theory.specs.Reached.{runAfter}
+use Rattle.run_theory.specs.Runs.{Startable}
+
+module _ (n m size : ℕ) where
+  pub start-done : Startable n m size → startRow n m size ≡ 0
+  unfolding startRow
+  start-done s =
+      rw
+      (le-leb 1 n (s .positive), le-leb n 40 (s .shallow), le-ltb (min n 20) m (s .memory), le-ltb size (storeSize m) (s .enough))
+
+  pub start-bounds : startRow n m size ≡ 0 → Startable n m size
+  unfolding startRow
+  start-bounds e =
+      let row : List (Bool × ℕ) = (outside 1 40 n, 1) ∷ (memoryOver n m, 2) ∷ (ltb size (storeSize m), 3) ∷ [] in
+      let none : NoneHolds row = none-holds row refl e in
+      record {
+        positive = leb-true 1 n (both-first (leb 1 n) (leb n 40) (not-false _ (none .0)));
+        shallow = leb-true n 40 (both-second (leb 1 n) (leb n 40) (not-false _ (none .0)));
+        memory = ltb-false (min n 20) m (none .1 .0);
+        enough = ltb-false size (storeSize m) (none .1 .1 .0);
+      }
+
+  pub started-done : (statement : List ℕ) → startRow n m size ≡ 0 → started statement n m size ≡ newRun statement n m
+  unfolding started
+  started-done statement e = ap (λ o. pick (isDone o) (newRun statement n m) noRun) e
+
+  pub continue-done :
+      (statement : List ℕ) (k : ℕ) → Startable n m size → k ≤ nodesIn n → continueRow (runAfter statement n m k) size ≡ 0
+  unfolding continueRow
+  continue-done statement k s small =
+      rw (
+        le-leb 1 n (s .positive),
+        le-leb n 40 (s .shallow),
+        le-ltb (min n 20) m (s .memory),
+        le-ltb (nodesIn n) k small,
+        le-ltb size (storeSize m) (s .enough),
+      )

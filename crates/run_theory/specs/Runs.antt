@@ -1,0 +1,29 @@
+-- A run that is not refused at its start, the state that k labels give, and calls with budgets.
+use Prim.Native.Nat.{ℕ, _≤_, min}
+use mathlib.Core.List.{List}
+use Rattle.base.specs.Limits.{maxDepth, maxMemory}
+use Rattle.tree.specs.Store.{storeSize}
+use Rattle.run.specs.Steps.{newRun, Stamped, labelsIn, advanced}
+use Rattle.run_theory.specs.Calls.{afterCalls, labelsOver}
+use Rattle.run_theory.specs.Reached.{runAfter, storeAfter}
+
+-- n from 1 to 40, m at most min(n, 20), and a store of so many bytes long enough
+pub record Startable (n m size : ℕ) : Type 0 where
+  pub positive : 1 ≤ n
+  pub shallow : n ≤ maxDepth
+  pub memory : m ≤ min n maxMemory
+  pub enough : storeSize m ≤ size
+
+-- a new run with its store, and what they are to be after k labels
+unfoldable pub atStart : List ℕ → ℕ → ℕ → List ℕ → Stamped
+atStart statement n m store = record { run = newRun statement n m; store = store }
+
+abbrev pub reachedAt : List ℕ → ℕ → ℕ → List ℕ → ℕ → Stamped
+reachedAt statement n m store k = record { run = runAfter statement n m k; store = storeAfter statement n m k store }
+
+-- the run and its store after calls with these budgets, and the labels that they report, added up
+abbrev pub called : Stamped → List ℕ → Stamped
+called s budgets = afterCalls advanced s budgets
+
+abbrev pub reported : Stamped → List ℕ → ℕ
+reported s budgets = labelsOver advanced labelsIn s budgets

@@ -1,0 +1,98 @@
+-- From a run's start to the file: a run carried to its end gives root and store, and these give the tree's file, by any cuts of
+-- budgets and at every memory level.
+use mathlib.Core.Path.{_≡_, sym, ap, _∙_}
+use Prim.Native.Nat.{ℕ, _-_, _≤_, min}
+use native.Mathlib.Omega.{arith}
+use mathlib.Core.List.{List, _++_}
+use lib.ListN.{length, take, drop}
+use lib.Seq.{take-at}
+use Rattle.base.specs.Bytes.{zeros}
+use Rattle.tree.specs.Nodes.{root}
+use Rattle.tree.specs.Walk.{nodesIn}
+use Rattle.run.specs.Steps as runs
+use Rattle.run.specs.Steps.{heldSize, Stamped}
+use Rattle.proof_file.specs.Layout.{fileSize}
+use Rattle.proof_file.specs.FileCheck.{fileCheck}
+use Rattle.run_theory.specs.Calls.{total, afterCalls}
+use Rattle.run_theory.specs.Runs.{Startable, atStart, called}
+use Rattle.run_theory.specs.Openings.{HoldsLabels}
+use Rattle.run_theory.proofs.Step.{label-size}
+use Rattle.run_theory.proofs.StoreLaws.{store-length}
+use Rattle.run_theory.proofs.RunLaws.{run-reached, finished-held, finished-store, called-cut}
+use Rattle.check_theory.specs.IsProof.{IsCount}
+use Rattle.check_theory.specs.TreeFile.{rootOf, treeFile}
+use Rattle.writing.specs.Steps.{Written, started, advanced}
+use Rattle.writing_theory.specs.Filed.{Writable, labelsAnew, fileFrom}
+use Rattle.writing_theory.proofs.Laid.{front-accepted}
+use Rattle.writing_theory.proofs.Rows.{started-done}
+use Rattle.writing_theory.proofs.Calls.{file-carried}
+
+module _ (statement : List ℕ) (n m : ℕ) (store : List ℕ) (startable : Startable n m (length store)) where
+  -- ---- a finished run
+  pub finished-holds : HoldsLabels statement n m (runs.steps (nodesIn n) (atStart statement n m store) .store)
+  finished-holds u inside = finished-store statement n m store startable u (omega arith, inside .1) (inside .0)
+
+  pub finished-root : take 32 (runs.steps (nodesIn n) (atStart statement n m store) .run .held) ≡ rootOf statement n
+  finished-root =
+      rw (finished-held statement n m store (startable .shallow))
+      (take-at (rootOf statement n) (zeros (heldSize - 32)) 32 (label-size statement n root))
+
+  finished-length : length (runs.steps (nodesIn n) (atStart statement n m store) .store) ≡ length store
+  finished-length =
+      rw (run-reached statement n m store (startable .shallow) (nodesIn n) (omega arith))
+      (store-length statement n m store (startable .enough) (nodesIn n) (omega arith))
+
+  -- ---- the file from it
+  module _
+      (t : ℕ) (file : List ℕ) (size : length statement ≡ 32) (count : IsCount t) (fits : fileSize n t ≤ length file) where
+    writable : Writable n m t (length (runs.steps (nodesIn n) (atStart statement n m store) .store)) (length file)
+    writable =
+        record {
+          depth = (startable .positive, startable .shallow);
+          memory = startable .memory;
+          storeFits = rw finished-length (startable .enough);
+          count = count;
+          fileFits = fits;
+        }
+
+    file-finished :
+        (budgets : List ℕ) → labelsAnew n m t ≤ total budgets
+        → fileFrom (runs.steps (nodesIn n) (atStart statement n m store)) statement n m t file budgets
+        ≡ treeFile statement n t ++ drop (fileSize n t) file
+    file-finished budgets enough =
+        let s : Stamped = runs.steps (nodesIn n) (atStart statement n m store) in
+        let from : Written → List ℕ = λ w. afterCalls (advanced (s .store)) w budgets .file in
+        ap (λ (r : List ℕ). from (started statement r n m t (s .store) file)) finished-root
+        ∙ ap from (started-done statement (rootOf statement n) n m t (s .store) file writable)
+        ∙ file-carried statement n m t (s .store) file size finished-holds writable budgets enough
+
+    -- whatever the memory level, and however labelling and writing are cut
+    pub run-to-file :
+        (labelling budgets : List ℕ) → nodesIn n ≤ total labelling → labelsAnew n m t ≤ total budgets
+        → fileFrom (called (atStart statement n m store) labelling) statement n m t file budgets
+        ≡ treeFile statement n t ++ drop (fileSize n t) file
+    run-to-file labelling budgets all enough =
+        let whole : min (total labelling) (nodesIn n) ≡ nodesIn n = omega arith in
+        let done : called (atStart statement n m store) labelling ≡ runs.steps (nodesIn n) (atStart statement n m store) =
+        called-cut statement n m store startable labelling ∙ rw whole in
+        rw done (file-finished budgets enough)
+
+    pub run-to-file-accepted :
+        (labelling budgets : List ℕ) → nodesIn n ≤ total labelling → labelsAnew n m t ≤ total budgets
+        → fileCheck (take (fileSize n t) (fileFrom (called (atStart statement n m store) labelling) statement n m t file budgets)) statement n t
+        ≡ 0
+    run-to-file-accepted labelling budgets all enough =
+        rw (run-to-file labelling budgets all enough)
+        (front-accepted statement n t (drop (fileSize n t) file) size (startable .positive, startable .shallow) count)
+
+-- one file, at whichever memory levels and over whichever stores
+pub one-file :
+    (statement : List ℕ) (n m m′ t : ℕ) (store store′ file labelling labelling′ budgets budgets′ : List ℕ)
+    → Startable n m (length store) → Startable n m′ (length store′) → length statement ≡ 32 → IsCount t → fileSize n t ≤ length file
+    → nodesIn n ≤ total labelling → nodesIn n ≤ total labelling′
+    → labelsAnew n m t ≤ total budgets → labelsAnew n m′ t ≤ total budgets′
+    → fileFrom (called (atStart statement n m store) labelling) statement n m t file budgets
+    ≡ fileFrom (called (atStart statement n m′ store′) labelling′) statement n m′ t file budgets′
+one-file statement n m m′ t store store′ file labelling labelling′ budgets budgets′ s s′ size count fits all all′ enough enough′ =
+    run-to-file statement n m store s t file size count fits labelling budgets all enough
+    ∙ sym (run-to-file statement n m′ store′ s′ t file size count fits labelling′ budgets′ all′ enough′)

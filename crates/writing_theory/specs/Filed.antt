@@ -1,0 +1,76 @@
+-- What a writing and its file hold when k labels are made from a start, over a store as a finished run left it.
+use Prim.Native.Nat.{ℕ, _+_, _-_, _*_, _/_, _≤_, min}
+use mathlib.Core.List.{List, _++_}
+use lib.Dec.{eqb}
+use lib.ListN.{take, drop}
+use Rattle.base.specs.Choice.{pick}
+use Rattle.base.specs.Bytes.{joined}
+use Rattle.base.specs.Limits.{maxMemory}
+use Rattle.tree.specs.Store.{storeSize}
+use Rattle.run.specs.Steps.{Stamped}
+use Rattle.opening.specs.Rows.{openingSize, nodesAnew}
+use Rattle.opening.specs.Steps.{Open}
+use Rattle.proof_file.specs.Challenge.{challengeLeaf}
+use Rattle.proof_file.specs.Layout.{head, headSize, fileSize}
+use Rattle.run_theory.specs.Calls.{afterCalls}
+use Rattle.run_theory.specs.Openings.{openAfter}
+use Rattle.check_theory.specs.IsProof.{IsDepth, IsCount}
+use Rattle.check_theory.specs.TreeFile.{rootOf, treeOpenings}
+use Rattle.writing.specs.Steps.{Written, newWriting, started, advanced}
+
+-- the five conditions of a start, over the lengths of store and file
+pub record Writable (n m t store file : ℕ) : Type 0 where
+  pub depth : IsDepth n
+  pub memory : m ≤ min n maxMemory
+  pub storeFits : storeSize m ≤ store
+  pub count : IsCount t
+  pub fileFits : fileSize n t ≤ file
+
+-- a new writing of the tree's file
+abbrev pub newFile : List ℕ → ℕ → ℕ → ℕ → List ℕ → List ℕ → Written
+newFile statement n m t store file = newWriting statement (rootOf statement n) n m t store file
+
+-- all labels that a file of t openings takes
+abbrev pub labelsAnew : ℕ → ℕ → ℕ → ℕ
+labelsAnew n m t = t * nodesAnew n m
+
+-- the file after calls with these budgets, started from a run with its store
+abbrev pub fileFrom : Stamped → List ℕ → ℕ → ℕ → ℕ → List ℕ → List ℕ → List ℕ
+fileFrom s statement n m t file budgets =
+    afterCalls (advanced (s .store)) (started statement (take 32 (s .run .held)) n m t (s .store) file) budgets .file
+
+-- the head and the first q openings of the tree's file, and their size
+unfoldable pub laid : List ℕ → ℕ → ℕ → ℕ → List ℕ
+laid statement n t q = head statement (rootOf statement n) n t ++ joined (treeOpenings statement n q)
+
+unfoldable pub laidSize : ℕ → ℕ → ℕ → ℕ
+laidSize n t q = headSize n t + q * openingSize n
+
+-- an opening and its part under way as opening q + 1, between the bytes before and after
+unfoldable pub underWay : List ℕ → ℕ → ℕ → List ℕ → Open → List ℕ → Written
+underWay root t q before o after =
+    record {
+      writing = record { root = root; count = t; number = q + 1; opening = o .opening };
+      file = before ++ (o .out ++ after);
+    }
+
+-- the leaf of opening q + 1
+abbrev pub leafAfter : List ℕ → ℕ → ℕ → ℕ
+leafAfter statement n q = challengeLeaf n statement (rootOf statement n) (q + 1)
+
+-- q openings written, and r labels of the next
+unfoldable pub writtenAt : List ℕ → ℕ → ℕ → ℕ → List ℕ → ℕ → ℕ → Written
+writtenAt statement n m t file q r =
+    underWay (rootOf statement n) t q (laid statement n t q)
+    (openAfter statement n m (leafAfter statement n q) r (take (openingSize n) (drop (laidSize n t q) file)))
+    (drop (laidSize n t (q + 1)) file)
+
+-- the openings done before the one under way after k labels; the last one stays under way
+unfoldable pub openingsDone : ℕ → ℕ → ℕ → ℕ → ℕ
+openingsDone n m t k = pick (eqb (nodesAnew n m) 0) (t - 1) (min (k / nodesAnew n m) (t - 1))
+
+-- the writing and its file after k labels
+unfoldable pub writtenAfter : List ℕ → ℕ → ℕ → ℕ → List ℕ → ℕ → Written
+writtenAfter statement n m t file k =
+    let q : ℕ = openingsDone n m t k in
+    writtenAt statement n m t file q (k - q * nodesAnew n m)
