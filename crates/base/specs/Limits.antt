@@ -1,5 +1,5 @@
--- Document 01's limits, each named once.
-use Prim.Native.Nat.{ℕ, _-_, _^_}
+-- Document 01's limits, each named once, and the sizes that follow from them.
+use Prim.Native.Nat.{ℕ, _+_, _-_, _*_, _^_}
 
 -- the greatest depth n
 abbrev pub maxDepth : ℕ
@@ -13,6 +13,10 @@ maxMemory = 20
 abbrev pub maxChallenges : ℕ
 maxChallenges = 200
 
+-- the edition of every file
+abbrev pub edition : ℕ
+edition = 1
+
 -- the most bytes that SHA-256 takes here
 abbrev pub maxHashed : ℕ
 maxHashed = 2 ^ 61 - 1
@@ -20,3 +24,29 @@ maxHashed = 2 ^ 61 - 1
 -- the most bytes that the planning program reads
 abbrev pub maxInput : ℕ
 maxInput = 65536
+
+-- 'at most 41 held labels, 1,312 bytes in all'
+abbrev pub heldSize : ℕ
+heldSize = 32 * (maxDepth + 1)
+
+-- the longest input of a label: 41 bytes and the labels of as many parents as there are levels, 1,321 bytes
+abbrev pub maxLabelInput : ℕ
+maxLabelInput = 41 + 32 * maxDepth
+
+-- the longest file: four bytes of numbers, statement, root and the openings, 262,468 bytes
+abbrev pub maxOpenings : ℕ
+maxOpenings = maxChallenges * heldSize
+
+abbrev pub maxFile : ℕ
+maxFile = 68 + maxOpenings
+
+-- the longest chain: 'With t = 200 at most 6,855 nodes.'
+abbrev pub maxChain : ℕ
+maxChain = 6855
+
+-- the greatest memory level that the program's own store holds, and its bytes
+abbrev pub ownLevel : ℕ
+ownLevel = 14
+
+abbrev pub ownStore : ℕ
+ownStore = 32 * (2 ^ (ownLevel + 1) - 1)

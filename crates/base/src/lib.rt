@@ -1,8 +1,31 @@
-// What every layer shares: specs/ has the words of the definitions; here are the one copy of bytes and numbers as bytes.
+// What every layer shares: specs/ has the words of the definitions; here are the limits, the one copy of bytes and numbers as bytes.
 ghost use mathlib.Core.Path.{_≡_};
 ghost use Prim.Native.Nat.{_+_, _≤_};
 ghost use lib.ListN.{length};
 ghost use Rattle.base.specs.Bytes.{bigEndian, written};
+
+// Document 01's limits and the sizes that follow from them: specs/Limits.antt says what each one is.
+pub const MAX_DEPTH: u64 = 40;
+
+pub const MAX_MEMORY: u64 = 20;
+
+pub const MAX_CHALLENGES: u64 = 200;
+
+pub const MAX_LEAVES: usize = MAX_CHALLENGES as usize;
+
+pub const EDITION: u64 = 1;
+
+pub const MAX_INPUT: usize = 65536;
+
+pub const HELD_SIZE: usize = 32 * (MAX_DEPTH as usize + 1);
+
+pub const MAX_FILE: usize = 68 + MAX_LEAVES * HELD_SIZE;
+
+pub const MAX_CHAIN: usize = 6855;
+
+pub const OWN_LEVEL: u64 = 14;
+
+pub const OWN_STORE: usize = 32 * (2 * (1 << OWN_LEVEL) - 1);
 
 // Writes src over dst from `at` on. Its callers know that it fits.
 pub fn put(dst: &mut [u8], at: usize, src: &[u8])

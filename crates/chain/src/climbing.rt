@@ -10,7 +10,7 @@ ghost use Rattle.chain.specs.Place.{Leaves};
 // 2^n, the number of leaves and the code of the first.
 pub fn width(depth: u64) -> u64
     requires { ⌜ depth ≤ maxDepth ⌝ }
-    ensures { λ r. ⌜ (r ≡ 2 ^ depth) × (r ≤ 2 ^ 40) ⌝ }
+    ensures { λ r. ⌜ (r ≡ 2 ^ depth) × (r ≤ 2 ^ maxDepth) ⌝ }
 {
     1u64 << depth
 }

@@ -3,6 +3,8 @@ use crate::climbing::count_plan;
 use crate::climbing::width;
 use crate::climbing::write_plan;
 use crate::sorting::sort_leaves;
+use base::MAX_DEPTH;
+use base::MAX_LEAVES;
 use refusal::Outcome;
 use refusal::Refusal;
 ghost use mathlib.Core.Path.{_≡_};
@@ -47,13 +49,13 @@ pub fn check_leaves(depth: u64, leaves: &[u64]) -> Outcome
     if depth < 1 {
         return Outcome::Refused(Refusal::Depth);
     }
-    if 40 < depth {
+    if MAX_DEPTH < depth {
         return Outcome::Refused(Refusal::Depth);
     }
     if leaves.len() < 1 {
         return Outcome::Refused(Refusal::Count);
     }
-    if 200 < leaves.len() {
+    if MAX_LEAVES < leaves.len() {
         return Outcome::Refused(Refusal::Count);
     }
     if !are_leaves(depth, leaves) {
@@ -106,7 +108,7 @@ pub fn plan(depth: u64, leaves: &[u64], list: &mut [u64]) -> Planned
 pub fn different_leaves(leaves: &[u64]) -> u64
     ensures { λ r. ⌜ r ≡ pick (leb (length (now (leaves .entry))) maxChallenges) (leavesOpened (now (leaves .entry))) 0 ⌝ }
 {
-    if 200 < leaves.len() {
+    if MAX_LEAVES < leaves.len() {
         return 0;
     }
     let sorted = sort_leaves(leaves);

@@ -5,7 +5,7 @@ use native.Mathlib.Omega.{arith}
 use mathlib.Core.Bool.{Bool, true, false}
 use mathlib.Core.List.{List, [], _∷_}
 use lib.ListN.{length, length-append, length-map}
-use Rattle.base.specs.Limits.{maxDepth, maxChallenges}
+use Rattle.base.specs.Limits.{maxDepth, maxChallenges, maxChain}
 use Rattle.base.specs.Choice.{pick}
 use Rattle.chain_theory.specs.Ways.{chain, code, chainCodes}
 use Rattle.chain_theory.specs.Counts.{opened, different, leavesOpened}
@@ -59,16 +59,16 @@ chain-most n leaves h =
     rw (← chain-sorted n leaves, ← length-sorted leaves, chain-chainBelow n (sorted leaves) s)
     (most-below n 0 0 (sorted leaves) (record { increases = increasing-sorted leaves; inside = leaves-under n (sorted leaves) s }))
 
-most-limits : mostNodes 40 200 ≡ 6855
+most-limits : mostNodes maxDepth maxChallenges ≡ maxChain
 unfolding mostNodes
 most-limits = refl
 
 -- Document 01: 'With t = 200 at most 6,855 nodes.'
 pub chain-bound : (n : ℕ) (leaves : List ℕ) → every (isLeaf n) leaves ≡ true → n ≤ maxDepth → leavesOpened leaves ≤ maxChallenges
-    → length (chain n leaves) ≤ 6855
+    → length (chain n leaves) ≤ maxChain
 chain-bound n leaves h d k =
-    let e : maxDepth - n + n ≡ 40 = omega arith in
-    omega (arith, chain-most n leaves h, most-leaves n (leavesOpened leaves) 200 k, rw e at (most-depth (maxDepth - n) n 200), most-limits)
+    let e : maxDepth - n + n ≡ maxDepth = omega arith in
+    omega (arith, chain-most n leaves h, most-leaves n (leavesOpened leaves) maxChallenges k, rw e at (most-depth (maxDepth - n) n maxChallenges), most-limits)
 
 pub leavesOpened-le : (leaves : List ℕ) → leavesOpened leaves ≤ length leaves
 unfolding different
@@ -89,18 +89,18 @@ unfoldable pub spread : ℕ → List ℕ
 spread zero = []
 spread (suc i) = (2 * (i % 128) + i / 128) * 2 ^ 32 ∷ spread i
 
-pub spread-leaves : every (isLeaf 40) (spread 200) ≡ true
+pub spread-leaves : every (isLeaf maxDepth) (spread maxChallenges) ≡ true
 unfolding every isLeaf spread
 spread-leaves = refl
 
-spread-plan : length (plan 40 (spread 200)) ≡ 6855
+spread-plan : length (plan maxDepth (spread maxChallenges)) ≡ maxChain
 unfolding plan planFrom sorted inserted climb nextCode spread
 spread-plan = refl
 
 -- 6,855 is reached, with 200 different leaves
-pub spread-different : leavesOpened (spread 200) ≡ 200
+pub spread-different : leavesOpened (spread maxChallenges) ≡ maxChallenges
 unfolding different opened spread
 spread-different = refl
 
-pub spread-chain : length (chain 40 (spread 200)) ≡ 6855
-spread-chain = sym (plan-length 40 (spread 200) spread-leaves) ∙ spread-plan
+pub spread-chain : length (chain maxDepth (spread maxChallenges)) ≡ maxChain
+spread-chain = sym (plan-length maxDepth (spread maxChallenges) spread-leaves) ∙ spread-plan

@@ -7,14 +7,14 @@ use mathlib.Core.List.{List, [], _++_, append-assoc}
 use lib.ListN.{length, length-append}
 use lib.Seq.{take-at, drop-at, drop-append-add}
 use Rattle.base.specs.Bytes.{joined}
-use Rattle.base.specs.Limits.{maxDepth, maxChallenges}
+use Rattle.base.specs.Limits.{maxDepth, maxChallenges, edition}
 use Rattle.base.specs.Lists.{EachOf}
 use Rattle.base.proofs.BytesLaws.{length-joined, joined-at}
 use Rattle.groups.specs.Groups.{groups}
 use Rattle.groups.specs.Reading.{value, readAt}
 use Rattle.groups.proofs.ReadBack.{read-written}
 use Rattle.opening.specs.Rows.{openingSize}
-use Rattle.proof_file.specs.Layout.{edition, numberGroups, headNumbers, head, fileSize, file}
+use Rattle.proof_file.specs.Layout.{numberGroups, headNumbers, head, fileSize, file}
 use Rattle.proof_file.specs.Head.{numbers, headOf, statementAt, rootAt, openingAt}
 use Rattle.check_theory.specs.IsProof.{IsDepth, IsCount, nth}
 use Rattle.check_theory.specs.Heads.{IsHead, SameHead}

@@ -9,7 +9,7 @@ use lib.ListN.{length, drop, getD, length-append, length-drop, take-append-drop}
 use lib.Seq.{drop-drop, length-take-le}
 use borrow.Author.Tests.{ltb-false, eqb-true, not-false}
 use Rattle.base.specs.Choice.{both}
-use Rattle.base.specs.Limits.{maxDepth, maxChallenges}
+use Rattle.base.specs.Limits.{maxDepth, maxChallenges, edition}
 use Rattle.base.specs.Lists.{EachOf, sameBytes}
 use Rattle.base.proofs.ChoiceLaws.{both-first, both-second}
 use Rattle.base.proofs.ListsLaws.{tells-bytes}
@@ -19,7 +19,7 @@ use Rattle.groups.specs.Reading.{readAt}
 use Rattle.groups.proofs.ShortestOnly.{Shortest, only-shortest}
 use Rattle.opening.specs.Rows.{openingSize}
 use Rattle.proof_file.specs.Challenge.{challengeLeaf}
-use Rattle.proof_file.specs.Layout.{edition, numberGroups, headNumbers, head, file}
+use Rattle.proof_file.specs.Layout.{numberGroups, headNumbers, head, file}
 use Rattle.proof_file.specs.Head.{HeadAnswer, numbers, notRead, headOf, lengthFrom, statementAt, rootAt, openingAt}
 use Rattle.proof_file.specs.FileCheck.{foundIn, openingsFrom, wanted, fileRest, fileCheck}
 use Rattle.proof_file.proofs.HeadLaws.{passed, head-number}

@@ -4,6 +4,7 @@ use mathlib.Core.Logic.{⊎-elim}
 use Prim.Native.Nat.{ℕ, _+_, _-_, _≤_}
 use lib.Pow.{pow-mono}
 use native.Mathlib.Omega.{arith}
+use Rattle.base.specs.Limits.{maxDepth, maxChallenges, maxFile, ownStore, ownLevel}
 use Rattle.groups.proofs.Steps.{lt-or-le}
 use Rattle.tree.specs.Store.{storeSize}
 use Rattle.proof_file.specs.Layout.{fileSize}
@@ -14,17 +15,17 @@ use Rattle.words.specs.declared.Words.the-variants.{Right}
 use Rattle.words.specs.Orders.{sealRow}
 use Rattle.words.proofs.OrderLaws.{Sealing, seal-bounds}
 
-pub file-fits : (n t : ℕ) → n ≤ 40 → t ≤ 200 → fileSize n t ≤ 262468
+pub file-fits : (n t : ℕ) → n ≤ maxDepth → t ≤ maxChallenges → fileSize n t ≤ maxFile
 file-fits n t h k =
     ⊎-elim
     (λ few. omega (arith, size-three n t h few, openings-small n t h k))
     (λ many. omega (arith, size-four n t h many k, openings-small n t h k))
     (lt-or-le t 128)
 
-store-fits : (m : ℕ) → m ≤ 14 → storeSize m ≤ 1048544
+store-fits : (m : ℕ) → m ≤ ownLevel → storeSize m ≤ ownStore
 store-fits m h = omega (arith, pow-mono {i = m + 1} {j = 15} (omega arith))
 
-pub seal-fits : (n t m store file : ℕ) → sealRow n t m ≡ Right → store ≡ 1048544 → file ≡ 262468 → Writable n m t store file
+pub seal-fits : (n t m store file : ℕ) → sealRow n t m ≡ Right → store ≡ ownStore → file ≡ maxFile → Writable n m t store file
 seal-fits n t m store file r s f =
     let b : Sealing n t m = seal-bounds n t m r in
     record {

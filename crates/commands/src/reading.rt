@@ -3,12 +3,14 @@ ghost use mathlib.Core.Path.{_≡_};
 ghost use mathlib.Core.Bool.{true, false, not};
 ghost use lib.Dec.{eqb};
 ghost use lib.ListN.{take};
+ghost use Rattle.base.specs.Limits.{maxFile};
 ghost use Rattle.io.specs.Counts.{Counts};
 ghost use Rattle.base.specs.Bytes.{zeros};
 ghost use Rattle.base.specs.Choice.{both};
 ghost use Rattle.refusal.specs.Number.{outcomeNumber};
 ghost use Rattle.sha256.specs.Portions.{updateRow, updateState, finishDigest};
 ghost use Rattle.commands.specs.Reads.{isDone};
+use base::MAX_FILE;
 use descriptors::read_once;
 use descriptors::read_whole;
 use lines::complain;
@@ -185,10 +187,10 @@ fn ends_well(failed: bool, fd: i32, path: &[u8], err: i32) -> bool {
 }
 
 // A place for the largest proof.
-pub fn empty_file() -> [u8; 262468]
-    ensures { λ r. ⌜ r ≡ zeros 262468 ⌝ }
+pub fn empty_file() -> [u8; MAX_FILE]
+    ensures { λ r. ⌜ r ≡ zeros maxFile ⌝ }
 {
-    [0u8; 262468]
+    [0u8; MAX_FILE]
 }
 
 // Reads a proof file whole into a place that holds any proof.

@@ -9,6 +9,7 @@ use crate::saving::Part;
 use crate::saving::is_free;
 use crate::saving::keep_proof;
 use crate::saving::make_part;
+use base::OWN_STORE;
 use lines::complain;
 use lines::fact;
 use lines::fact_bytes;
@@ -18,8 +19,8 @@ use sealing::all_labels;
 use sealing::make_proof;
 
 // The store of memory level 14.
-fn empty_store() -> [u8; 1048544] {
-    [0u8; 1048544]
+fn empty_store() -> [u8; OWN_STORE] {
+    [0u8; OWN_STORE]
 }
 
 // One fact a line; the last one is there only if the proof stands under its name.

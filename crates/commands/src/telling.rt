@@ -3,25 +3,27 @@ ghost use mathlib.Core.Path.{_≡_};
 ghost use Rattle.base.specs.Bytes.{zeros};
 ghost use Rattle.planning.specs.Output.{places, maxOutput};
 use crate::heads::wanted_in;
+use base::MAX_CHAIN;
 use lines::complain;
 use lines::say;
 use lines::say_text;
+use planning::MAX_OUTPUT;
 use verdict_lines::clash_lines;
 use verdict_lines::put_drawing;
 use verdict_lines::verdict;
 
 // Places for the longest chain.
-fn empty_list() -> [u64; 6855]
+fn empty_list() -> [u64; MAX_CHAIN]
     ensures { λ r. ⌜ r ≡ zeros places ⌝ }
 {
-    [0u64; 6855]
+    [0u64; MAX_CHAIN]
 }
 
 // As much as is ever printed of a chain.
-fn empty_text() -> [u8; 287992]
+fn empty_text() -> [u8; MAX_OUTPUT]
     ensures { λ r. ⌜ r ≡ zeros maxOutput ⌝ }
 {
-    [0u8; 287992]
+    [0u8; MAX_OUTPUT]
 }
 
 // Writes the first bytes of a text to `out`; if that fails, one line on `err` says so.

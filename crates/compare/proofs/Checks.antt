@@ -8,7 +8,7 @@ use mathlib.Core.List.{List, [], _∷_, _++_}
 use lib.Dec.{ltb}
 use lib.ListN.{length}
 use borrow.Author.Tests.{lt-ltb, le-ltb, ltb-false}
-use Rattle.base.specs.Limits.{maxDepth, maxChallenges}
+use Rattle.base.specs.Limits.{maxDepth, maxChallenges, maxOpenings}
 use Rattle.refusal.specs.declared.Refusal.{Refusal}
 use Rattle.refusal.specs.Number.{numberOf}
 use Rattle.refusal.specs.Row.{firstOf, isDone}
@@ -38,8 +38,8 @@ module _ (n : ℕ) (leaves : List ℕ) (size : ℕ) where
     count-known = range-of 1 maxChallenges (length leaves) (passed n leaves done .1 .0)
 
     -- the size of all openings
-    pub all-fit : length leaves * openingSize n ≤ 262400
-    all-fit = omega (arith, depth-known, mul-le-mul-right {m = length leaves} {n = 200} (openingSize n) (count-known .1))
+    pub all-fit : length leaves * openingSize n ≤ maxOpenings
+    all-fit = omega (arith, depth-known, mul-le-mul-right {m = length leaves} {n = maxChallenges} (openingSize n) (count-known .1))
 
     size-check : compareRow n leaves size ≡ firstOf (sizeChecks n leaves size)
     unfolding compareRow

@@ -13,7 +13,7 @@ use lib.Seq.{drop-drop}
 use borrow.Rule.Slice.PartMut.{putMid}
 use Rattle.base.specs.Choice.{odd}
 use Rattle.base.specs.Bytes.{joined, written}
-use Rattle.base.specs.Limits.{maxDepth}
+use Rattle.base.specs.Limits.{maxDepth, maxChallenges}
 use Rattle.base.proofs.ChoiceLaws.{is-odd, is-even}
 use Rattle.base.proofs.WrittenLaws.{drop-written, written-here, written-apart}
 use Rattle.chain.proofs.Writing.{written-append}
@@ -27,7 +27,7 @@ use Rattle.label.specs.Rule.{stampRule}
 use Rattle.opening.specs.Rows.{openingSize}
 use Rattle.opening_check.specs.OpeningCheck.{givenBy}
 use Rattle.opening_check.proofs.Parts.{part-size, part-length}
-use Rattle.compare.specs.Table.{partOf, RowOf, TableOf}
+use Rattle.compare.specs.Table.{partOf, RowOf, TableOf, rowSize, tableSize}
 
 -- ---- parts of one width
 below : (width k i : ℕ) → k < i → width * k + width ≤ width * i
@@ -90,7 +90,7 @@ label-over statement row after v at b child beside c s fits e =
 -- ---- an opening's row
 pub row-more :
     (statement bytes first row after : List ℕ) (n leaf h : ℕ) (child : Label) → h < n → n ≤ maxDepth → length bytes ≡ openingSize n
-    → length row ≡ 2560 → length child ≡ 32 → child ≡ computed (stampRule statement) n leaf (givenBy bytes) h
+    → length row ≡ rowSize → length child ≡ 32 → child ≡ computed (stampRule statement) n leaf (givenBy bytes) h
     → RowOf (stampRule statement) n leaf (givenBy bytes) h first row
     → after ≡ written row (64 * h) (joined (childLabels (odd (leaf / 2 ^ h)) child
     (take (32 * (h + 1) + 32 - 32 * (h + 1)) (drop (32 * (h + 1)) bytes))))
@@ -125,22 +125,22 @@ pub opening-fits : (n i t : ℕ) → i < t → i * openingSize n + openingSize n
 opening-fits n i t h = rw (← suc-mul i (openingSize n)) (mul-le-mul-right {m = suc i} {n = t} (openingSize n) h)
 
 pub table-more :
-    (statement : List ℕ) (n : ℕ) (leaves openings first table row after : List ℕ) (i : ℕ) → i < 200 → length table ≡ 512000 → length row ≡ 2560
+    (statement : List ℕ) (n : ℕ) (leaves openings first table row after : List ℕ) (i : ℕ) → i < maxChallenges → length table ≡ tableSize → length row ≡ rowSize
     → TableOf statement n leaves openings i first table
     → RowOf (stampRule statement) n (getD leaves i 0)
     (givenBy (take (i * openingSize n + openingSize n - i * openingSize n) (drop (i * openingSize n) openings))) n
-    (take (2560 * i + 2560 - 2560 * i) (drop (2560 * i) table)) row
-    → after ≡ written table (2560 * i) row
+    (take (rowSize * i + rowSize - rowSize * i) (drop (rowSize * i) table)) row
+    → after ≡ written table (rowSize * i) row
     → TableOf statement n leaves openings (i + 1) first after
 table-more statement n leaves openings first table row after i small wide long before here e =
     record {
       rows =
           rw e
-          (parts-more 2560
+          (parts-more rowSize
           (λ (k : ℕ) (part : List ℕ).
           RowOf (stampRule statement) n (getD leaves k 0) (givenBy (take (openingSize n) (drop (k * openingSize n) openings))) n
-          (partOf 2560 first k) part)
+          (partOf rowSize first k) part)
           table row i (omega arith) long (before .rows)
-          (rw (part-size openings (i * openingSize n) (openingSize n), part-size table (2560 * i) 2560, before .kept) at here));
-      kept = rw e (parts-kept 2560 first table row i (omega arith) long (before .kept));
+          (rw (part-size openings (i * openingSize n) (openingSize n), part-size table (rowSize * i) rowSize, before .kept) at here));
+      kept = rw e (parts-kept rowSize first table row i (omega arith) long (before .kept));
     }

@@ -7,6 +7,7 @@ use native.Mathlib.Omega.{arith}
 use borrow.Author.Tests.{lt-ltb}
 use lib.ListN.{length, take, drop, length-drop, take-append-drop}
 use lib.Seq.{length-take-le, take-append-le, drop-append-le, drop-drop}
+use Rattle.base.specs.Limits.{maxDepth, maxChallenges}
 use Rattle.base.specs.Bytes.{joined, zeros}
 use Rattle.base.specs.Lists.{EachOf, sameBytes}
 use Rattle.base.proofs.BytesLaws.{joined-injective}
@@ -22,7 +23,7 @@ use Rattle.compare.specs.declared.Pair.{Pair}
 use Rattle.compare.specs.declared.Pair.the-variants.{Agree, Disagree}
 use Rattle.compare.specs.FirstPair.{firstPair}
 use Rattle.compare.specs.Comparison.{leafOf, givenOf, disagreement, firstDisagreement, inputOf, firstInput, secondInput}
-use Rattle.compare.specs.Table.{Sized, TableOf, cell, tableDisagreement}
+use Rattle.compare.specs.Table.{Sized, TableOf, cell, tableDisagreement, rowSize, tableSize}
 use Rattle.compare.proofs.FirstPairLaws.{pair-lies, pair-same}
 use Rattle.compare.proofs.Filling.{opening-fits}
 
@@ -36,7 +37,7 @@ part-inside size from most bytes h k =
     ∙ ap (take size) (sym (drop-append-le from (take most bytes) (drop most bytes) (omega arith)))
     ∙ ap (λ (l : List ℕ). take size (drop from l)) (take-append-drop most bytes)
 
-module _ (statement : List ℕ) (n : ℕ) (leaves openings first table : List ℕ) (sized : Sized n leaves openings) (wide : length table ≡ 512000)
+module _ (statement : List ℕ) (n : ℕ) (leaves openings first table : List ℕ) (sized : Sized n leaves openings) (wide : length table ≡ tableSize)
     (full : TableOf statement n leaves openings (length leaves) first table) where
   abbrev r : Rule
   r = stampRule statement
@@ -47,14 +48,14 @@ module _ (statement : List ℕ) (n : ℕ) (leaves openings first table : List �
   cell-known : (i l : ℕ) → 1 ≤ i → i ≤ length leaves → l < n → cell n table i l ≡ joined (known i l)
   unfolding cell
   cell-known i l a b h =
-      let few : length leaves ≤ 200 = sized .few in
-      let most : n ≤ 40 = sized .most in
+      let few : length leaves ≤ maxChallenges = sized .few in
+      let most : n ≤ maxDepth = sized .most in
       let level : n - suc (n - (l + 1)) ≡ l = omega arith in
       let here = full .rows (i - 1) (omega arith) .filled (n - (l + 1)) (omega arith) in
-      let room : 2560 ≤ length (drop (2560 * (i - 1)) table) = rw length-drop (omega arith) in
+      let room : rowSize ≤ length (drop (rowSize * (i - 1)) table) = rw length-drop (omega arith) in
       sym
-      (part-inside 64 (64 * (n - (l + 1))) 2560 (drop (2560 * (i - 1)) table) (omega arith) room
-      ∙ ap (take 64) (drop-drop (64 * (n - (l + 1))) (2560 * (i - 1)) table))
+      (part-inside 64 (64 * (n - (l + 1))) rowSize (drop (rowSize * (i - 1)) table) (omega arith) room
+      ∙ ap (take 64) (drop-drop (64 * (n - (l + 1))) (rowSize * (i - 1)) table))
       ∙ rw level at here
 
   given-sized : (i : ℕ) → 1 ≤ i → i ≤ length leaves → Given32 n (givenOf n openings i)

@@ -7,6 +7,7 @@ use native.Mathlib.Omega.{arith}
 use borrow.Author.Tests.{lt-ltb}
 use lib.Dec.{ltb}
 use lib.ListN.{length}
+use Rattle.base.specs.Limits.{maxDepth}
 use Rattle.base.specs.Lists.{sameBytes}
 use Rattle.base.proofs.ChoiceLaws.{both-false}
 use Rattle.tree.specs.Disagreement.{shared}
@@ -15,12 +16,12 @@ use Rattle.opening_check.proofs.Parts.{part-length}
 use Rattle.compare.specs.declared.Pair.the-variants.{Agree, Disagree}
 use Rattle.compare.specs.FirstPair.{levelsFrom}
 use Rattle.compare.specs.Comparison.{leafOf}
-use Rattle.compare.specs.Table.{cell, tableDisagreement}
+use Rattle.compare.specs.Table.{cell, tableDisagreement, rowSize}
 use Rattle.compare.proofs.FirstPairLaws.{level-found, level-passed, levels-none}
 
-pub cell-length : (n : ℕ) (table : List ℕ) (i l : ℕ) → 1 ≤ i → 2560 * i ≤ length table → l < n → n ≤ 40 → length (cell n table i l) ≡ 64
+pub cell-length : (n : ℕ) (table : List ℕ) (i l : ℕ) → 1 ≤ i → rowSize * i ≤ length table → l < n → n ≤ maxDepth → length (cell n table i l) ≡ 64
 unfolding cell
-cell-length n table i l a b h most = part-length table (2560 * (i - 1) + 64 * (n - (l + 1))) 64 (omega arith)
+cell-length n table i l a b h most = part-length table (rowSize * (i - 1) + 64 * (n - (l + 1))) 64 (omega arith)
 
 -- the test and the cells are those that the code has at hand
 module _ (n : ℕ) (leaves table : List ℕ) (i j l : ℕ) (h : l < n) (t : Bool) (et : t ≡ shared n (leafOf leaves i) (leafOf leaves j) l) where

@@ -24,6 +24,13 @@ pub record Sized (n : ℕ) (leaves openings : List ℕ) : Type 0 where
   pub few : length leaves ≤ maxChallenges
   pub whole : length openings ≡ length leaves * openingSize n
 
+-- the bytes of a row: 64 for each level; and of the table
+abbrev pub rowSize : ℕ
+rowSize = 64 * maxDepth
+
+abbrev pub tableSize : ℕ
+tableSize = maxChallenges * rowSize
+
 -- part i of parts of one width
 abbrev pub partOf : ℕ → List ℕ → ℕ → List ℕ
 partOf width bytes i = take width (drop (width * i) bytes)
@@ -43,19 +50,19 @@ pub record TableOf (statement : List ℕ) (n : ℕ) (leaves openings : List ℕ)
       (getD leaves i 0)
       (givenBy (take (openingSize n) (drop (i * openingSize n) openings)))
       n
-      (partOf 2560 before i)
-      (partOf 2560 table i)
-  pub kept : drop (2560 * k) table ≡ drop (2560 * k) before
+      (partOf rowSize before i)
+      (partOf rowSize table i)
+  pub kept : drop (rowSize * k) table ≡ drop (rowSize * k) before
 
 -- the child labels of the node of level l on the way of opening i, from 1
 unfoldable pub cell : ℕ → List ℕ → ℕ → ℕ → List ℕ
-cell n table i l = take 64 (drop (2560 * (i - 1) + 64 * (n - (l + 1))) table)
+cell n table i l = take 64 (drop (rowSize * (i - 1) + 64 * (n - (l + 1))) table)
 
 -- leaves, and a table with room for their openings
 pub record Inside (n : ℕ) (leaves table : List ℕ) : Type 0 where
   pub most : n ≤ maxDepth
   pub few : length leaves ≤ maxChallenges
-  pub wide : length table ≡ 512000
+  pub wide : length table ≡ tableSize
 
 -- openings i and j disagree at their shared inner node of level l, as the table has them
 unfoldable pub tableDisagreement : ℕ → List ℕ → List ℕ → ℕ → ℕ → ℕ → Bool

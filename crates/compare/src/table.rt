@@ -12,16 +12,23 @@ ghost use Rattle.label.specs.Rule.{stampRule};
 ghost use Rattle.opening.specs.Rows.{openingSize};
 ghost use Rattle.opening_check.specs.OpeningCheck.{givenBy};
 ghost use Rattle.compare.specs.Comparison.{leafOf};
-ghost use Rattle.compare.specs.Table.{Sized, RowOf, TableOf, cell};
+ghost use Rattle.compare.specs.Table.{Sized, RowOf, TableOf, cell, rowSize, tableSize};
+use base::MAX_DEPTH;
+use base::MAX_LEAVES;
 use base::put;
 use label::label;
 use opening_check::label_at;
 
+// The bytes of a row, and of the table.
+const ROW_SIZE: usize = 64 * MAX_DEPTH as usize;
+
+pub const TABLE_SIZE: usize = MAX_LEAVES * ROW_SIZE;
+
 // Room for 200 openings of depth 40. Alone, since a proof over so long a literal is slow.
-pub fn empty_table() -> [u8; 512000]
-    ensures { λ r. ⌜ r ≡ zeros 512000 ⌝ }
+pub fn empty_table() -> [u8; TABLE_SIZE]
+    ensures { λ r. ⌜ r ≡ zeros tableSize ⌝ }
 {
-    [0u8; 512000]
+    [0u8; TABLE_SIZE]
 }
 
 // Writes both child labels of the node above a child at this position, the left one first.
@@ -59,7 +66,7 @@ fn fill_node(
 
 // Fills an opening's row, walking its way upward once. What lies behind the way's nodes stays.
 fn fill_row(row: &mut [u8], statement: [u8; 32], n: u64, leaf: u64, bytes: &[u8])
-    requires { ⌜ (n ≤ maxDepth) × (length (now bytes) ≡ openingSize n) × (length (now row) ≡ 2560) ⌝ }
+    requires { ⌜ (n ≤ maxDepth) × (length (now bytes) ≡ openingSize n) × (length (now row) ≡ rowSize) ⌝ }
     ensures { λ _. ⌜ RowOf (stampRule statement) n leaf (givenBy (now (bytes .entry))) n (now (row .entry)) (now (row .exit)) ⌝ }
 {
     let mut child = label_at(bytes, 0);
@@ -83,14 +90,14 @@ fn fill_row(row: &mut [u8], statement: [u8; 32], n: u64, leaf: u64, bytes: &[u8]
 
 // Fills the rows of all openings. What lies behind them stays.
 pub fn fill_table(table: &mut [u8], statement: [u8; 32], n: u64, leaves: &[u64], openings: &[u8])
-    requires { ⌜ Sized n (now leaves) (now openings) × (length (now table) ≡ 512000) ⌝ }
+    requires { ⌜ Sized n (now leaves) (now openings) × (length (now table) ≡ tableSize) ⌝ }
     ensures { λ _. ⌜ TableOf statement n (now (leaves .entry)) (now (openings .entry)) (length (now (leaves .entry))) (now (table .entry)) (now (table .exit)) ⌝ }
 {
     let size = 32 * (n + 1) as usize;
     let mut i: usize = 0;
     while i < leaves.len() {
-        let at = 2560 * i;
-        let end = at + 2560;
+        let at = ROW_SIZE * i;
+        let end = at + ROW_SIZE;
         let from = i * size;
         let to = from + size;
         fill_row(
@@ -106,10 +113,10 @@ pub fn fill_table(table: &mut [u8], statement: [u8; 32], n: u64, leaves: &[u64],
 
 // The child labels of the node of this level on the way of opening i.
 pub fn cell_at(n: u64, table: &[u8], i: u64, level: u64) -> &[u8]
-    requires { ⌜ (1 ≤ i) × (2560 * i ≤ length (now table)) × (level < n) × (n ≤ maxDepth) ⌝ }
+    requires { ⌜ (1 ≤ i) × (rowSize * i ≤ length (now table)) × (level < n) × (n ≤ maxDepth) ⌝ }
     ensures { λ r. ⌜ now r ≡ cell n (now (table .entry)) i level ⌝ }
 {
-    let at = 2560 * (i - 1) as usize + 64 * (n - (level + 1)) as usize;
+    let at = ROW_SIZE * (i - 1) as usize + 64 * (n - (level + 1)) as usize;
     let end = at + 64;
     &table[at..end]
 }

@@ -10,6 +10,7 @@ use lib.Dec.{eqb}
 use lib.ListN.{length, drop, length-drop}
 use lib.Seq.{length-take-le}
 use borrow.Author.Tests.{eqb-true}
+use Rattle.base.specs.Limits.{heldSize}
 use Rattle.base.specs.Choice.{pick}
 use Rattle.base.specs.Bytes.{zeros, written}
 use Rattle.base.proofs.Copying.{length-written}
@@ -21,7 +22,6 @@ use Rattle.tree.proofs.Slots.{slot-inside}
 use Rattle.label.specs.Step.{nextNode, nextLabel, heldWith}
 use Rattle.label.proofs.RuleLaws.{digest-length}
 use Rattle.label.proofs.OneStep.{next-level}
-use Rattle.run.specs.Steps.{heldSize}
 use Rattle.opening.specs.Rows.{openingSize, nodesAnew, reopenRow}
 use Rattle.opening.specs.Steps.{labelIn, ancestor, beside, placed, copied, copiedAll, Open, front, stepped, steps, labelsIn, advanced}
 use Rattle.opening.specs.Possible.{openingOf, openOf}

@@ -8,6 +8,7 @@ use mathlib.Core.List.{List, [], _∷_, _++_, append-nil}
 use borrow.Author.Tests.{lt-ltb}
 use lib.ListN.{length, take, drop, set}
 use lib.Seq.{take-suc-set, append-snoc, drop-set-lt, drop-drop}
+use Rattle.base.specs.Limits.{maxDepth, maxChallenges}
 use Rattle.base.specs.Bytes.{zeros}
 use Rattle.base.proofs.Zeros.{drop-zeros}
 use Rattle.chain_theory.specs.Planning.{every, isLeaf}
@@ -29,7 +30,7 @@ module _ (n : ℕ) (statement root : List ℕ) where
   length-leaves i zero = refl
   length-leaves i (suc left) = ap suc (length-leaves (i + 1) left)
 
-  pub leaves-inside : n ≤ 40 → (i left : ℕ) → every (isLeaf n) (leavesFrom n statement root i left) ≡ true
+  pub leaves-inside : n ≤ maxDepth → (i left : ℕ) → every (isLeaf n) (leavesFrom n statement root i left) ≡ true
   unfolding leavesFrom isLeaf
   leaves-inside small i zero = unfold every in refl
   leaves-inside small i (suc left) =
@@ -43,7 +44,7 @@ module _ (n : ℕ) (statement root : List ℕ) where
     leaves-none = let all : count - 0 ≡ count = omega arith in rw all
 
     pub leaves-more :
-        (leaves : List ℕ) (i leaf : ℕ) → IsDepth n → count ≤ 200 → length leaves ≡ 200 → i < count
+        (leaves : List ℕ) (i leaf : ℕ) → IsDepth n → count ≤ maxChallenges → length leaves ≡ maxChallenges → i < count
         → leaf ≡ challenged n statement root (i + 1)
         → take i leaves ++ leavesFrom n statement root (i + 1) (count - i) ≡ leavesFrom n statement root 1 count
         → take (i + 1) (set leaves i leaf) ++ leavesFrom n statement root (i + 1 + 1) (count - (i + 1)) ≡ leavesFrom n statement root 1 count
@@ -64,11 +65,11 @@ module _ (n : ℕ) (statement root : List ℕ) where
         sym (append-nil (take count leaves)) ∙ (rw (none, all) at e)
 
 -- the places behind them stay zero
-pub zeros-more : (leaves : List ℕ) (i leaf : ℕ) → i < 200 → drop i leaves ≡ zeros (200 - i) → drop (i + 1) (set leaves i leaf) ≡ zeros (200 - (i + 1))
+pub zeros-more : (leaves : List ℕ) (i leaf : ℕ) → i < maxChallenges → drop i leaves ≡ zeros (maxChallenges - i) → drop (i + 1) (set leaves i leaf) ≡ zeros (maxChallenges - (i + 1))
 zeros-more leaves i leaf h before =
-    let e : 200 - i - 1 ≡ 200 - (i + 1) = omega arith in
+    let e : maxChallenges - i - 1 ≡ maxChallenges - (i + 1) = omega arith in
     drop-set-lt (i + 1) leaves i leaf (omega arith)
     ∙ sym (drop-drop 1 i leaves)
     ∙ ap (λ (l : List ℕ). drop 1 l) before
-    ∙ drop-zeros (200 - i) 1 (omega arith)
+    ∙ drop-zeros (maxChallenges - i) 1 (omega arith)
     ∙ ap zeros e

@@ -2,9 +2,11 @@
 ghost use mathlib.Core.Path.{_≡_};
 ghost use Prim.Native.Nat.{_-_, _≤_};
 ghost use lib.ListN.{take, drop};
+ghost use Rattle.base.specs.Limits.{maxDepth, maxChallenges};
 ghost use Rattle.base.specs.Bytes.{zeros};
 ghost use Rattle.proof_file.specs.Head.{headOf};
 ghost use Rattle.draw.specs.Drawing.{leavesFrom, numbersEnd};
+use base::MAX_LEAVES;
 use proof_file::HeadNumbers;
 use proof_file::challenge;
 use proof_file::read_head;
@@ -21,12 +23,17 @@ pub fn numbers_end(file: &[u8]) -> usize
 }
 
 // The leaves of challenges 1 to count, in the first of 200 places. The others are zero.
-pub fn challenge_leaves(depth: u64, statement: [u8; 32], root: [u8; 32], count: u64) -> [u64; 200]
-    requires { ⌜ (1 ≤ depth) × (depth ≤ 40) × (count ≤ 200) ⌝ }
+pub fn challenge_leaves(
+    depth: u64,
+    statement: [u8; 32],
+    root: [u8; 32],
+    count: u64,
+) -> [u64; MAX_LEAVES]
+    requires { ⌜ (1 ≤ depth) × (depth ≤ maxDepth) × (count ≤ maxChallenges) ⌝ }
     ensures { λ r. ⌜ take count r ≡ leavesFrom depth statement root 1 count ⌝ }
-    ensures { λ r. ⌜ drop count r ≡ zeros (200 - count) ⌝ }
+    ensures { λ r. ⌜ drop count r ≡ zeros (maxChallenges - count) ⌝ }
 {
-    let mut leaves = [0u64; 200];
+    let mut leaves = [0u64; MAX_LEAVES];
     let mut i: u64 = 0;
     while i < count {
         let challenged = challenge(depth, statement, root, i + 1);

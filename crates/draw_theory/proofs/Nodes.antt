@@ -8,6 +8,7 @@ use mathlib.Core.List.{List, [], _∷_, map}
 use lib.ListN.{length, getD, take, drop, length-map}
 use lib.Pow.{shr-lt, pow-mono}
 use lib.Seq.{take-at, drop-at}
+use Rattle.base.specs.Limits.{maxDepth}
 use Rattle.base.specs.Choice.{both, passing}
 use Rattle.base.specs.Bytes.{written}
 use Rattle.base.proofs.ChoiceLaws.{both-first, both-true}
@@ -125,7 +126,7 @@ module _ (bytes statement : List ℕ) (n t : ℕ) (p : IsProof bytes statement n
 
   code-fits : (v : Node) → InTree n v → code v < 2 ^ 64
   code-fits v inTree =
-      let up : 2 ^ (v .level) ≤ 2 ^ 40 = pow-mono {i = v .level} {j = 40} (omega (arith, inTree .0, p .depth .1)) in
+      let up : 2 ^ (v .level) ≤ 2 ^ maxDepth = pow-mono {i = v .level} {j = maxDepth} (omega (arith, inTree .0, p .depth .1)) in
       omega (arith, inTree .1)
 
   pub list-drawn : (list : List ℕ) → length (drawnNodes bytes statement n t) ≤ length list

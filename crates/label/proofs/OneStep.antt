@@ -9,6 +9,7 @@ use lib.Bits.{bitAnd, and-mask}
 use lib.Count.{ones, ones-le}
 use lib.ListN.{length, take, drop}
 use lib.Pow.{pow-pos}
+use Rattle.base.specs.Limits.{maxDepth}
 use Rattle.base.specs.Bytes.{zeros, written}
 use Rattle.sha256.specs.Digest.{digest}
 use Rattle.tree.specs.Nodes.{Node, node}
@@ -20,7 +21,7 @@ use Rattle.label.specs.Step.{nextNode, hashedLabels, nextLabel, heldWith
 use Rattle.label.proofs.Walking.{full}
 
 -- the one-bits below a mask
-pub masked : (below p : ℕ) → below ≤ 40 → ones (bitAnd p ((1 * 2 ^ below) % 2 ^ 64 - 1)) ≡ ones (p % 2 ^ below)
+pub masked : (below p : ℕ) → below ≤ maxDepth → ones (bitAnd p ((1 * 2 ^ below) % 2 ^ 64 - 1)) ≡ ones (p % 2 ^ below)
 masked below p small = rw (full below small, and-mask p below)
 
 pub place-le : (below p : ℕ) → ones (p % 2 ^ below) ≤ below

@@ -5,6 +5,7 @@ use Prim.Native.Nat.{ℕ, _+_, _-_, _*_, _≤_}
 use native.Mathlib.Omega.{arith}
 use lib.ListN.{length, take, drop, length-append, length-take, length-replicate, take-append-drop}
 use lib.Seq.{length-take-le, drop-append-add}
+use Rattle.base.specs.Limits.{maxLabelInput}
 use Rattle.base.specs.Bytes.{bigEndian, zeros, written}
 use Rattle.base.proofs.BytesLaws.{length-bigEndian}
 use Rattle.base.proofs.Copying.{length-written}
@@ -14,11 +15,11 @@ use Rattle.sha256.specs.Padding.{padding, padded, blocks}
 use Rattle.sha256.specs.Constants.{initial}
 use Rattle.sha256.specs.Digest.{hashAfter, digestOf, digest}
 use Rattle.sha256.proofs.Padded.{paddedSize, padded-front}
-use Rattle.label.specs.Buffer.{paddedIn}
+use Rattle.label.specs.Buffer.{paddedIn, inputSpace}
 
 -- the buffer of a label: at most 1,321 bytes in front of zeros
-module _ (input : List ℕ) (len : ℕ) (small : len ≤ 1321) (front : input ≡ take len input ++ zeros (1344 - len)) where
-  pub length-front : length input ≡ 1344
+module _ (input : List ℕ) (len : ℕ) (small : len ≤ maxLabelInput) (front : input ≡ take len input ++ zeros (inputSpace - len)) where
+  pub length-front : length input ≡ inputSpace
   length-front = omega (arith, simp (length-append, length-take, length-replicate) at (ap length front))
 
   abbrev laid : List ℕ
@@ -34,7 +35,7 @@ module _ (input : List ℕ) (len : ℕ) (small : len ≤ 1321) (front : input �
       ap
       (λ (l : List ℕ). take (paddedSize len) (written (written l len (128 ∷ [])) (paddedSize len - 8) (bigEndian 8 (8 * len))))
       front
-      ∙ padded-front (take len input) len len (1344 - len) n refl (omega arith)
+      ∙ padded-front (take len input) len len (inputSpace - len) n refl (omega arith)
       ∙ ap (λ (k : ℕ). take len input ++ padding k) (sym n)
 
   pub hashed-front : digestOf (hashAfter initial blocksOf (blocks blocksOf)) ≡ digest (take len input)
@@ -42,26 +43,26 @@ module _ (input : List ℕ) (len : ℕ) (small : len ≤ 1321) (front : input �
   hashed-front = rw padded-buffer
 
   -- the zeros behind the blocks are not touched
-  zeros-behind : drop (paddedSize len) laid ≡ zeros (1344 - paddedSize len)
+  zeros-behind : drop (paddedSize len) laid ≡ zeros (inputSpace - paddedSize len)
   zeros-behind =
       let n : length (take len input) ≡ len = length-take len input ∙ omega (arith, length-front) in
-      let marked : length (written input len (128 ∷ [])) ≡ 1344 = length-written input len (128 ∷ []) (omega (arith, length-front)) ∙ length-front in
+      let marked : length (written input len (128 ∷ [])) ≡ inputSpace = length-written input len (128 ∷ []) (omega (arith, length-front)) ∙ length-front in
       let bits : length (bigEndian 8 (8 * len)) ≡ 8 = length-bigEndian 8 (8 * len) in
       let at : length (take len input) + (paddedSize len - len) ≡ paddedSize len = omega arith in
-      let rest : 1344 - len - (paddedSize len - len) ≡ 1344 - paddedSize len = omega arith in
+      let rest : inputSpace - len - (paddedSize len - len) ≡ inputSpace - paddedSize len = omega arith in
       drop-written (written input len (128 ∷ [])) (bigEndian 8 (8 * len)) (paddedSize len - 8) (paddedSize len) (omega arith) (omega arith)
       ∙ drop-written input (128 ∷ []) len (paddedSize len) (omega (arith, length-front)) (omega arith)
       ∙ ap (λ (l : List ℕ). drop (paddedSize len) l) front
-      ∙ ap (λ (k : ℕ). drop k (take len input ++ zeros (1344 - len))) (sym at)
-      ∙ drop-append-add (take len input) (zeros (1344 - len)) (paddedSize len - len)
-      ∙ drop-zeros (1344 - len) (paddedSize len - len) (omega arith)
+      ∙ ap (λ (k : ℕ). drop k (take len input ++ zeros (inputSpace - len))) (sym at)
+      ∙ drop-append-add (take len input) (zeros (inputSpace - len)) (paddedSize len - len)
+      ∙ drop-zeros (inputSpace - len) (paddedSize len - len) (omega arith)
       ∙ ap zeros rest
 
-  pub laid-padded : laid ≡ paddedIn 1344 (take len input)
+  pub laid-padded : laid ≡ paddedIn inputSpace (take len input)
   laid-padded =
-      let marked : length (written input len (128 ∷ [])) ≡ 1344 = length-written input len (128 ∷ []) (omega (arith, length-front)) ∙ length-front in
+      let marked : length (written input len (128 ∷ [])) ≡ inputSpace = length-written input len (128 ∷ []) (omega (arith, length-front)) ∙ length-front in
       let bits : length (bigEndian 8 (8 * len)) ≡ 8 = length-bigEndian 8 (8 * len) in
-      let whole : length laid ≡ 1344 =
+      let whole : length laid ≡ inputSpace =
       length-written (written input len (128 ∷ [])) (paddedSize len - 8) (bigEndian 8 (8 * len)) (omega arith) ∙ marked in
       let size : length (padded (take len input)) ≡ paddedSize len =
       ap length (sym padded-buffer) ∙ length-take-le (paddedSize len) laid (omega arith) in

@@ -9,6 +9,7 @@ use borrow.Author.Tests.{ltb-true, ltb-false}
 use lib.Dec.{ltb}
 use lib.ListN.{getD}
 use lib.Pow.{pow-pos, pow-mono, pow-lt}
+use Rattle.base.specs.Limits.{maxDepth}
 use Rattle.base.specs.Choice.{pick}
 use Rattle.tree.specs.Nodes.{Node, node, root, orderBelow}
 use Rattle.tree.specs.Walk.{nodesIn, nodeAt}
@@ -23,10 +24,10 @@ pub record Walking (height level position made h l p left half : ℕ) : Type 0 w
   pub same : nodeAt h (node l p) left ≡ nodeAt height (node level position) made
 
 -- 1 << height, less one
-pub full : (height : ℕ) → height ≤ 40 → (1 * 2 ^ height) % 2 ^ 64 ≡ 2 ^ height
+pub full : (height : ℕ) → height ≤ maxDepth → (1 * 2 ^ height) % 2 ^ 64 ≡ 2 ^ height
 full height small = rw (one-mul (2 ^ height)) (mod-eq-of-lt (pow-lt {i = height} {j = 64} (omega arith)))
 
-pub walking-start : (height level position made : ℕ) → height ≤ 40 → position < 2 ^ level → made < nodesIn height
+pub walking-start : (height level position made : ℕ) → height ≤ maxDepth → position < 2 ^ level → made < nodesIn height
     → Walking height level position made height level position made ((1 * 2 ^ height) % 2 ^ 64 - 1)
 walking-start height level position made small inside few =
     record { heights = refl; inside = inside; few = few; halves = omega (arith, full height small, pow-pos height); same = refl }
@@ -75,10 +76,10 @@ walking-end height level position made h l p left half w large few =
     ∙ nodeAt-order height (node level position) made few
 
 -- all numbers of the walk are small
-pub walking-small : (height level position made h l p left half : ℕ) → Walking height level position made h l p left half → level + height ≤ 40
-    → (half < 2 ^ 40) × (p < 2 ^ 40) × (l ≤ 40)
+pub walking-small : (height level position made h l p left half : ℕ) → Walking height level position made h l p left half → level + height ≤ maxDepth
+    → (half < 2 ^ maxDepth) × (p < 2 ^ maxDepth) × (l ≤ maxDepth)
 walking-small height level position made h l p left half w small = (
-  omega (arith, w .halves, pow-mono {i = h} {j = 40} (omega (arith, w .heights))),
-  omega (arith, w .inside, pow-mono {i = l} {j = 40} (omega (arith, w .heights))),
+  omega (arith, w .halves, pow-mono {i = h} {j = maxDepth} (omega (arith, w .heights))),
+  omega (arith, w .inside, pow-mono {i = l} {j = maxDepth} (omega (arith, w .heights))),
   omega (arith, w .heights),
 )

@@ -1,9 +1,14 @@
 -- The buffer in which a message is padded and hashed where it lies.
-use Prim.Native.Nat.{ℕ, _-_}
+use Prim.Native.Nat.{ℕ, _+_, _-_, _*_, _/_}
 use mathlib.Core.List.{List, _++_}
 use lib.ListN.{length}
 use Rattle.base.specs.Bytes.{zeros}
+use Rattle.base.specs.Limits.{maxLabelInput}
 use Rattle.sha256.specs.Padding.{padded}
+
+-- the buffer that the longest input fits with its padding: 1,344 bytes
+abbrev pub inputSpace : ℕ
+inputSpace = 64 * ((maxLabelInput + 8) / 64 + 1)
 
 -- a buffer of this width with the padded message in front, and zeros behind
 abbrev pub paddedIn : ℕ → List ℕ → List ℕ

@@ -3,21 +3,26 @@ ghost use mathlib.Core.Path.{_≡_};
 ghost use mathlib.Core.List.{_++_};
 ghost use Prim.Native.Nat.{_+_, _-_, _*_, _<_, _≤_};
 ghost use lib.ListN.{length, take};
+ghost use Rattle.base.specs.Limits.{maxDepth, maxLabelInput};
 ghost use Rattle.sha256.specs.Digest.{digest};
 ghost use Rattle.tree.specs.Nodes.{node};
 ghost use Rattle.tree.specs.Labels.{inputHead};
 ghost use Rattle.base.specs.Bytes.{zeros};
-ghost use Rattle.label.specs.Buffer.{paddedIn};
+ghost use Rattle.label.specs.Buffer.{inputSpace, paddedIn};
+use base::HELD_SIZE;
 use base::big_endian;
 use base::put;
 use sha256::digest_padded;
 
+// The longest input with its padding: specs/Buffer.antt.
+const INPUT_SPACE: usize = 64 * ((9 + HELD_SIZE + 8) / 64 + 1);
+
 // Pads a message of len bytes that stands at the front of zeros, and hashes it (FIPS 180-4, 5.1.1).
 fn hash_front(input: &mut [u8], len: usize) -> [u8; 32]
-    requires { ⌜ len ≤ 1321 ⌝ }
-    requires { ⌜ now input ≡ take len (now input) ++ zeros (1344 - len) ⌝ }
+    requires { ⌜ len ≤ maxLabelInput ⌝ }
+    requires { ⌜ now input ≡ take len (now input) ++ zeros (inputSpace - len) ⌝ }
     ensures { λ r. ⌜ r ≡ digest (take len (now (input .entry))) ⌝ }
-    ensures { λ _. ⌜ now (input .exit) ≡ paddedIn 1344 (take len (now (input .entry))) ⌝ }
+    ensures { λ _. ⌜ now (input .exit) ≡ paddedIn inputSpace (take len (now (input .entry))) ⌝ }
 {
     let end = 64 * ((len + 8) / 64 + 1);
     let count = big_endian(8 * len as u64);
@@ -36,12 +41,12 @@ pub fn label(
     front: &[u8],
     rest: &[u8],
 ) -> [u8; 32]
-    requires { ⌜ (level < 256) × (parents ≤ 40) ⌝ }
+    requires { ⌜ (level < 256) × (parents ≤ maxDepth) ⌝ }
     requires { ⌜ length (now front) + length (now rest) ≡ 32 * parents ⌝ }
     ensures { λ r. ⌜ r ≡ digest (inputHead statement (node level position) ++ now (front .entry) ++ now (rest .entry)) ⌝ }
 {
     let place = big_endian(position);
-    let mut input = [0u8; 1344];
+    let mut input = [0u8; INPUT_SPACE];
     put(&mut input, 0, &statement);
     put(&mut input, 32, &[(level % 256) as u8]);
     put(&mut input, 33, &place);

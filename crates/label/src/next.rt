@@ -4,6 +4,7 @@ ghost use mathlib.Core.List.{_++_};
 ghost use Prim.Native.Nat.{_+_, _-_, _*_, _%_, _^_, _<_, _≤_};
 ghost use lib.Count.{ones};
 ghost use lib.ListN.{length, take, drop};
+ghost use Rattle.base.specs.Limits.{maxDepth, heldSize};
 ghost use Rattle.base.specs.Bytes.{zeros, written};
 ghost use Rattle.sha256.specs.Digest.{digest};
 ghost use Rattle.tree.specs.Nodes.{node};
@@ -24,7 +25,7 @@ pub struct Labelled {
 
 // The place of a node's label among the held ones, this many levels below the subtree's own node.
 fn place(below: u64, position: u64) -> usize
-    requires { ⌜ below ≤ 40 ⌝ }
+    requires { ⌜ below ≤ maxDepth ⌝ }
     ensures { λ r. ⌜ r ≡ ones (position % 2 ^ below) ⌝ }
 {
     let mask = (1u64 << below) - 1;
@@ -34,7 +35,7 @@ fn place(below: u64, position: u64) -> usize
 // A leaf has as many parents as its position has one-bits: those in front of the subtree, and then the held labels before its place,
 // which it takes.
 fn label_leaf(statement: [u8; 32], w: Place, front: &[u8], held: &mut [u8]) -> [u8; 32]
-    requires { ⌜ (w .level < 256) × (ones (w .position) ≤ 40) × (length (now held) ≡ 1312) ⌝ }
+    requires { ⌜ (w .level < 256) × (ones (w .position) ≤ maxDepth) × (length (now held) ≡ heldSize) ⌝ }
     requires { ⌜ length (now front) ≤ 32 * ones (w .position) ⌝ }
     ensures { λ r. ⌜ r ≡ digest (inputHead statement (node (w .level) (w .position)) ++ now (front .entry) ++ take (32 * ones (w .position) - length (now (front .entry))) (now (held .entry))) ⌝ }
     ensures { λ r. ⌜ now (held .exit) ≡ written (now (held .entry)) (32 * ones (w .position) - length (now (front .entry))) r ⌝ }
@@ -48,7 +49,7 @@ fn label_leaf(statement: [u8; 32], w: Place, front: &[u8], held: &mut [u8]) -> [
 
 // An inner node hashes the two held labels from its place on, takes that place, and the second is given up.
 fn label_inner(statement: [u8; 32], w: Place, held: &mut [u8], at: usize) -> [u8; 32]
-    requires { ⌜ (w .level < 256) × (at + 64 ≤ 1312) × (length (now held) ≡ 1312) ⌝ }
+    requires { ⌜ (w .level < 256) × (at + 64 ≤ heldSize) × (length (now held) ≡ heldSize) ⌝ }
     ensures { λ r. ⌜ r ≡ digest (inputHead statement (node (w .level) (w .position)) ++ take 64 (drop at (now (held .entry)))) ⌝ }
     ensures { λ r. ⌜ now (held .exit) ≡ written (written (now (held .entry)) at r) (at + 32) (zeros 32) ⌝ }
 {
@@ -70,8 +71,8 @@ pub fn label_next(
     held: &mut [u8],
     made: u64,
 ) -> Labelled
-    requires { ⌜ (level + height ≤ 40) × (position < 2 ^ level) × (made < nodesIn height) ⌝ }
-    requires { ⌜ (length (now front) ≡ 32 * ones position) × (length (now held) ≡ 1312) ⌝ }
+    requires { ⌜ (level + height ≤ maxDepth) × (position < 2 ^ level) × (made < nodesIn height) ⌝ }
+    requires { ⌜ (length (now front) ≡ 32 * ones position) × (length (now held) ≡ heldSize) ⌝ }
     ensures { λ r. ⌜ node (r .level) (r .position) ≡ nextNode height (node level position) made ⌝ }
     ensures { λ r. ⌜ r .label ≡ nextLabel statement height (node level position) (now (front .entry)) (now (held .entry)) made ⌝ }
     ensures { λ r. ⌜ now (held .exit) ≡ heldWith height (node level position) (now (held .entry)) (node (r .level) (r .position)) (r .label) ⌝ }

@@ -2,6 +2,7 @@
 ghost use mathlib.Core.Path.{_≡_};
 ghost use Prim.Native.Nat.{_+_, _-_, _*_, _^_, _<_, _≤_};
 ghost use lib.Dec.{ltb};
+ghost use Rattle.base.specs.Limits.{maxDepth};
 ghost use Rattle.base.specs.Choice.{pick};
 ghost use Rattle.tree.specs.Nodes.{node};
 ghost use Rattle.tree.specs.Walk.{nodesIn};
@@ -15,7 +16,7 @@ pub struct Place {
 
 // The child that the walk goes to, when `left` nodes are to be passed and each child's subtree has `half`.
 fn child(position: u64, left: u64, half: u64) -> u64
-    requires { ⌜ position < 2 ^ 40 ⌝ }
+    requires { ⌜ position < 2 ^ maxDepth ⌝ }
     ensures { λ r. ⌜ r ≡ pick (ltb left half) (2 * position) (2 * position + 1) ⌝ }
 {
     if left < half {
@@ -34,7 +35,7 @@ fn remaining(left: u64, half: u64) -> u64
 
 // The node that is labelled when `made` nodes of the subtree of this height are. Its callers know that one is left.
 pub fn next_node(height: u64, level: u64, position: u64, made: u64) -> Place
-    requires { ⌜ (level + height ≤ 40) × (position < 2 ^ level) × (made < nodesIn height) ⌝ }
+    requires { ⌜ (level + height ≤ maxDepth) × (position < 2 ^ level) × (made < nodesIn height) ⌝ }
     ensures { λ r. ⌜ node (r .level) (r .position) ≡ nextNode height (node level position) made ⌝ }
 {
     let mut h = height;

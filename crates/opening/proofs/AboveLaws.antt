@@ -19,7 +19,7 @@ use Rattle.tree.specs.Store.{slot}
 use Rattle.tree.proofs.InputLengths.{ones-zero}
 use Rattle.tree.proofs.OpeningLaws.{halved}
 use Rattle.opening.specs.Steps.{labelIn, front}
-use Rattle.opening.specs.Possible.{leftLabel}
+use Rattle.opening.specs.Possible.{leftLabel, frontSize}
 use Rattle.opening.proofs.PlaceLaws.{part-in, way-inside}
 
 -- a node's left sibling, if it has one, and then its label
@@ -42,11 +42,11 @@ left-size store l p false o fits = let e : p % 2 ≡ 0 = odd-false p o in omega 
 
 -- The labels of levels 1 to l as they are laid into zeros, with their length: 32 bytes for each one-bit of the position on level l.
 pub record Above (n leaf : ℕ) (store : List ℕ) (l len : ℕ) (bytes : List ℕ) : Type 0 where
-  pub laid : bytes ≡ front n l leaf store ++ zeros (640 - len)
+  pub laid : bytes ≡ front n l leaf store ++ zeros (frontSize - len)
   pub whole : length (front n l leaf store) ≡ len
   pub counted : len ≡ 32 * ones (leaf / 2 ^ (n - l))
 
-pub above-none : (n leaf : ℕ) (store : List ℕ) → leaf < 2 ^ n → Above n leaf store 0 0 (zeros 640)
+pub above-none : (n leaf : ℕ) (store : List ℕ) → leaf < 2 ^ n → Above n leaf store 0 0 (zeros frontSize)
 unfolding front leftSiblings joined
 above-none n leaf store inside =
     let none : leaf / 2 ^ n ≡ 0 = div-eq-of-lt inside in
@@ -66,7 +66,7 @@ ones-more n leaf l level =
     rw (e, halved leaf (n - (l + 1))) (ones-step (leaf / 2 ^ (n - (l + 1))))
 
 -- one level more
-pub above-more : (n leaf l : ℕ) (store : List ℕ) (len len′ : ℕ) (bytes bytes′ : List ℕ) → l + 1 ≤ n → len + 32 ≤ 640
+pub above-more : (n leaf l : ℕ) (store : List ℕ) (len len′ : ℕ) (bytes bytes′ : List ℕ) → l + 1 ≤ n → len + 32 ≤ frontSize
     → slot (node (l + 1) (leaf / 2 ^ (n - (l + 1)))) ≤ length store → Above n leaf store l len bytes
     → bytes′ ≡ written bytes len (leftLabel store (l + 1) (leaf / 2 ^ (n - (l + 1)))) → len′ ≡ len + 32 * (leaf / 2 ^ (n - (l + 1)) % 2)
     → Above n leaf store (l + 1) len′ bytes′
@@ -79,7 +79,7 @@ above-more n leaf l store len len′ bytes bytes′ level room fits so e f =
       laid =
           e
           ∙ rw (front-more n leaf l store level, ← end)
-          (filled-more 640 bytes (front n l leaf store) (leftLabel store (l + 1) p) len (so .laid) (so .whole) (omega arith));
+          (filled-more frontSize bytes (front n l leaf store) (leftLabel store (l + 1) p) len (so .laid) (so .whole) (omega arith));
       whole = rw (front-more n leaf l store level) (length-append (front n l leaf store) (leftLabel store (l + 1) p) ∙ omega (arith, so .whole));
       counted = omega (arith, ones-more n leaf l level, so .counted);
     }
@@ -89,8 +89,8 @@ pub above-few : (n leaf m len : ℕ) → m ≤ n → leaf < 2 ^ n → len ≡ 32
 above-few n leaf m len le inside e = omega (arith, ones-le m (leaf / 2 ^ (n - m)) (way-inside n leaf m le inside))
 
 pub above-taken : (n leaf : ℕ) (store : List ℕ) (m len : ℕ) (bytes : List ℕ) → Above n leaf store m len bytes
-    → (take len bytes ≡ front n m leaf store) × (drop len bytes ≡ zeros (640 - len))
+    → (take len bytes ≡ front n m leaf store) × (drop len bytes ≡ zeros (frontSize - len))
 above-taken n leaf store m len bytes so = (
-  ap (λ (b : List ℕ). take len b) (so .laid) ∙ take-at (front n m leaf store) (zeros (640 - len)) len (so .whole),
-  ap (λ (b : List ℕ). drop len b) (so .laid) ∙ drop-at (front n m leaf store) (zeros (640 - len)) len (so .whole),
+  ap (λ (b : List ℕ). take len b) (so .laid) ∙ take-at (front n m leaf store) (zeros (frontSize - len)) len (so .whole),
+  ap (λ (b : List ℕ). drop len b) (so .laid) ∙ drop-at (front n m leaf store) (zeros (frontSize - len)) len (so .whole),
 )

@@ -6,6 +6,7 @@ use native.Mathlib.Nat.{add-zero}
 use native.Mathlib.Numerals.{add-one}
 use native.Mathlib.Omega.{arith}
 use lib.Pow.{pow-mono}
+use Rattle.base.specs.Limits.{maxDepth}
 use Rattle.tree.specs.Nodes.{Node}
 use Rattle.tree.specs.Walk.{nodesIn}
 use Rattle.tree.proofs.Order.{Place, placeOf, place-top, order-placed}
@@ -19,8 +20,8 @@ pub anew-few : (n m k : ℕ) → k < nodesAnew n m → k + 1 < nodesIn (n - m)
 unfolding nodesIn
 anew-few n m k few = omega arith
 
-pub anew-small : (n m : ℕ) → n ≤ 40 → nodesAnew n m < 2 ^ 41
-anew-small n m deep = omega (arith, pow-mono {i = n - m + 1} {j = 41} (omega arith))
+pub anew-small : (n m : ℕ) → n ≤ maxDepth → nodesAnew n m < 2 ^ (maxDepth + 1)
+anew-small n m deep = omega (arith, pow-mono {i = n - m + 1} {j = maxDepth + 1} (omega arith))
 
 not-top :
     (h k depth height across : ℕ) → height + depth ≡ h → across < 2 ^ depth → (across ≡ 0 → height ≡ h → k + 1 ≡ nodesIn h)

@@ -1,5 +1,5 @@
 -- What a call that is not refused knows of an opening, and short names for the contracts.
-use Prim.Native.Nat.{ℕ, _-_, _^_, _≤_, _<_}
+use Prim.Native.Nat.{ℕ, _-_, _*_, _^_, _≤_, _<_}
 use mathlib.Core.List.{List, [], _∷_, map}
 use Rattle.base.specs.Choice.{pick, odd}
 use Rattle.base.specs.Bytes.{joined}
@@ -17,6 +17,10 @@ pub record Possible (n m leaf : ℕ) : Type 0 where
   pub above : m ≤ n
   pub kept : m ≤ maxMemory
   pub inside : leaf < 2 ^ n
+
+-- the bytes of the left siblings' labels on levels 1 to m, at most: 640
+abbrev pub frontSize : ℕ
+frontSize = 32 * maxMemory
 
 abbrev pub openingOf : List ℕ → ℕ → ℕ → ℕ → ℕ → List ℕ → Opening
 openingOf statement n m leaf made held =

@@ -4,6 +4,7 @@ use Prim.Native.Nat.{ℕ, zero, suc, _+_, _-_, _*_, _/_, _^_, min}
 use mathlib.Core.List.{List, map}
 use lib.Dec.{eqb}
 use lib.ListN.{length, take, drop}
+use Rattle.base.specs.Limits.{heldSize}
 use Rattle.base.specs.Choice.{pick}
 use Rattle.base.specs.Bytes.{zeros, joined, written}
 use Rattle.refusal.specs.Row.{isDone}
@@ -12,7 +13,6 @@ use Rattle.tree.specs.Labels.{Label}
 use Rattle.tree.specs.Store.{slot}
 use Rattle.tree.specs.Openings.{sibling}
 use Rattle.label.specs.Step.{nextNode, nextLabel, heldWith}
-use Rattle.run.specs.Steps.{heldSize}
 use Rattle.opening.specs.declared.Opening.{Opening}
 use Rattle.opening.specs.Rows.{nodesAnew, openRow, reopenRow}
 

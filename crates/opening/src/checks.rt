@@ -2,6 +2,7 @@
 ghost use mathlib.Core.Path.{_≡_};
 ghost use Prim.Native.Nat.{_^_, _≤_};
 ghost use lib.Dec.{ltb, leb};
+ghost use Rattle.base.specs.Limits.{maxDepth};
 ghost use Rattle.refusal.specs.Row.{either};
 ghost use Rattle.refusal.specs.Number.{outcomeNumber};
 ghost use Rattle.run.specs.Rows.{impossible};
@@ -16,21 +17,21 @@ use run::store_short;
 
 // The nodes that an opening labels anew: its subtree's but the topmost.
 pub fn nodes_anew(depth: u64, memory: u64) -> u64
-    requires { ⌜ (depth ≤ 40) × (memory ≤ depth) ⌝ }
+    requires { ⌜ (depth ≤ maxDepth) × (memory ≤ depth) ⌝ }
     ensures { λ r. ⌜ r ≡ nodesAnew depth memory ⌝ }
 {
     nodes(depth - memory) - 1
 }
 
 fn leaf_outside(depth: u64, leaf: u64) -> bool
-    requires { ⌜ depth ≤ 40 ⌝ }
+    requires { ⌜ depth ≤ maxDepth ⌝ }
     ensures { λ r. ⌜ r ≡ leb (2 ^ depth) leaf ⌝ }
 {
     (1u64 << depth) <= leaf
 }
 
 fn output_short(depth: u64, out: usize) -> bool
-    requires { ⌜ depth ≤ 40 ⌝ }
+    requires { ⌜ depth ≤ maxDepth ⌝ }
     ensures { λ r. ⌜ r ≡ ltb out (openingSize depth) ⌝ }
 {
     (out as u64) < 32 * (depth + 1)

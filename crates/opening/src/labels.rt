@@ -3,6 +3,7 @@ ghost use mathlib.Core.Path.{_≡_};
 ghost use Prim.Native.Nat.{_+_, _-_, _*_, _/_, _^_, _<_, _≤_};
 ghost use lib.Count.{ones};
 ghost use lib.ListN.{length};
+ghost use Rattle.base.specs.Limits.{heldSize};
 ghost use Rattle.tree.specs.Store.{storeSize};
 ghost use Rattle.label.specs.Step.{heldWith};
 ghost use Rattle.opening.specs.Rows.{openingSize, nodesAnew};
@@ -25,7 +26,7 @@ fn label_one(
     out: &mut [u8],
 )
     requires { ⌜ Possible depth memory leaf × (made < nodesAnew depth memory) ⌝ }
-    requires { ⌜ (length (now front) ≡ 32 * ones (leaf / 2 ^ (depth - memory))) × (length (now held) ≡ 1312) × (openingSize depth ≤ length (now out)) ⌝ }
+    requires { ⌜ (length (now front) ≡ 32 * ones (leaf / 2 ^ (depth - memory))) × (length (now held) ≡ heldSize) × (openingSize depth ≤ length (now out)) ⌝ }
     ensures { λ _. ⌜ now (held .exit) ≡ heldWith (depth - memory) (ancestor depth leaf memory) (now (held .entry)) (nextAnew depth memory leaf made) (labelAnew statement depth memory leaf (now (front .entry)) (now (held .entry)) made) ⌝ }
     ensures { λ _. ⌜ now (out .exit) ≡ placed depth leaf (now (out .entry)) (nextAnew depth memory leaf made) (labelAnew statement depth memory leaf (now (front .entry)) (now (held .entry)) made) ⌝ }
 {

@@ -10,6 +10,7 @@ ghost use Rattle.refusal.specs.Number.{outcomeNumber};
 ghost use Rattle.opening.specs.Rows.{openRow, reopenRow};
 ghost use Rattle.opening.specs.Possible.{openOf};
 ghost use Rattle.opening.specs.Steps.{newOpening, started, startedOut, labelsIn, advanced};
+use base::HELD_SIZE;
 use checks::may_continue;
 use checks::may_start;
 pub use checks::nodes_anew;
@@ -27,7 +28,7 @@ pub struct Opening {
     pub memory: u64,
     pub leaf: u64,
     pub made: u64,
-    pub held: [u8; 1312],
+    pub held: [u8; HELD_SIZE],
 }
 
 // A refused start's opening is all zero.
@@ -46,7 +47,7 @@ pub struct Advanced {
 fn new_opening(statement: [u8; 32], depth: u64, memory: u64, leaf: u64) -> Opening
     ensures { λ r. ⌜ r ≡ newOpening statement depth memory leaf ⌝ }
 {
-    let held = [0u8; 1312];
+    let held = [0u8; HELD_SIZE];
     Opening {
         statement,
         depth,

@@ -2,6 +2,7 @@
 ghost use mathlib.Core.Path.{_≡_};
 ghost use Prim.Native.Nat.{_+_, _^_, _<_, _≤_};
 ghost use lib.ListN.{length};
+ghost use Rattle.base.specs.Limits.{maxDepth};
 ghost use Rattle.tree.specs.Nodes.{node, sameNode};
 ghost use Rattle.tree.specs.Store.{slot, storeSize};
 ghost use Rattle.tree.specs.Openings.{sibling};
@@ -32,7 +33,7 @@ fn same_node(level: u64, position: u64, level2: u64, position2: u64) -> bool
 
 // Where the store has a node's label.
 pub fn slot_of(level: u64, position: u64) -> usize
-    requires { ⌜ (level ≤ 40) × (position < 2 ^ level) ⌝ }
+    requires { ⌜ (level ≤ maxDepth) × (position < 2 ^ level) ⌝ }
     ensures { λ r. ⌜ r ≡ slot (node level position) ⌝ }
 {
     (32 * ((1u64 << level) - 1 + position)) as usize
@@ -40,7 +41,7 @@ pub fn slot_of(level: u64, position: u64) -> usize
 
 // Puts a node's label in its place if it belongs to the opening of the leaf.
 pub fn put_label(depth: u64, leaf: u64, out: &mut [u8], level: u64, position: u64, label: &[u8])
-    requires { ⌜ (depth ≤ 40) × (1 ≤ level) × (level ≤ depth) ⌝ }
+    requires { ⌜ (depth ≤ maxDepth) × (1 ≤ level) × (level ≤ depth) ⌝ }
     requires { ⌜ (openingSize depth ≤ length (now out)) × (length (now label) ≡ 32) ⌝ }
     ensures { λ _. ⌜ now (out .exit) ≡ placed depth leaf (now (out .entry)) (node level position) (now (label .entry)) ⌝ }
 {
@@ -57,7 +58,7 @@ pub fn put_label(depth: u64, leaf: u64, out: &mut [u8], level: u64, position: u6
 
 // Copies a node's label from the store.
 fn copy_label(depth: u64, leaf: u64, level: u64, position: u64, store: &[u8], out: &mut [u8])
-    requires { ⌜ (depth ≤ 40) × (1 ≤ level) × (level ≤ depth) × (position < 2 ^ level) ⌝ }
+    requires { ⌜ (depth ≤ maxDepth) × (1 ≤ level) × (level ≤ depth) × (position < 2 ^ level) ⌝ }
     requires { ⌜ (slot (node level position) + 32 ≤ length (now store)) × (openingSize depth ≤ length (now out)) ⌝ }
     ensures { λ _. ⌜ now (out .exit) ≡ placed depth leaf (now (out .entry)) (node level position) (labelIn (now (store .entry)) (node level position)) ⌝ }
 {

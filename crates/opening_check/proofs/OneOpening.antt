@@ -10,6 +10,7 @@ use borrow.Author.Tests.{lt-ltb, le-ltb, le-leb, lt-leb}
 use lib.Count.{ones, ones-step, ones-le}
 use lib.ListN.{length, take, drop, length-replicate, take-append-drop}
 use lib.Pow.{shr-lt}
+use Rattle.base.specs.Limits.{maxDepth}
 use Rattle.base.specs.Choice.{pick, odd}
 use Rattle.base.specs.Bytes.{zeros, joined, written}
 use Rattle.base.specs.Lists.{sameBytes}
@@ -91,7 +92,7 @@ module _ (n leaf : ℕ) (inside : leaf < 2 ^ n) (bytes : List ℕ) where
       omega (arith, so .counted, ones-le (n - height) (leaf / 2 ^ height) (shr-lt (n - height) height (rw up inside)))
 
   -- one level more
-  pub gathered-more : (height len len′ : ℕ) (gathered gathered′ : List ℕ) → 0 < height → height ≤ n → n ≤ 40 → openingSize n ≤ length bytes
+  pub gathered-more : (height len len′ : ℕ) (gathered gathered′ : List ℕ) → 0 < height → height ≤ n → n ≤ maxDepth → openingSize n ≤ length bytes
       → Gathered n leaf bytes height len gathered
       → gathered′ ≡ written gathered len (pick (odd (leaf / 2 ^ (height - 1))) (givenBy bytes (height - 1 + 1)) [])
       → len′ ≡ len + 32 * (leaf / 2 ^ (height - 1) % 2) → Gathered n leaf bytes (height - 1) len′ gathered′
@@ -163,11 +164,11 @@ module _ (statement : List ℕ) (n leaf : ℕ) (root bytes : List ℕ) where
 
 -- ---- the row, one law for each return
 module _ (statement : List ℕ) (n leaf : ℕ) (root bytes : List ℕ) where
-  pub depth-refused : outside 1 40 n ≡ true → 1 ≡ openingRow statement n leaf root bytes
+  pub depth-refused : outside 1 maxDepth n ≡ true → 1 ≡ openingRow statement n leaf root bytes
   unfolding openingRow
   depth-refused d = rw d
 
-  module _ (d : outside 1 40 n ≡ false) (small : n ≤ 40) where
+  module _ (d : outside 1 maxDepth n ≡ false) (small : n ≤ maxDepth) where
     pub leaf-refused : (1 * 2 ^ n) % 2 ^ 64 ≤ leaf → 6 ≡ openingRow statement n leaf root bytes
     unfolding openingRow
     leaf-refused h = let l : 2 ^ n ≤ leaf = rw (full n small) at h in rw (d, le-leb (2 ^ n) leaf l)

@@ -3,6 +3,7 @@ ghost use mathlib.Core.Path.{_≡_};
 ghost use mathlib.Core.List.{[]};
 ghost use Prim.Native.Nat.{_+_, _*_, _/_, _%_, _^_, _<_, _≤_};
 ghost use lib.ListN.{length};
+ghost use Rattle.base.specs.Limits.{maxDepth};
 ghost use Rattle.base.specs.Choice.{pick, odd};
 ghost use Rattle.base.specs.Bytes.{written};
 ghost use Rattle.refusal.specs.Number.{outcomeNumber};
@@ -15,6 +16,7 @@ ghost use Rattle.opening_check.specs.OpeningCheck.{givenBy, rightRow, op
 use crate::tests::beyond;
 use crate::tests::label_at;
 use crate::tests::same;
+use base::MAX_DEPTH;
 use base::put;
 use label::label;
 use refusal::Outcome;
@@ -22,7 +24,7 @@ use refusal::Refusal;
 
 // The label of the sibling of this height is put behind len gathered bytes where it is a left one. How many are gathered then.
 fn gather(gathered: &mut [u8], len: usize, leaf: u64, height: u64, bytes: &[u8]) -> usize
-    requires { ⌜ (height < 40) × (len + 32 ≤ length (now gathered)) × (openingSize (height + 1) ≤ length (now bytes)) ⌝ }
+    requires { ⌜ (height < maxDepth) × (len + 32 ≤ length (now gathered)) × (openingSize (height + 1) ≤ length (now bytes)) ⌝ }
     ensures { λ _. ⌜ now (gathered .exit) ≡ written (now (gathered .entry)) len (pick (odd (leaf / 2 ^ height)) (givenBy (now (bytes .entry)) (height + 1)) []) ⌝ }
     ensures { λ r. ⌜ r ≡ len + 32 * (leaf / 2 ^ height % 2) ⌝ }
 {
@@ -38,7 +40,7 @@ fn gather(gathered: &mut [u8], len: usize, leaf: u64, height: u64, bytes: &[u8])
 // The hash that the leaf's label must be: over the given labels of the left siblings, smallest level first, as many as the leaf's
 // position has one-bits.
 fn leaf_label(statement: [u8; 32], n: u64, leaf: u64, bytes: &[u8]) -> [u8; 32]
-    requires { ⌜ (n ≤ 40) × (leaf < 2 ^ n) × (length (now bytes) ≡ openingSize n) ⌝ }
+    requires { ⌜ (n ≤ maxDepth) × (leaf < 2 ^ n) × (length (now bytes) ≡ openingSize n) ⌝ }
     ensures { λ r. ⌜ r ≡ stampRule statement .hash (inputAt (stampRule statement) n leaf (givenBy (now (bytes .entry))) (node n leaf)) ⌝ }
 {
     let parents = u64::count_ones(leaf) as usize;
@@ -72,7 +74,7 @@ fn label_above(
 
 // The root's label, hashed upward from the given label of the leaf.
 fn climb(statement: [u8; 32], n: u64, leaf: u64, bytes: &[u8]) -> [u8; 32]
-    requires { ⌜ (1 ≤ n) × (n ≤ 40) × (length (now bytes) ≡ openingSize n) ⌝ }
+    requires { ⌜ (1 ≤ n) × (n ≤ maxDepth) × (length (now bytes) ≡ openingSize n) ⌝ }
     ensures { λ r. ⌜ r ≡ computed (stampRule statement) n leaf (givenBy (now (bytes .entry))) n ⌝ }
 {
     let mut label = label_at(bytes, 0);
@@ -95,7 +97,7 @@ fn climb(statement: [u8; 32], n: u64, leaf: u64, bytes: &[u8]) -> [u8; 32]
 
 // 14, 15. Its callers know the depth, the position and the length.
 pub fn right(statement: [u8; 32], n: u64, leaf: u64, root: [u8; 32], bytes: &[u8]) -> Outcome
-    requires { ⌜ (1 ≤ n) × (n ≤ 40) × (leaf < 2 ^ n) × (length (now bytes) ≡ openingSize n) ⌝ }
+    requires { ⌜ (1 ≤ n) × (n ≤ maxDepth) × (leaf < 2 ^ n) × (length (now bytes) ≡ openingSize n) ⌝ }
     ensures { λ r. ⌜ outcomeNumber r ≡ rightRow statement n leaf root (now (bytes .entry)) ⌝ }
 {
     let leaf_hash = leaf_label(statement, n, leaf, bytes);
@@ -119,7 +121,7 @@ pub fn check_opening(
 ) -> Outcome
     ensures { λ r. ⌜ outcomeNumber r ≡ openingRow statement depth leaf root (now (bytes .entry)) ⌝ }
 {
-    if beyond(40, depth) {
+    if beyond(MAX_DEPTH, depth) {
         return Outcome::Refused(Refusal::Depth);
     }
     if 1u64 << depth <= leaf {

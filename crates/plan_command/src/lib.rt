@@ -4,20 +4,22 @@ ghost use mathlib.Core.Path.{_≡_};
 ghost use Rattle.base.specs.Bytes.{zeros};
 ghost use Rattle.base.specs.Limits.{maxInput};
 ghost use Rattle.planning.specs.Output.{maxOutput};
+use base::MAX_INPUT;
 use descriptors::read_whole;
+use planning::MAX_OUTPUT;
 
 // One byte more than an input may have.
-fn input_space() -> [u8; 65537]
+fn input_space() -> [u8; MAX_INPUT + 1]
     ensures { λ r. ⌜ r ≡ zeros (maxInput + 1) ⌝ }
 {
-    [0; 65537]
+    [0; MAX_INPUT + 1]
 }
 
 // As much as is ever printed.
-fn output_space() -> [u8; 287992]
+fn output_space() -> [u8; MAX_OUTPUT]
     ensures { λ r. ⌜ r ≡ zeros maxOutput ⌝ }
 {
-    [0; 287992]
+    [0; MAX_OUTPUT]
 }
 
 fn emit(to: i32, output: &[u8], count: usize) -> bool {

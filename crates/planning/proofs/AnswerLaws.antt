@@ -11,7 +11,7 @@ use lib.Seq.{take-at}
 use borrow.Author.Tests.{ltb-false, leb-true, le-leb, not-false}
 use Rattle.base.specs.Choice.{pick}
 use Rattle.base.specs.Bytes.{written}
-use Rattle.base.specs.Limits.{maxChallenges}
+use Rattle.base.specs.Limits.{maxChallenges, maxChain}
 use Rattle.base.proofs.ChoiceLaws.{both-second}
 use Rattle.refusal.specs.declared.Refusal.{Refusal}
 use Rattle.refusal.specs.declared.Outcome.{Outcome}
@@ -37,14 +37,14 @@ module _ (n : ℕ) (leaves codes : List ℕ) (done : planRow n leaves places ≡
   unfolding planRow
   all-passed = none-holds checks refl done
 
-  pub few-leaves : length leaves ≤ 200
-  few-leaves = leb-true (length leaves) 200 (both-second (leb 1 (length leaves)) (leb (length leaves) 200) (not-false _ (all-passed .1 .0)))
+  pub few-leaves : length leaves ≤ maxChallenges
+  few-leaves = leb-true (length leaves) maxChallenges (both-second (leb 1 (length leaves)) (leb (length leaves) maxChallenges) (not-false _ (all-passed .1 .0)))
 
   pub codes-count : length codes ≡ length (chain n leaves)
   unfolding chainCodes
   codes-count = rw are (length-map (chain n leaves) code)
 
-  pub few-codes : length codes ≤ 6855
+  pub few-codes : length codes ≤ maxChain
   few-codes = omega (arith, codes-count, ltb-false places (length (chain n leaves)) (all-passed .1 .1 .1 .0))
 
   pub different-count : (k : ℕ) → k ≡ pick (leb (length leaves) maxChallenges) (leavesOpened leaves) 0 → k ≡ leavesOpened leaves
@@ -86,7 +86,7 @@ head-room n k c = head-short n k c
 pub plan-wrote : (n : ℕ) (leaves codes : List ℕ) → planRow n leaves places ≡ 0 → codes ≡ chainCodes n leaves → (d e f : List ℕ) (k m q i : ℕ)
     → k ≡ pick (leb (length leaves) maxChallenges) (leavesOpened leaves) 0 → Wrote d 0 (headText n k (length codes)) e m → length codes ≤ i
     → written f q (nodesText (drop i (chain n leaves))) ≡ written e m (nodesText (chain n leaves))
-    → q + length (nodesText (drop i (chain n leaves))) ≡ m + length (nodesText (chain n leaves)) → 82 + 42 * 6855 ≤ length d
+    → q + length (nodesText (drop i (chain n leaves))) ≡ m + length (nodesText (chain n leaves)) → 82 + 42 * maxChain ≤ length d
     → Wrote d 0 (answerText n leaves 0) f q
 plan-wrote n leaves codes done are d e f k m q i different w end p t room =
     let count = codes-count n leaves codes done are in
@@ -107,16 +107,16 @@ plan-wrote n leaves codes done are d e f k m q i different w end p t room =
 
 -- what planning into a list of 6,855 places answers
 pub done-row :
-    (n : ℕ) (leaves : List ℕ) (o : Outcome) (list : ℕ) → list ≡ 6855 → outcomeNumber o ≡ planRow n leaves list → o ≡ Done
+    (n : ℕ) (leaves : List ℕ) (o : Outcome) (list : ℕ) → list ≡ maxChain → outcomeNumber o ≡ planRow n leaves list → o ≡ Done
     → planRow n leaves places ≡ 0
 done-row n leaves o list e p q = rw (← e) (is-done o (planRow n leaves list) p q)
 
-pub done-count : (n : ℕ) (leaves : List ℕ) (list count : ℕ) → list ≡ 6855 → planRow n leaves places ≡ 0 → count ≡ plannedCount n leaves list
+pub done-count : (n : ℕ) (leaves : List ℕ) (list count : ℕ) → list ≡ maxChain → planRow n leaves places ≡ 0 → count ≡ plannedCount n leaves list
     → count ≡ length (chain n leaves)
 unfolding plannedCount
 done-count n leaves list count e d c = c ∙ rw (e, d)
 
-pub done-codes : (n : ℕ) (leaves list codes : List ℕ) (count : ℕ) → length list ≡ 6855 → planRow n leaves places ≡ 0
+pub done-codes : (n : ℕ) (leaves list codes : List ℕ) (count : ℕ) → length list ≡ maxChain → planRow n leaves places ≡ 0
     → count ≡ length (chain n leaves) → codes ≡ plannedList n leaves list → take count codes ≡ chainCodes n leaves
 unfolding plannedList written chainCodes
 done-codes n leaves list codes count e d c p =
@@ -125,7 +125,7 @@ done-codes n leaves list codes count e d c p =
     ∙ take-at (map code (chain n leaves)) _ count (length-map (chain n leaves) code ∙ sym c))
 
 refused-text :
-    (n : ℕ) (leaves : List ℕ) (o : Outcome) (why : Refusal) (list k : ℕ) → list ≡ 6855 → outcomeNumber o ≡ planRow n leaves list
+    (n : ℕ) (leaves : List ℕ) (o : Outcome) (why : Refusal) (list k : ℕ) → list ≡ maxChain → outcomeNumber o ≡ planRow n leaves list
     → o ≡ Refused why
     → k ≡ numberOf why → planText n leaves ≡ refusedText k
 unfolding planText
@@ -133,7 +133,7 @@ refused-text n leaves o why list k a p q r =
     let row : planRow n leaves places ≡ k = rw (← a) (sym (refused-number o (planRow n leaves list) why p q) ∙ sym r) in
     rw (row, not-done why k (sym r))
 
-pub refused-wrote : (n : ℕ) (leaves d e : List ℕ) (o : Outcome) (why : Refusal) (list k m : ℕ) → list ≡ 6855 → outcomeNumber o ≡ planRow n leaves list
+pub refused-wrote : (n : ℕ) (leaves d e : List ℕ) (o : Outcome) (why : Refusal) (list k m : ℕ) → list ≡ maxChain → outcomeNumber o ≡ planRow n leaves list
     → o ≡ Refused why → k ≡ numberOf why → Wrote d 0 (refusedText k) e m → Wrote d 0 (planText n leaves) e m
 refused-wrote n leaves d e o why list k m a p q r w = rw (refused-text n leaves o why list k a p q r) w
 

@@ -16,7 +16,7 @@ use Rattle.refusal.specs.Row.{either, outside}
 use Rattle.chain_theory.specs.Planning.{every}
 use Rattle.chain.specs.PlanRow.{planRow}
 use Rattle.chain.proofs.Rows.{too-high}
-use Rattle.planning.specs.Input.{readable, fits, numbers, unreadable}
+use Rattle.planning.specs.Input.{maxNumbers, readable, fits, numbers, unreadable}
 use Rattle.planning.specs.Output.{refusedText, answerText, planText, printed, maxOutput}
 use Rattle.planning.specs.Steps.{allFit, Wrote}
 
@@ -58,24 +58,24 @@ module _ (bytes : List ℕ) where
       )
 
 -- more than 200 leaves are refused whichever they are
-too-many : (n : ℕ) (zs : List ℕ) → 200 < length zs → planText n zs ≡ pick (outside 1 maxDepth n) (refusedText 1) (refusedText 8)
+too-many : (n : ℕ) (zs : List ℕ) → maxChallenges < length zs → planText n zs ≡ pick (outside 1 maxDepth n) (refusedText 1) (refusedText 8)
 unfolding planText planRow
-too-many n zs h = rw (too-high 1 200 (length zs) h) (go (outside 1 maxDepth n))
+too-many n zs h = rw (too-high 1 maxChallenges (length zs) h) (go (outside 1 maxDepth n))
   where
     go : (d : Bool) → answerText n zs (pick d 1 8) ≡ pick d (refusedText 1) (refusedText 8)
     go true = refl
     go false = refl
 
-cut : (n : ℕ) (ys : List ℕ) → planText n (take 201 ys) ≡ planText n ys
-cut n ys = go (leb (length ys) 201) refl
+cut : (n : ℕ) (ys : List ℕ) → planText n (take (maxChallenges + 1) ys) ≡ planText n ys
+cut n ys = go (leb (length ys) (maxChallenges + 1)) refl
   where
-    go : (b : Bool) → leb (length ys) 201 ≡ b → planText n (take 201 ys) ≡ planText n ys
-    go true e = ap (planText n) (take-all 201 ys (leb-true (length ys) 201 e))
+    go : (b : Bool) → leb (length ys) (maxChallenges + 1) ≡ b → planText n (take (maxChallenges + 1) ys) ≡ planText n ys
+    go true e = ap (planText n) (take-all (maxChallenges + 1) ys (leb-true (length ys) (maxChallenges + 1) e))
     go false e =
-        let h : 201 < length ys = leb-false (length ys) 201 e in
-        too-many n (take 201 ys) (omega (arith, length-take-le 201 ys (omega arith))) ∙ sym (too-many n ys (omega arith))
+        let h : (maxChallenges + 1) < length ys = leb-false (length ys) (maxChallenges + 1) e in
+        too-many n (take (maxChallenges + 1) ys) (omega (arith, length-take-le (maxChallenges + 1) ys (omega arith))) ∙ sym (too-many n ys (omega arith))
 
-cut-rest : (n : ℕ) (xs : List ℕ) → planText n (drop 1 (take 202 xs)) ≡ planText n (drop 1 xs)
+cut-rest : (n : ℕ) (xs : List ℕ) → planText n (drop 1 (take maxNumbers xs)) ≡ planText n (drop 1 xs)
 cut-rest n [] = refl
 cut-rest n (x ∷ ys) = cut n ys
 
@@ -84,12 +84,12 @@ rest-of list zero h = absurd (omega arith)
 rest-of [] (suc k) h = take-nil (suc k - 1)
 rest-of (x ∷ list) (suc k) h = let e : suc k - 1 ≡ k = omega arith in rw e
 
-pub plan-printed : (bytes list d e : List ℕ) (count m : ℕ) → 1 ≤ count → take count list ≡ take 202 (numbers bytes) → unreadable bytes ≡ false
+pub plan-printed : (bytes list d e : List ℕ) (count m : ℕ) → 1 ≤ count → take count list ≡ take maxNumbers (numbers bytes) → unreadable bytes ≡ false
     → Wrote d 0 (planText (getD list 0 0) (take (count - 1) (drop 1 list))) e m → Wrote d 0 (printed bytes) e m
 unfolding printed
 plan-printed bytes list d e count m h t u w =
     let first : getD list 0 0 ≡ getD (numbers bytes) 0 0 =
-    sym (getD-take count list 0 0 (omega arith)) ∙ ap (λ (l : List ℕ). getD l 0 0) t ∙ getD-take 202 (numbers bytes) 0 0 (omega arith) in
+    sym (getD-take count list 0 0 (omega arith)) ∙ ap (λ (l : List ℕ). getD l 0 0) t ∙ getD-take maxNumbers (numbers bytes) 0 0 (omega arith) in
     let text : planText (getD list 0 0) (take (count - 1) (drop 1 list)) ≡ planText (getD (numbers bytes) 0 0) (drop 1 (numbers bytes)) =
     rw (first, rest-of list count h, t) (cut-rest (getD (numbers bytes) 0 0) (numbers bytes)) in
     rw u (rw text at w)

@@ -14,7 +14,7 @@ use Rattle.base.specs.Bytes.{written}
 use Rattle.base.proofs.ChoiceLaws.{both-first, both-second, both-false}
 use Rattle.chain.proofs.Writing.{written-none}
 use Rattle.chain_theory.specs.Planning.{every}
-use Rattle.planning.specs.Input.{isDigit, readable, fits, numbersFrom, numbers}
+use Rattle.planning.specs.Input.{maxNumbers, isDigit, readable, fits, numbersFrom, numbers}
 use Rattle.planning.specs.Steps.{goesOn, nextValue, Step, Wrote, allFit, ended}
 use Rattle.planning.proofs.Laying.{one-byte}
 
@@ -185,20 +185,20 @@ unfolding written
 kept-all list base kept r e n = rw e (take-at kept (drop (0 + length kept) base) r (sym n))
 
 -- the first 202
-pub first-full : (list rest all : List ℕ) (r : ℕ) → r ≤ length list → length list ≡ 202 → 202 ≤ r → take r list ++ rest ≡ all
-    → (take r list ≡ take 202 all) × (r ≡ length (take 202 all))
+pub first-full : (list rest all : List ℕ) (r : ℕ) → r ≤ length list → length list ≡ maxNumbers → maxNumbers ≤ r → take r list ++ rest ≡ all
+    → (take r list ≡ take maxNumbers all) × (r ≡ length (take maxNumbers all))
 first-full list rest all r h l k e =
     let n : length (take r list) ≡ r = length-take-le r list h in
-    let t : take 202 all ≡ take r list = ap (take 202) (sym e) ∙ take-at (take r list) rest 202 (omega arith) in
+    let t : take maxNumbers all ≡ take r list = ap (take maxNumbers) (sym e) ∙ take-at (take r list) rest maxNumbers (omega arith) in
     (sym t, sym (ap length t ∙ n))
 
 pub first-all :
-    (list all : List ℕ) (r : ℕ) → r ≤ length list → length list ≡ 202 → take r list ≡ all
-    → (take r list ≡ take 202 all) × (r ≡ length (take 202 all))
+    (list all : List ℕ) (r : ℕ) → r ≤ length list → length list ≡ maxNumbers → take r list ≡ all
+    → (take r list ≡ take maxNumbers all) × (r ≡ length (take maxNumbers all))
 first-all list all r h l e =
     let n : length (take r list) ≡ r = length-take-le r list h in
     let m : length all ≡ r = sym (ap length e) ∙ n in
-    let t : take 202 all ≡ all = take-all 202 all (omega arith) in
+    let t : take maxNumbers all ≡ all = take-all maxNumbers all (omega arith) in
     (e ∙ sym t, sym (ap length t ∙ m))
 
 -- a number that ends is kept

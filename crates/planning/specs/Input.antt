@@ -5,9 +5,13 @@ use mathlib.Core.List.{List, [], _∷_}
 use lib.Dec.{ltb, leb, eqb}
 use lib.ListN.{length}
 use Rattle.base.specs.Choice.{pick, both}
-use Rattle.base.specs.Limits.{maxInput}
+use Rattle.base.specs.Limits.{maxInput, maxChallenges}
 use Rattle.refusal.specs.Row.{either}
 use Rattle.chain_theory.specs.Planning.{every}
+
+-- how many numbers of an input are kept: a depth and one leaf more than any plan takes
+abbrev pub maxNumbers : ℕ
+maxNumbers = maxChallenges + 2
 
 abbrev pub isDigit : ℕ → Bool
 isDigit b = both (leb 48 b) (leb b 57)

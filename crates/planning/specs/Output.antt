@@ -3,6 +3,7 @@ use Prim.Native.Nat.{ℕ, zero, suc, _+_, _*_, _/_, _%_}
 use mathlib.Core.List.{List, [], _∷_, _++_, map}
 use lib.Dec.{ltb}
 use lib.ListN.{length, getD, drop}
+use Rattle.base.specs.Limits.{maxChain}
 use Rattle.base.specs.Choice.{pick}
 use Rattle.base.specs.Bytes.{joined}
 use Rattle.refusal.specs.Row.{isDone}
@@ -47,7 +48,7 @@ nodesText nodes = joined (map nodeText nodes)
 
 -- the list that the program lends for the chain: 'With t = 200 at most 6,855 nodes.'
 abbrev pub places : ℕ
-places = 6855
+places = maxChain
 
 -- the text of planning's answer, by its number
 abbrev pub answerText : ℕ → List ℕ → ℕ → List ℕ

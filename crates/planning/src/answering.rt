@@ -5,6 +5,8 @@ use crate::texts::node_of;
 use crate::texts::put_head;
 use crate::texts::put_node;
 use crate::texts::put_refused;
+use base::MAX_CHAIN;
+use base::MAX_INPUT;
 use refusal::Outcome;
 ghost use mathlib.Core.Path.{_≡_};
 ghost use Prim.Native.Nat.{_≤_};
@@ -16,6 +18,9 @@ ghost use Rattle.chain_theory.specs.Ways.{chainCodes};
 ghost use Rattle.chain.specs.PlanRow.{planRow};
 ghost use Rattle.planning.specs.Output.{places, maxOutput, answerText, planText, printed};
 ghost use Rattle.planning.specs.Steps.{Wrote};
+
+// Room for all that is ever printed: specs/Output.antt.
+pub const MAX_OUTPUT: usize = 82 + 42 * MAX_CHAIN;
 
 // Lays out the head and the nodes of a plan.
 pub fn put_plan(depth: u64, leaves: &[u64], codes: &[u64], out: &mut [u8]) -> usize
@@ -42,7 +47,7 @@ fn put_answer(depth: u64, leaves: &[u64], out: &mut [u8]) -> usize
     requires { ⌜ maxOutput ≤ length (now out) ⌝ }
     ensures { λ r. ⌜ Wrote (now (out .entry)) 0 (planText depth (now (leaves .entry))) (now (out .exit)) r ⌝ }
 {
-    let mut codes = [0u64; 6855];
+    let mut codes = [0u64; MAX_CHAIN];
     let planned = chain::plan(depth, leaves, &mut codes);
     let outcome = planned.outcome;
     let count = planned.count as usize;
@@ -58,10 +63,10 @@ pub fn answer(input: &[u8], out: &mut [u8]) -> usize
     ensures { λ r. ⌜ r ≡ pick (leb maxOutput (length (now (out .entry)))) (length (printed (now (input .entry)))) 0 ⌝ }
     ensures { λ _. ⌜ now (out .exit) ≡ pick (leb maxOutput (length (now (out .entry)))) (written (now (out .entry)) 0 (printed (now (input .entry)))) (now (out .entry)) ⌝ }
 {
-    if out.len() < 287992 {
+    if out.len() < MAX_OUTPUT {
         return 0;
     }
-    if 65536 < input.len() {
+    if MAX_INPUT < input.len() {
         return put_refused(out, 17);
     }
     if !is_readable(input) {

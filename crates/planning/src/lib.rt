@@ -3,6 +3,7 @@ mod answering;
 mod reading;
 mod texts;
 
+pub use answering::MAX_OUTPUT;
 pub use answering::answer;
 pub use answering::put_plan;
 pub use reading::Numbers;

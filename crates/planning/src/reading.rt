@@ -4,8 +4,9 @@ ghost use mathlib.Core.Bool.{true, false};
 ghost use Prim.Native.Nat.{_<_};
 ghost use lib.ListN.{length, take};
 ghost use Rattle.base.specs.Bytes.{zeros, written};
-ghost use Rattle.planning.specs.Input.{numbers};
+ghost use Rattle.planning.specs.Input.{maxNumbers, numbers};
 ghost use Rattle.planning.specs.Steps.{Step, Wrote, allFit, ended};
+use base::MAX_LEAVES;
 
 // What a byte does to the number before it: it can be read, it is a digit, the value after it. The last two are decided where
 // it can be read, and nobody reads them elsewhere.
@@ -15,9 +16,12 @@ struct Stepped {
     value: u64,
 }
 
-// The first numbers, at most a depth and 201 leaves.
+// A depth and one leaf more than any plan takes.
+pub const MAX_NUMBERS: usize = MAX_LEAVES + 2;
+
+// The first numbers of an input.
 pub struct Numbers {
-    pub list: [u64; 202],
+    pub list: [u64; MAX_NUMBERS],
     pub count: usize,
 }
 
@@ -109,9 +113,9 @@ fn push(list: &mut [u64], count: usize, value: u64, within: bool, digit: bool) -
 // The first numbers of an input that can be read, and zeros after them.
 pub fn read_numbers(input: &[u8]) -> Numbers
     requires { ⌜ allFit false 0 (now input) ≡ true ⌝ }
-    ensures { λ r. ⌜ (r .list ≡ written (zeros 202) 0 (take 202 (numbers (now (input .entry))))) × (r .count ≡ length (take 202 (numbers (now (input .entry))))) ⌝ }
+    ensures { λ r. ⌜ (r .list ≡ written (zeros maxNumbers) 0 (take maxNumbers (numbers (now (input .entry))))) × (r .count ≡ length (take maxNumbers (numbers (now (input .entry))))) ⌝ }
 {
-    let mut list = [0u64; 202];
+    let mut list = [0u64; MAX_NUMBERS];
     let mut count: usize = 0;
     let mut value: u64 = 0;
     let mut within = false;
@@ -119,7 +123,7 @@ pub fn read_numbers(input: &[u8]) -> Numbers
     while i < input.len() {
         let s = step(wide(input[i]), value);
         count = push(&mut list, count, value, within, s.digit);
-        if 202 <= count {
+        if MAX_NUMBERS <= count {
             return Numbers { list, count };
         }
         within = s.digit;

@@ -10,7 +10,7 @@ use borrow.Author.Tests.{lt-leb}
 use lib.ListN.{length, take, drop, getD, length-append}
 use lib.Pow.{pow-add, shr-shr, high}
 use lib.Seq.{take-at, take-suc}
-use Rattle.base.specs.Limits.{maxHashed}
+use Rattle.base.specs.Limits.{maxHashed, maxDepth, maxChallenges}
 use Rattle.base.specs.Bytes.{bigEndian, zeros, written}
 use Rattle.base.proofs.BytesLaws.{length-bigEndian}
 use Rattle.base.proofs.Zeros.{filled-more}
@@ -125,7 +125,7 @@ first-bits hash n s h =
     let bits : 192 + (64 - n) ≡ 256 - n = omega arith in
     rw (front, ← bits, ← shr-shr (bigEndianValue hash) 192 (64 - n), value, high (bigEndianValue (s .front)) 192 small)
 
-pub leaf-bits : (n : ℕ) (statement root : List ℕ) (i word : ℕ) (hash : List ℕ) → n ≤ 40
+pub leaf-bits : (n : ℕ) (statement root : List ℕ) (i word : ℕ) (hash : List ℕ) → n ≤ maxDepth
     → hash ≡ digest (challengeInput statement root i)
     → word ≡ bigEndianValue (take 8 hash) → word / 2 ^ (64 - n) ≡ challengeLeaf n statement root i
 unfolding challengeLeaf
@@ -150,16 +150,16 @@ abbrev Answers : ℕ → List ℕ → List ℕ → ℕ → ℕ → ℕ → Type 
 Answers n statement root i number leaf = (number ≡ challengeRow n i) × (leaf ≡ challenged n statement root i)
 
 module _ (n : ℕ) (statement root : List ℕ) (i : ℕ) where
-  pub depth-refused : outside 1 40 n ≡ true → Answers n statement root i 1 0
+  pub depth-refused : outside 1 maxDepth n ≡ true → Answers n statement root i 1 0
   unfolding challengeRow challenged
   depth-refused d = (rw d, rw d)
 
-  module _ (d : outside 1 40 n ≡ false) where
-    pub number-refused : outside 1 200 i ≡ true → Answers n statement root i 8 0
+  module _ (d : outside 1 maxDepth n ≡ false) where
+    pub number-refused : outside 1 maxChallenges i ≡ true → Answers n statement root i 8 0
     unfolding challengeRow challenged
     number-refused t = (rw (d, t), rw (d, t))
 
-    pub leaf-answered : (leaf : ℕ) → outside 1 200 i ≡ false → leaf ≡ challengeLeaf n statement root i
+    pub leaf-answered : (leaf : ℕ) → outside 1 maxChallenges i ≡ false → leaf ≡ challengeLeaf n statement root i
         → Answers n statement root i 0 leaf
     unfolding challengeRow challenged
     leaf-answered leaf t e = (rw (d, t), rw (d, t) e)

@@ -8,6 +8,7 @@ use native.Mathlib.Omega.{arith}
 use borrow.Author.Tests.{eq-eqb, ne-eqb, eqb-true, not-true}
 use lib.Dec.{eqb}
 use lib.ListN.{length, take, drop, getD}
+use Rattle.base.specs.Limits.{maxDepth, maxChallenges, maxOpenings}
 use Rattle.base.proofs.ChoiceLaws.{both-first, both-second}
 use Rattle.refusal.specs.Row.{outside}
 use Rattle.groups.specs.Reading.{Answer, value, refused, readAt}
@@ -36,28 +37,28 @@ module _ (bytes : List ℕ) (n at : ℕ) where
   unfolding countFrom
   count-refused r e = checked-refused (readAt bytes at 2) _ _ _ r e
 
-  pub count-bad : (t end : ℕ) → readAt bytes at 2 ≡ value t end → outside 1 200 t ≡ true → notRead 8 ≡ countFrom bytes n at
+  pub count-bad : (t end : ℕ) → readAt bytes at 2 ≡ value t end → outside 1 maxChallenges t ≡ true → notRead 8 ≡ countFrom bytes n at
   unfolding countFrom
-  count-bad t end e b = checked-bad (readAt bytes at 2) (outside 1 200) _ _ t end e b
+  count-bad t end e b = checked-bad (readAt bytes at 2) (outside 1 maxChallenges) _ _ t end e b
 
-  pub count-read : (t end : ℕ) → readAt bytes at 2 ≡ value t end → outside 1 200 t ≡ false
+  pub count-read : (t end : ℕ) → readAt bytes at 2 ≡ value t end → outside 1 maxChallenges t ≡ false
       → numbers n t end ≡ countFrom bytes n at
   unfolding countFrom
-  count-read t end e b = checked-next (readAt bytes at 2) (outside 1 200) 8 (λ t at. numbers n t at) t end e b
+  count-read t end e b = checked-next (readAt bytes at 2) (outside 1 maxChallenges) 8 (λ t at. numbers n t at) t end e b
 
 module _ (bytes : List ℕ) (at : ℕ) where
   pub depth-refused : (r : ℕ) → readAt bytes at 2 ≡ refused r → notRead r ≡ depthFrom bytes at
   unfolding depthFrom
   depth-refused r e = checked-refused (readAt bytes at 2) _ _ _ r e
 
-  pub depth-bad : (n end : ℕ) → readAt bytes at 2 ≡ value n end → outside 1 40 n ≡ true → notRead 1 ≡ depthFrom bytes at
+  pub depth-bad : (n end : ℕ) → readAt bytes at 2 ≡ value n end → outside 1 maxDepth n ≡ true → notRead 1 ≡ depthFrom bytes at
   unfolding depthFrom
-  depth-bad n end e b = checked-bad (readAt bytes at 2) (outside 1 40) _ _ n end e b
+  depth-bad n end e b = checked-bad (readAt bytes at 2) (outside 1 maxDepth) _ _ n end e b
 
-  pub depth-read : (n end : ℕ) → readAt bytes at 2 ≡ value n end → outside 1 40 n ≡ false
+  pub depth-read : (n end : ℕ) → readAt bytes at 2 ≡ value n end → outside 1 maxDepth n ≡ false
       → countFrom bytes n end ≡ depthFrom bytes at
   unfolding depthFrom
-  depth-read n end e b = checked-next (readAt bytes at 2) (outside 1 40) 1 (countFrom bytes) n end e b
+  depth-read n end e b = checked-next (readAt bytes at 2) (outside 1 maxDepth) 1 (countFrom bytes) n end e b
 
 abbrev notEdition : ℕ → Bool
 notEdition e = not (eqb e 1)
@@ -104,23 +105,23 @@ two-bytes : (bytes : List ℕ) (at x end : ℕ) → ((j : ℕ) → getD bytes j 
 two-bytes bytes at x end b e = omega (arith, only-shortest bytes at 2 x end b e .ends, length-groups-le 2 x)
 
 pub record Within (n t at : ℕ) : Type 0 where
-  pub depth : (1 ≤ n) × (n ≤ 40)
-  pub count : (1 ≤ t) × (t ≤ 200)
+  pub depth : (1 ≤ n) × (n ≤ maxDepth)
+  pub count : (1 ≤ t) × (t ≤ maxChallenges)
   pub place : at ≤ 6
 
 pub head-within : (bytes : List ℕ) (n t at : ℕ) → ((j : ℕ) → getD bytes j 0 < 256) → headOf bytes ≡ numbers n t at → Within n t at
 unfolding depthFrom countFrom
 head-within bytes n t at b e =
     let first = passed (readAt bytes 0 2) notEdition 12 (λ e at. depthFrom bytes at) n t at (sym (by-steps bytes) ∙ e) in
-    let second = passed (readAt bytes (first .end) 2) (outside 1 40) 1 (λ n at. countFrom bytes n at) n t at (first .after) in
+    let second = passed (readAt bytes (first .end) 2) (outside 1 maxDepth) 1 (λ n at. countFrom bytes n at) n t at (first .after) in
     let third =
-    passed (readAt bytes (second .end) 2) (outside 1 200) 8 (λ t at. numbers (second .x) t at) n t at (second .after) in
+    passed (readAt bytes (second .end) 2) (outside 1 maxChallenges) 8 (λ t at. numbers (second .x) t at) n t at (second .after) in
     let sameDepth : second .x ≡ n = (let last = third .after in cc) in
     let sameCount : third .x ≡ t = (let last = third .after in cc) in
     let samePlace : third .end ≡ at = (let last = third .after in cc) in
     record {
-      depth = rw sameDepth at (range-of 1 40 (second .x) (second .good));
-      count = rw sameCount at (range-of 1 200 (third .x) (third .good));
+      depth = rw sameDepth at (range-of 1 maxDepth (second .x) (second .good));
+      count = rw sameCount at (range-of 1 maxChallenges (third .x) (third .good));
       place = omega (
         arith,
         samePlace,
@@ -135,8 +136,8 @@ pub head-number : (bytes : List ℕ) (r : ℕ) → headOf bytes ≡ notRead r �
 unfolding headOf
 head-number bytes r e =
     refusal-of (readAt bytes 0 2) notEdition 12 _ r (read-number bytes 0 2) (omega arith)
-    (λ x at f. refusal-of (readAt bytes at 2) (outside 1 40) 1 _ r (read-number bytes at 2) (omega arith)
-    (λ n at f. refusal-of (readAt bytes at 2) (outside 1 200) 8 _ r (read-number bytes at 2) (omega arith)
+    (λ x at f. refusal-of (readAt bytes at 2) (outside 1 maxDepth) 1 _ r (read-number bytes at 2) (omega arith)
+    (λ n at f. refusal-of (readAt bytes at 2) (outside 1 maxChallenges) 8 _ r (read-number bytes at 2) (omega arith)
     (λ t at f. not-refused f) f) f) e
   where
     not-refused : {n t at r : ℕ} → numbers n t at ≡ notRead r → 1 ≤ r
@@ -153,8 +154,8 @@ head-number bytes r e =
         cases false b = rest x end (rw b at e)
 
 -- ---- sizes
-pub openings-small : (n t : ℕ) → n ≤ 40 → t ≤ 200 → t * openingSize n ≤ 262400
-openings-small n t hn ht = omega (arith, mul-le-mul-right {m = t} {n = 200} (openingSize n) ht)
+pub openings-small : (n t : ℕ) → n ≤ maxDepth → t ≤ maxChallenges → t * openingSize n ≤ maxOpenings
+openings-small n t hn ht = omega (arith, mul-le-mul-right {m = t} {n = maxChallenges} (openingSize n) ht)
 
 pub opening-inside : (n t i : ℕ) → 1 ≤ i → i ≤ t → (i - 1) * openingSize n + openingSize n ≤ t * openingSize n
 opening-inside n t i low high = next (i - 1) (omega arith)

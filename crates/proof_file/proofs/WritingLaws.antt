@@ -8,6 +8,7 @@ use native.Mathlib.Omega.{arith}
 use borrow.Author.Tests.{lt-ltb, le-ltb}
 use lib.ListN.{length, drop, length-append}
 use lib.Seq.{take-append-seam, drop-append-add, drop-drop}
+use Rattle.base.specs.Limits.{maxDepth, maxChallenges}
 use Rattle.base.specs.Bytes.{written}
 use Rattle.refusal.specs.Row.{outside}
 use Rattle.groups.specs.Groups.{groups}
@@ -36,12 +37,12 @@ pub numbers-length : (n t : ℕ) → length (headNumbers n t) ≡ length (groups
 unfolding headNumbers
 numbers-length n t = rw (length-append, length-append)
 
-module _ (n t : ℕ) (small : n ≤ 40) where
+module _ (n t : ℕ) (small : n ≤ maxDepth) where
   pub size-three : t < 128 → lengthFrom n t 3 ≡ fileSize n t
   unfolding fileSize
   size-three h = rw (numbers-length n t, one-group 1 (omega arith), one-group n (omega arith), one-group t h)
 
-  pub size-four : 128 ≤ t → t ≤ 200 → lengthFrom n t 4 ≡ fileSize n t
+  pub size-four : 128 ≤ t → t ≤ maxChallenges → lengthFrom n t 4 ≡ fileSize n t
   unfolding fileSize
   size-four m h = rw (numbers-length n t, one-group 1 (omega arith), one-group n (omega arith), two-groups t m (omega arith))
 
@@ -92,16 +93,16 @@ abbrev Answers : List ℕ → List ℕ → ℕ → ℕ → List ℕ → ℕ → 
 Answers statement root n t out number after = (number ≡ headRow n t (length out)) × (after ≡ headWritten statement root n t out)
 
 module _ (statement root : List ℕ) (n t : ℕ) (out : List ℕ) where
-  pub depth-refused : outside 1 40 n ≡ true → Answers statement root n t out 1 out
+  pub depth-refused : outside 1 maxDepth n ≡ true → Answers statement root n t out 1 out
   unfolding headRow headWritten
   depth-refused d = (rw d, rw d)
 
-  module _ (d : outside 1 40 n ≡ false) where
-    pub count-refused : outside 1 200 t ≡ true → Answers statement root n t out 8 out
+  module _ (d : outside 1 maxDepth n ≡ false) where
+    pub count-refused : outside 1 maxChallenges t ≡ true → Answers statement root n t out 8 out
     unfolding headRow headWritten
     count-refused c = (rw (d, c), rw (d, c))
 
-    module _ (c : outside 1 200 t ≡ false) (size : ℕ) (is : size ≡ fileSize n t) where
+    module _ (c : outside 1 maxChallenges t ≡ false) (size : ℕ) (is : size ≡ fileSize n t) where
       pub short-refused : length out < size → Answers statement root n t out 7 out
       unfolding headRow headWritten
       short-refused h =

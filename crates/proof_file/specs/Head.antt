@@ -5,14 +5,14 @@ use mathlib.Core.List.{List, []}
 use lib.Dec.{eqb}
 use lib.ListN.{length, take, drop}
 use Rattle.base.specs.Choice.{pick, both}
-use Rattle.base.specs.Limits.{maxDepth, maxChallenges}
+use Rattle.base.specs.Limits.{maxDepth, maxChallenges, edition}
 use Rattle.refusal.specs.Number.{numberOf}
 use Rattle.refusal.specs.Row.{outside}
 use Rattle.groups.specs.Reading.{Answer, value, refused, readAt}
 use Rattle.opening.specs.Rows.{openingSize}
 use Rattle.proof_file.specs.declared.HeadNumbers.{HeadNumbers}
 use Rattle.proof_file.specs.declared.HeadNumbers.the-variants.{Numbers, NotRead}
-use Rattle.proof_file.specs.Layout.{edition, numberGroups, openingFrom}
+use Rattle.proof_file.specs.Layout.{numberGroups, openingFrom}
 
 -- what reading a head answers: depth, count and the place after its numbers, or document 01's number of the refusal
 pub data HeadAnswer : Type 0 where

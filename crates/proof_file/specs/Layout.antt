@@ -5,13 +5,10 @@ use lib.Dec.{ltb}
 use lib.ListN.{length}
 use Rattle.base.specs.Choice.{pick}
 use Rattle.base.specs.Bytes.{joined, written}
-use Rattle.base.specs.Limits.{maxDepth, maxChallenges}
+use Rattle.base.specs.Limits.{maxDepth, maxChallenges, edition}
 use Rattle.refusal.specs.Row.{firstOf, outside, isDone}
 use Rattle.groups.specs.Groups.{groups}
 use Rattle.opening.specs.Rows.{openingSize}
-
-abbrev pub edition : ℕ
-edition = 1
 
 -- a number of the file: at most two groups
 abbrev pub numberGroups : ℕ

@@ -2,9 +2,12 @@
 ghost use mathlib.Core.Path.{_≡_};
 ghost use Prim.Native.Nat.{_<_, _≤_};
 ghost use lib.ListN.{take};
+ghost use Rattle.base.specs.Limits.{maxDepth};
 ghost use Rattle.refusal.specs.Number.{outcomeNumber};
 ghost use Rattle.sha256.specs.Digest.{digest};
 ghost use Rattle.proof_file.specs.Challenge.{challengeInput, bigEndianValue, challengeLeaf, challengeRow, challenged};
+use base::MAX_CHALLENGES;
+use base::MAX_DEPTH;
 use base::big_endian;
 use base::put;
 use opening_check::beyond;
@@ -53,7 +56,7 @@ fn first_word(bytes: [u8; 32]) -> u64
 
 // The leaf of challenge i at a depth that its callers know.
 pub fn challenge_leaf(depth: u64, statement: [u8; 32], root: [u8; 32], i: u64) -> u64
-    requires { ⌜ (1 ≤ depth) × (depth ≤ 40) ⌝ }
+    requires { ⌜ (1 ≤ depth) × (depth ≤ maxDepth) ⌝ }
     ensures { λ r. ⌜ r ≡ challengeLeaf depth statement root i ⌝ }
 {
     let bytes = challenge_hash(statement, root, i);
@@ -65,13 +68,13 @@ pub fn challenge(depth: u64, statement: [u8; 32], root: [u8; 32], i: u64) -> Cha
     ensures { λ r. ⌜ outcomeNumber (r .outcome) ≡ challengeRow depth i ⌝ }
     ensures { λ r. ⌜ r .leaf ≡ challenged depth statement root i ⌝ }
 {
-    if beyond(40, depth) {
+    if beyond(MAX_DEPTH, depth) {
         return Challenged {
             outcome: Outcome::Refused(Refusal::Depth),
             leaf: 0,
         };
     }
-    if beyond(200, i) {
+    if beyond(MAX_CHALLENGES, i) {
         return Challenged {
             outcome: Outcome::Refused(Refusal::Count),
             leaf: 0,

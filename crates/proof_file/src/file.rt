@@ -2,6 +2,7 @@
 ghost use mathlib.Core.Path.{_≡_};
 ghost use Prim.Native.Nat.{_+_, _≤_};
 ghost use lib.ListN.{length};
+ghost use Rattle.base.specs.Limits.{maxDepth, maxChallenges};
 ghost use Rattle.refusal.specs.Number.{codeOf};
 ghost use Rattle.proof_file.specs.Head.{numbers, lengthFrom, statementAt};
 ghost use Rattle.proof_file.specs.FileCheck.{openingsFrom, wanted, fileRest, fileCheck};
@@ -19,7 +20,7 @@ use refusal::Refusal;
 
 // Each opening in challenge order: 14, 15 with its number.
 fn check_openings(bytes: &[u8], statement: [u8; 32], n: u64, t: u64, at: usize) -> Check
-    requires { ⌜ (1 ≤ n) × (n ≤ 40) × (t ≤ 200) × (at ≤ 6) ⌝ }
+    requires { ⌜ (1 ≤ n) × (n ≤ maxDepth) × (t ≤ maxChallenges) × (at ≤ 6) ⌝ }
     requires { ⌜ (length (now bytes) ≡ lengthFrom n t at) × (statement ≡ statementAt (now bytes) at) ⌝ }
     ensures { λ r. ⌜ codeOf r ≡ openingsFrom (now (bytes .entry)) n at 1 t ⌝ }
 {
@@ -72,7 +73,7 @@ fn check_rest(
     t: u64,
     at: usize,
 ) -> Check
-    requires { ⌜ (1 ≤ n) × (n ≤ 40) × (t ≤ 200) × (at ≤ 6) ⌝ }
+    requires { ⌜ (1 ≤ n) × (n ≤ maxDepth) × (t ≤ maxChallenges) × (at ≤ 6) ⌝ }
     ensures { λ r. ⌜ codeOf r ≡ fileRest (now (bytes .entry)) statement depth count (numbers n t at) ⌝ }
 {
     let size = file_length(n, t, at);

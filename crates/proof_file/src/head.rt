@@ -3,6 +3,9 @@ ghost use mathlib.Core.Path.{_≡_};
 ghost use Rattle.proof_file.specs.Head.{headAnswer, headOf};
 ghost use Rattle.proof_file.specs.HeadSteps.{countFrom, depthFrom};
 use crate::HeadNumbers;
+use base::EDITION;
+use base::MAX_CHALLENGES;
+use base::MAX_DEPTH;
 use groups::Cursor;
 use groups::Number;
 use opening_check::beyond;
@@ -16,7 +19,7 @@ fn read_count(bytes: &[u8], n: u64, from: Cursor) -> HeadNumbers
     match number {
         Number::Refused(r) => HeadNumbers::NotRead(r),
         Number::Value(t, next) => {
-            if beyond(200, t) {
+            if beyond(MAX_CHALLENGES, t) {
                 return HeadNumbers::NotRead(Refusal::Count);
             }
             HeadNumbers::Numbers(n, t, next)
@@ -32,7 +35,7 @@ fn read_depth(bytes: &[u8], from: Cursor) -> HeadNumbers
     match number {
         Number::Refused(r) => HeadNumbers::NotRead(r),
         Number::Value(n, next) => {
-            if beyond(40, n) {
+            if beyond(MAX_DEPTH, n) {
                 return HeadNumbers::NotRead(Refusal::Depth);
             }
             read_count(bytes, n, next)
@@ -48,7 +51,7 @@ pub fn read_head(bytes: &[u8]) -> HeadNumbers
     match number {
         Number::Refused(r) => HeadNumbers::NotRead(r),
         Number::Value(edition, next) => {
-            if edition == 1 {
+            if edition == EDITION {
                 return read_depth(bytes, next);
             }
             HeadNumbers::NotRead(Refusal::Edition)

@@ -1,6 +1,7 @@
 // Document 01, 'Challenges and the file': where an opening lies in the caller's bytes, and that part of them.
 ghost use mathlib.Core.Path.{_≡_};
 ghost use Prim.Native.Nat.{_+_, _≤_};
+ghost use Rattle.base.specs.Limits.{maxDepth, maxChallenges};
 ghost use Rattle.base.specs.Choice.{pick};
 ghost use Rattle.opening.specs.Rows.{openingSize};
 ghost use Rattle.proof_file.specs.Layout.{openingFrom};
@@ -20,7 +21,7 @@ pub struct Place {
 
 // Where opening i lies in bytes whose numbers end at a place.
 fn place_at(bytes: &[u8], n: u64, t: u64, at: usize, i: u64) -> Place
-    requires { ⌜ (n ≤ 40) × (t ≤ 200) × (at ≤ 6) ⌝ }
+    requires { ⌜ (n ≤ maxDepth) × (t ≤ maxChallenges) × (at ≤ 6) ⌝ }
     ensures { λ r. ⌜ r .offset ≡ pick (hasOpening (now (bytes .entry)) n t at i) (openingFrom n (at + 64) i) 0 ⌝ }
     ensures { λ r. ⌜ r .length ≡ pick (hasOpening (now (bytes .entry)) n t at i) (openingSize n) 0 ⌝ }
 {

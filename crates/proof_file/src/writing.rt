@@ -2,11 +2,14 @@
 ghost use mathlib.Core.Path.{_≡_};
 ghost use Prim.Native.Nat.{_+_, _<_, _≤_};
 ghost use lib.ListN.{length};
+ghost use Rattle.base.specs.Limits.{maxDepth, maxChallenges};
 ghost use Rattle.base.specs.Bytes.{written};
 ghost use Rattle.refusal.specs.Number.{outcomeNumber};
 ghost use Rattle.groups.specs.Groups.{groups};
 ghost use Rattle.proof_file.specs.Layout.{headNumbers, head, headSize, fileSize, headRow, headWritten};
 use crate::sizes::file_length;
+use base::MAX_CHALLENGES;
+use base::MAX_DEPTH;
 use base::put;
 use opening_check::beyond;
 use refusal::Outcome;
@@ -14,7 +17,7 @@ use refusal::Refusal;
 
 // The length of the whole file: edition and depth take a byte each, the count one or two.
 pub fn file_size(n: u64, t: u64) -> usize
-    requires { ⌜ (n ≤ 40) × (t ≤ 200) ⌝ }
+    requires { ⌜ (n ≤ maxDepth) × (t ≤ maxChallenges) ⌝ }
     ensures { λ r. ⌜ r ≡ fileSize n t ⌝ }
 {
     if t < 128 {
@@ -35,7 +38,7 @@ fn put_number(x: u64, out: &mut [u8], at: usize) -> usize
 
 // Writes the three numbers over the front of `out`. Where they end.
 fn put_numbers(n: u64, t: u64, out: &mut [u8]) -> usize
-    requires { ⌜ (n ≤ 40) × (t ≤ 200) × (length (headNumbers n t) ≤ length (now out)) ⌝ }
+    requires { ⌜ (n ≤ maxDepth) × (t ≤ maxChallenges) × (length (headNumbers n t) ≤ length (now out)) ⌝ }
     ensures { λ r. ⌜ r ≡ length (headNumbers n t) ⌝ }
     ensures { λ _. ⌜ now (out .exit) ≡ written (now (out .entry)) 0 (headNumbers n t) ⌝ }
 {
@@ -46,7 +49,7 @@ fn put_numbers(n: u64, t: u64, out: &mut [u8]) -> usize
 
 // Writes the head over the front of `out`. Its callers know that it fits.
 fn put_head(statement: [u8; 32], root: [u8; 32], n: u64, t: u64, out: &mut [u8])
-    requires { ⌜ (n ≤ 40) × (t ≤ 200) × (headSize n t ≤ length (now out)) ⌝ }
+    requires { ⌜ (n ≤ maxDepth) × (t ≤ maxChallenges) × (headSize n t ≤ length (now out)) ⌝ }
     ensures { λ _. ⌜ now (out .exit) ≡ written (now (out .entry)) 0 (head statement root n t) ⌝ }
 {
     let at = put_numbers(n, t, out);
@@ -65,10 +68,10 @@ pub fn write_head(
     ensures { λ r. ⌜ outcomeNumber r ≡ headRow depth count (length (now (out .entry))) ⌝ }
     ensures { λ _. ⌜ now (out .exit) ≡ headWritten statement root depth count (now (out .entry)) ⌝ }
 {
-    if beyond(40, depth) {
+    if beyond(MAX_DEPTH, depth) {
         return Outcome::Refused(Refusal::Depth);
     }
-    if beyond(200, count) {
+    if beyond(MAX_CHALLENGES, count) {
         return Outcome::Refused(Refusal::Count);
     }
     if out.len() < file_size(depth, count) {

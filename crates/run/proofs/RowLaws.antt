@@ -28,31 +28,31 @@ not-leb a b = by (leb a b) refl
 pub no-depth : (n : ℕ) → n < 1 → true ≡ outside 1 maxDepth n
 no-depth n h = rw (lt-leb 1 n h)
 
-pub great-depth : (n : ℕ) → 1 ≤ n → ltb 40 n ≡ outside 1 maxDepth n
-great-depth n h = rw (le-leb 1 n h) (not-leb n 40)
+pub great-depth : (n : ℕ) → 1 ≤ n → ltb maxDepth n ≡ outside 1 maxDepth n
+great-depth n h = rw (le-leb 1 n h) (not-leb n maxDepth)
 
 pub depth-some : (n : ℕ) → outside 1 maxDepth n ≡ false → 1 ≤ n
-depth-some n e = leb-true 1 n (both-first (leb 1 n) (leb n 40) (not-false _ e))
+depth-some n e = leb-true 1 n (both-first (leb 1 n) (leb n maxDepth) (not-false _ e))
 
-pub depth-inside : (n : ℕ) → outside 1 maxDepth n ≡ false → n ≤ 40
-depth-inside n e = leb-true n 40 (both-second (leb 1 n) (leb n 40) (not-false _ e))
+pub depth-inside : (n : ℕ) → outside 1 maxDepth n ≡ false → n ≤ maxDepth
+depth-inside n e = leb-true n maxDepth (both-second (leb 1 n) (leb n maxDepth) (not-false _ e))
 
 -- m over min(n, 20)
 pub over-depth : (n m : ℕ) → n < m → true ≡ memoryOver n m
-over-depth n m h = sym (lt-ltb (min n 20) m (omega arith))
+over-depth n m h = sym (lt-ltb (min n maxMemory) m (omega arith))
 
-pub over-memory : (n m : ℕ) → m ≤ n → ltb 20 m ≡ memoryOver n m
-over-memory n m h = by (ltb 20 m) refl
+pub over-memory : (n m : ℕ) → m ≤ n → ltb maxMemory m ≡ memoryOver n m
+over-memory n m h = by (ltb maxMemory m) refl
   where
-    by : (t : Bool) → ltb 20 m ≡ t → t ≡ memoryOver n m
-    by true e = sym (lt-ltb (min n 20) m (omega (arith, ltb-true 20 m e)))
-    by false e = sym (le-ltb (min n 20) m (omega (arith, ltb-false 20 m e)))
+    by : (t : Bool) → ltb maxMemory m ≡ t → t ≡ memoryOver n m
+    by true e = sym (lt-ltb (min n maxMemory) m (omega (arith, ltb-true maxMemory m e)))
+    by false e = sym (le-ltb (min n maxMemory) m (omega (arith, ltb-false maxMemory m e)))
 
 pub memory-below : (n m : ℕ) → memoryOver n m ≡ false → m ≤ n
-memory-below n m e = omega (arith, ltb-false (min n 20) m e)
+memory-below n m e = omega (arith, ltb-false (min n maxMemory) m e)
 
-pub memory-inside : (n m : ℕ) → memoryOver n m ≡ false → m ≤ 20
-memory-inside n m e = omega (arith, ltb-false (min n 20) m e)
+pub memory-inside : (n m : ℕ) → memoryOver n m ≡ false → m ≤ maxMemory
+memory-inside n m e = omega (arith, ltb-false (min n maxMemory) m e)
 
 -- neither holds
 pub neither : (a b : Bool) → either a b ≡ false → (a ≡ false) × (b ≡ false)
@@ -61,8 +61,8 @@ neither false b e = (refl, e)
 
 -- a run that can be
 pub record Possible (n m made : ℕ) : Type 0 where
-  pub depth : n ≤ 40
-  pub memory : m ≤ 20
+  pub depth : n ≤ maxDepth
+  pub memory : m ≤ maxMemory
   pub made-few : made ≤ nodesIn n
 
 pub possible : (n m made : ℕ) → impossible n m made (nodesIn n) ≡ false → Possible n m made

@@ -7,6 +7,7 @@ use native.Mathlib.Numerals.{add-one}
 use native.Mathlib.Omega.{arith}
 use borrow.Author.Tests.{le-leb, lt-leb}
 use lib.Pow.{pow-pos, pow-mono}
+use Rattle.base.specs.Limits.{maxDepth}
 use Rattle.base.specs.Bytes.{written}
 use Rattle.tree.specs.Nodes.{Node, node, root, InTree, labellingOrder}
 use Rattle.tree.specs.Walk.{nodesIn}
@@ -16,18 +17,18 @@ use Rattle.label.proofs.Walking.{full}
 use Rattle.run.specs.Steps.{Stamped, runOf, stamped, stored, stepped, steps}
 
 -- the number of nodes, as it is computed
-pub nodes-full : (n : ℕ) → n ≤ 40 → 2 * ((1 * 2 ^ n) % 2 ^ 64) - 1 ≡ nodesIn n
+pub nodes-full : (n : ℕ) → n ≤ maxDepth → 2 * ((1 * 2 ^ n) % 2 ^ 64) - 1 ≡ nodesIn n
 nodes-full n small = omega (arith, full n small, nodesIn-suc n)
 
-pub small-nodes : (n : ℕ) → n ≤ 40 → nodesIn n < 2 ^ 42
-small-nodes n small = omega (arith, nodesIn-suc n, pow-mono {i = n} {j = 40} small)
+pub small-nodes : (n : ℕ) → n ≤ maxDepth → nodesIn n < 2 ^ (maxDepth + 2)
+small-nodes n small = omega (arith, nodesIn-suc n, pow-mono {i = n} {j = maxDepth} small)
 
 pub next-in-tree : (n k l p : ℕ) → k < nodesIn n → node l p ≡ nextNode n root k → InTree n (node l p)
 unfolding labellingOrder
 next-in-tree n k l p few is = subst (λ (w : Node). InTree n w) (sym is) (tree-at n k few)
 
 module _ (m : ℕ) (store : List ℕ) (l p : ℕ) (label : List ℕ) where
-  pub kept : l ≤ 40 → l ≤ m → written store (32 * ((1 * 2 ^ l) % 2 ^ 64 - 1 + p)) label ≡ stored m store (node l p) label
+  pub kept : l ≤ maxDepth → l ≤ m → written store (32 * ((1 * 2 ^ l) % 2 ^ 64 - 1 + p)) label ≡ stored m store (node l p) label
   kept small low = rw (full l small, le-leb l m low)
 
   pub not-kept : m < l → store ≡ stored m store (node l p) label

@@ -3,6 +3,7 @@ use Prim.Native.Nat.{ℕ, zero, suc, _+_, _-_, min}
 use mathlib.Core.List.{List, []}
 use lib.Dec.{leb}
 use lib.ListN.{length}
+use Rattle.base.specs.Limits.{heldSize}
 use Rattle.base.specs.Choice.{pick}
 use Rattle.base.specs.Bytes.{zeros, written}
 use Rattle.refusal.specs.Row.{isDone}
@@ -13,10 +14,6 @@ use Rattle.tree.specs.Store.{slot}
 use Rattle.label.specs.Step.{nextNode, nextLabel, heldWith}
 use Rattle.run.specs.declared.Run.{Run}
 use Rattle.run.specs.Rows.{startRow, continueRow}
-
--- the bytes of held labels in a run: 41 places of 32
-abbrev pub heldSize : ℕ
-heldSize = 1312
 
 -- a run by its fields
 abbrev pub runOf : List ℕ → ℕ → ℕ → ℕ → List ℕ → Run

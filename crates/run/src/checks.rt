@@ -2,19 +2,21 @@
 ghost use mathlib.Core.Path.{_≡_};
 ghost use Prim.Native.Nat.{_≤_};
 ghost use lib.Dec.{ltb};
-ghost use Rattle.base.specs.Limits.{maxDepth};
+ghost use Rattle.base.specs.Limits.{maxDepth, maxMemory};
 ghost use Rattle.refusal.specs.Number.{outcomeNumber};
 ghost use Rattle.refusal.specs.Row.{outside};
 ghost use Rattle.tree.specs.Walk.{nodesIn};
 ghost use Rattle.tree.specs.Store.{storeSize};
 ghost use Rattle.run.specs.Rows.{memoryOver, impossible, startRow, continueRow};
 use crate::Run;
+use base::MAX_DEPTH;
+use base::MAX_MEMORY;
 use refusal::Outcome;
 use refusal::Refusal;
 
 // The number of nodes of a tree.
 pub fn nodes(depth: u64) -> u64
-    requires { ⌜ depth ≤ 40 ⌝ }
+    requires { ⌜ depth ≤ maxDepth ⌝ }
     ensures { λ r. ⌜ r ≡ nodesIn depth ⌝ }
 {
     2 * (1u64 << depth) - 1
@@ -26,7 +28,7 @@ pub fn depth_outside(depth: u64) -> bool
     if depth < 1 {
         return true;
     }
-    40 < depth
+    MAX_DEPTH < depth
 }
 
 pub fn memory_over(depth: u64, memory: u64) -> bool
@@ -35,11 +37,11 @@ pub fn memory_over(depth: u64, memory: u64) -> bool
     if depth < memory {
         return true;
     }
-    20 < memory
+    MAX_MEMORY < memory
 }
 
 pub fn store_short(memory: u64, store: usize) -> bool
-    requires { ⌜ memory ≤ 20 ⌝ }
+    requires { ⌜ memory ≤ maxMemory ⌝ }
     ensures { λ r. ⌜ r ≡ ltb store (storeSize memory) ⌝ }
 {
     let size = 32 * nodes(memory);

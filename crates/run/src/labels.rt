@@ -2,6 +2,7 @@
 ghost use mathlib.Core.Path.{_≡_};
 ghost use Prim.Native.Nat.{_+_, _^_, _<_, _≤_};
 ghost use lib.ListN.{length};
+ghost use Rattle.base.specs.Limits.{maxDepth, heldSize};
 ghost use Rattle.tree.specs.Nodes.{node};
 ghost use Rattle.tree.specs.Walk.{nodesIn};
 ghost use Rattle.tree.specs.Store.{storeSize};
@@ -13,7 +14,7 @@ use label::label_next;
 
 // Writes a label of levels 0 to m to its slot.
 fn keep(store: &mut [u8], memory: u64, w: Labelled)
-    requires { ⌜ (w .level ≤ 40) × (w .position < 2 ^ (w .level)) × (storeSize memory ≤ length (now store)) ⌝ }
+    requires { ⌜ (w .level ≤ maxDepth) × (w .position < 2 ^ (w .level)) × (storeSize memory ≤ length (now store)) ⌝ }
     ensures { λ _. ⌜ now (store .exit) ≡ stored memory (now (store .entry)) (node (w .level) (w .position)) (w .label) ⌝ }
 {
     if w.level <= memory {
@@ -32,7 +33,7 @@ fn label_one(
     held: &mut [u8],
     store: &mut [u8],
 )
-    requires { ⌜ (depth ≤ 40) × (made < nodesIn depth) × (length (now held) ≡ 1312) × (storeSize memory ≤ length (now store)) ⌝ }
+    requires { ⌜ (depth ≤ maxDepth) × (made < nodesIn depth) × (length (now held) ≡ heldSize) × (storeSize memory ≤ length (now store)) ⌝ }
     ensures { λ _. ⌜ now (held .exit) ≡ stepped (stamped (runOf statement depth memory made (now (held .entry))) (now (store .entry))) .run .held ⌝ }
     ensures { λ _. ⌜ now (store .exit) ≡ stepped (stamped (runOf statement depth memory made (now (held .entry))) (now (store .entry))) .store ⌝ }
 {
@@ -42,7 +43,7 @@ fn label_one(
 
 // As many steps as are asked for. The run's fields are taken apart once and put together at the end.
 pub fn label_many(run: Run, count: u64, store: &mut [u8]) -> Run
-    requires { ⌜ (run .depth ≤ 40) × (run .made + count ≤ nodesIn (run .depth)) × (storeSize (run .memory) ≤ length (now store)) ⌝ }
+    requires { ⌜ (run .depth ≤ maxDepth) × (run .made + count ≤ nodesIn (run .depth)) × (storeSize (run .memory) ≤ length (now store)) ⌝ }
     ensures { λ r. ⌜ r ≡ steps count (stamped run (now (store .entry))) .run ⌝ }
     ensures { λ r. ⌜ now (store .exit) ≡ steps count (stamped run (now (store .entry))) .store ⌝ }
 {

@@ -8,6 +8,7 @@ ghost use Rattle.refusal.specs.Number.{outcomeNumber};
 ghost use Rattle.run.specs.Rows.{startRow, continueRow};
 ghost use Prim.Native.Nat.{min};
 ghost use Rattle.run.specs.Steps.{newRun, started, stamped, labelsIn, advanced};
+use base::HELD_SIZE;
 pub use checks::depth_outside;
 use checks::may_continue;
 use checks::may_start;
@@ -24,7 +25,7 @@ pub struct Run {
     pub depth: u64,
     pub memory: u64,
     pub made: u64,
-    pub held: [u8; 1312],
+    pub held: [u8; HELD_SIZE],
 }
 
 // A refused start's run is all zero.
@@ -49,7 +50,7 @@ pub fn smaller(x: u64, y: u64) -> u64
 fn new_run(statement: [u8; 32], depth: u64, memory: u64) -> Run
     ensures { λ r. ⌜ r ≡ newRun statement depth memory ⌝ }
 {
-    let held = [0u8; 1312];
+    let held = [0u8; HELD_SIZE];
     Run {
         statement,
         depth,

@@ -32,8 +32,8 @@ module _ (n m leaf store out : ℕ) where
   open-fits fits =
       rw (
         le-leb 1 n (fits .depth .0),
-        le-leb n 40 (fits .depth .1),
-        le-ltb (min n 20) m (fits .memory),
+        le-leb n maxDepth (fits .depth .1),
+        le-ltb (min n maxMemory) m (fits .memory),
         le-ltb store (storeSize m) (fits .storeFits),
         lt-leb (2 ^ n) leaf (fits .position),
         le-ltb out (openingSize n) (fits .outFits),
@@ -68,8 +68,8 @@ module _ (o : Opening) (store out : ℕ) where
   reopen-fits fits few =
       rw (
         le-leb 1 (o .depth) (fits .depth .0),
-        le-leb (o .depth) 40 (fits .depth .1),
-        le-ltb (min (o .depth) 20) (o .memory) (fits .memory),
+        le-leb (o .depth) maxDepth (fits .depth .1),
+        le-ltb (min (o .depth) maxMemory) (o .memory) (fits .memory),
         le-ltb (nodesAnew (o .depth) (o .memory)) (o .made) few,
         lt-leb (2 ^ (o .depth)) (o .leaf) (fits .position),
         le-ltb store (storeSize (o .memory)) (fits .storeFits),

@@ -12,6 +12,7 @@ use lib.ListN.{length, take, drop, getD, length-map}
 use lib.Seq.{take-suc}
 use lib.Pow.{shr-lt}
 use borrow.Author.Tests.{eqb-true}
+use Rattle.base.specs.Limits.{maxDepth}
 use Rattle.base.specs.Choice.{pick}
 use Rattle.base.specs.Bytes.{joined}
 use Rattle.tree.specs.Nodes.{Node, node, root, orderBelow, leftSiblings}
@@ -88,7 +89,7 @@ out-step statement n m leaf k out w small e =
 
 module _
     (statement : List ℕ) (n m leaf : ℕ) (store out : List ℕ) (holds : HoldsLabels statement n m store)
-    (shallow : n ≤ 40) (le : m ≤ n) (inside : leaf < 2 ^ n) where
+    (shallow : n ≤ maxDepth) (le : m ≤ n) (inside : leaf < 2 ^ n) where
   pub opening-step :
       (k : ℕ) → k < nodesAnew n m
       → stepped store (openAfter statement n m leaf k out) ≡ openAfter statement n m leaf (k + 1) out

@@ -7,6 +7,7 @@ use native.Mathlib.Omega.{arith}
 use mathlib.Core.Bool.{Bool, true, false}
 use mathlib.Core.List.{List, [], _∷_, _++_}
 use lib.ListN.{length, take, drop}
+use Rattle.base.specs.Limits.{maxDepth, heldSize}
 use Rattle.base.specs.Choice.{pick}
 use Rattle.base.specs.Bytes.{zeros, joined}
 use Rattle.refusal.specs.Row.{isDone}
@@ -15,7 +16,7 @@ use Rattle.tree.specs.Walk.{nodesIn}
 use Rattle.tree.specs.Store.{slot}
 use Rattle.label.specs.Step.{nextNode, nextLabel}
 use Rattle.run.specs.Rows.{continueRow}
-use Rattle.run.specs.Steps.{heldSize, Stamped, stepped, steps, labelsIn, advanced}
+use Rattle.run.specs.Steps.{Stamped, stepped, steps, labelsIn, advanced}
 use Rattle.run_theory.specs.Reached.{labelOf, heldBytes, storeAfter, runAfter}
 use Rattle.run_theory.specs.Calls.{total}
 use Rattle.run_theory.specs.Runs.{Startable, atStart, reachedAt, called, reported}
@@ -51,7 +52,7 @@ cut : (b t k all : ℕ) → min b (all - k) + min t (all - (k + min b (all - k))
 cut b t k all = rw (sub-add-eq all k (min b (all - k))) (cut-two b t (all - k))
 
 -- ---- the state after k labels
-module _ (statement : List ℕ) (n m : ℕ) (store : List ℕ) (shallow : n ≤ 40) where
+module _ (statement : List ℕ) (n m : ℕ) (store : List ℕ) (shallow : n ≤ maxDepth) where
   next-root :
       (k : ℕ) → k < nodesIn n
       → nextLabel statement n root [] (heldBytes statement n n root k) k ≡ labelOf statement n (nextNode n root k)

@@ -5,6 +5,7 @@ use mathlib.Core.Bool.{Bool}
 use mathlib.Core.List.{List, [], _∷_}
 use lib.Dec.{ltb, leb}
 use borrow.Author.Tests.{leb-true, le-leb, ltb-false, le-ltb, not-false}
+use Rattle.base.specs.Limits.{maxDepth, maxMemory}
 use Rattle.base.specs.Choice.{pick}
 use Rattle.base.proofs.ChoiceLaws.{both-first, both-second}
 use Rattle.refusal.specs.Row.{outside, isDone}
@@ -21,17 +22,17 @@ module _ (n m size : ℕ) where
   unfolding startRow
   start-done s =
       rw
-      (le-leb 1 n (s .positive), le-leb n 40 (s .shallow), le-ltb (min n 20) m (s .memory), le-ltb size (storeSize m) (s .enough))
+      (le-leb 1 n (s .positive), le-leb n maxDepth (s .shallow), le-ltb (min n maxMemory) m (s .memory), le-ltb size (storeSize m) (s .enough))
 
   pub start-bounds : startRow n m size ≡ 0 → Startable n m size
   unfolding startRow
   start-bounds e =
-      let row : List (Bool × ℕ) = (outside 1 40 n, 1) ∷ (memoryOver n m, 2) ∷ (ltb size (storeSize m), 3) ∷ [] in
+      let row : List (Bool × ℕ) = (outside 1 maxDepth n, 1) ∷ (memoryOver n m, 2) ∷ (ltb size (storeSize m), 3) ∷ [] in
       let none : NoneHolds row = none-holds row refl e in
       record {
-        positive = leb-true 1 n (both-first (leb 1 n) (leb n 40) (not-false _ (none .0)));
-        shallow = leb-true n 40 (both-second (leb 1 n) (leb n 40) (not-false _ (none .0)));
-        memory = ltb-false (min n 20) m (none .1 .0);
+        positive = leb-true 1 n (both-first (leb 1 n) (leb n maxDepth) (not-false _ (none .0)));
+        shallow = leb-true n maxDepth (both-second (leb 1 n) (leb n maxDepth) (not-false _ (none .0)));
+        memory = ltb-false (min n maxMemory) m (none .1 .0);
         enough = ltb-false size (storeSize m) (none .1 .1 .0);
       }
 
@@ -45,8 +46,8 @@ module _ (n m size : ℕ) where
   continue-done statement k s small =
       rw (
         le-leb 1 n (s .positive),
-        le-leb n 40 (s .shallow),
-        le-ltb (min n 20) m (s .memory),
+        le-leb n maxDepth (s .shallow),
+        le-ltb (min n maxMemory) m (s .memory),
         le-ltb (nodesIn n) k small,
         le-ltb size (storeSize m) (s .enough),
       )

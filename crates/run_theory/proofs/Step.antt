@@ -8,6 +8,7 @@ use mathlib.Core.List.{List, [], _∷_, _++_, append-assoc, append-nil, map, map
 use lib.ListN.{length, take, drop, length-append, length-map, length-replicate}
 use lib.Seq.{take-at, drop-at}
 use borrow.Author.Tests.{eqb-true, eqb-false}
+use Rattle.base.specs.Limits.{maxDepth, heldSize}
 use Rattle.base.specs.Bytes.{zeros, joined, written}
 use Rattle.base.specs.Choice.{pick}
 use Rattle.base.specs.Lists.{EachOf}
@@ -28,7 +29,6 @@ use Rattle.tree.proofs.HeldLaws.{heldBelow-before, heldBelow-after, heldBelow-f
 use Rattle.label.proofs.RuleLaws.{digest-length, stamp-hash}
 use Rattle.label.specs.Rule.{stampRule}
 use Rattle.label.specs.Step.{nextNode, placeOf, isLeaf, hashedLabels, nextLabel, heldWith}
-use Rattle.run.specs.Steps.{heldSize}
 use Rattle.run_theory.specs.Reached.{labelOf, labelsOf, heldBytes}
 
 below-size : (statement : List ℕ) (h : ℕ) (w : Node) (aboves : List Label) → length (labelBelow (stampRule statement) h w aboves) ≡ 32
@@ -68,7 +68,7 @@ module _ (statement : List ℕ) (n : ℕ) where
 
   -- The next node w of the subtree of height h at v, when k labels are made.
   module _
-      (h k : ℕ) (v w : Node) (deep : v .level + h ≡ n) (shallow : n ≤ 40) (small : k < nodesIn h)
+      (h k : ℕ) (v w : Node) (deep : v .level + h ≡ n) (shallow : n ≤ maxDepth) (small : k < nodesIn h)
       (here : nextNode h v k ≡ w)
     where
       -- the left siblings on its way whose labels are held
@@ -151,7 +151,7 @@ module _ (statement : List ℕ) (n : ℕ) where
       label-here = rw next-hashed (sym (label-parents (stampRule statement) n w level-le))
 
       -- the new label at its place: a leaf's over zeros, an inner node's over its children's
-      few-after : length beside + 1 ≤ 41
+      few-after : length beside + 1 ≤ maxDepth + 1
       few-after =
           let a : length (heldBelow h v (k + 1)) ≤ h + 1 = heldBelow-few h (k + 1) v (omega arith) in
           omega (arith, rw (after, length-append) at a)
@@ -172,7 +172,7 @@ module _ (statement : List ℕ) (n : ℕ) where
           (written-over (labelsOf statement n beside) (zeros 32) (zeros (c - 32)) (labelOf statement n w) (32 * placeOf v w)
           place-beside (sym (label-size w)))
 
-      few-before : w .level < n → length beside + 2 ≤ 41
+      few-before : w .level < n → length beside + 2 ≤ maxDepth + 1
       few-before inner =
           let a : length (heldBelow h v k) ≤ h + 1 = heldBelow-few h k v (omega arith) in
           omega (arith, rw (before-inner inner, length-append) at a)
@@ -199,7 +199,7 @@ module _ (statement : List ℕ) (n : ℕ) where
       held-here = by-kind _ _ _ held-leaf held-inner
 
   -- The shared step.
-  module _ (h k : ℕ) (v : Node) (deep : v .level + h ≡ n) (shallow : n ≤ 40) (small : k < nodesIn h) where
+  module _ (h k : ℕ) (v : Node) (deep : v .level + h ≡ n) (shallow : n ≤ maxDepth) (small : k < nodesIn h) where
     pub next-label :
         nextLabel statement h v (labelsOf statement n (leftSiblings (v .level) (v .position))) (heldBytes statement n h v k) k
         ≡ labelOf statement n (nextNode h v k)
@@ -212,7 +212,7 @@ module _ (statement : List ℕ) (n : ℕ) where
     next-held = held-here h k v (nextNode h v k) deep shallow small refl
 
   -- what is held fits its 41 places
-  pub held-length : (h k : ℕ) (v : Node) → h ≤ 40 → k ≤ nodesIn h → length (heldBytes statement n h v k) ≡ heldSize
+  pub held-length : (h k : ℕ) (v : Node) → h ≤ maxDepth → k ≤ nodesIn h → length (heldBytes statement n h v k) ≡ heldSize
   unfolding heldBytes
   held-length h k v shallow small =
       rw (labels-length (heldBelow h v k), length-append, labels-length (heldBelow h v k), length-replicate)

@@ -2,13 +2,14 @@
 use Prim.Native.Nat.{ℕ, _-_}
 use mathlib.Core.List.{List, [], _∷_, _++_, map}
 use lib.ListN.{length, take}
+use Rattle.base.specs.Limits.{heldSize}
 use Rattle.base.specs.Bytes.{zeros, joined}
 use Rattle.tree.specs.Nodes.{Node, root, labellingOrder}
 use Rattle.tree.specs.Labels.{Label, label}
 use Rattle.tree.specs.Held.{heldBelow}
 use Rattle.label.specs.Rule.{stampRule}
 use Rattle.run.specs.declared.Run.{Run}
-use Rattle.run.specs.Steps.{heldSize, stored}
+use Rattle.run.specs.Steps.{stored}
 
 -- the label of a node of the tree of depth n for a statement
 abbrev pub labelOf : List ℕ → ℕ → Node → Label

@@ -6,6 +6,7 @@ use native.Mathlib.Numerals.{add-one}
 use native.Mathlib.Omega.{arith}
 use lib.ListN.{length, getD, take, drop, set, drop-of-length-le}
 use lib.Seq.{take-suc-set, take-all, drop-cons}
+use Rattle.base.specs.Limits.{maxChallenges}
 use Rattle.base.specs.Bytes.{bigEndian}
 use Rattle.sha256.specs.declared.Hash.{Hash}
 use Rattle.sha256.specs.Portions.{updateState, updatedAll}
@@ -43,8 +44,8 @@ leaves-more n statement root leaves i leaf h e f =
     ∙ take-suc-set leaves i leaf h
     ∙ rw (e, f) (sym (ap (λ (k : ℕ). leavesTo n statement root k) (add-one i)))
 
-pub leaves-all : (n : ℕ) (statement root leaves : List ℕ) (i : ℕ) → i ≡ 200 → length leaves ≡ 200 → take i leaves ≡ leavesTo n statement root i
-    → leaves ≡ leavesTo n statement root 200
+pub leaves-all : (n : ℕ) (statement root leaves : List ℕ) (i : ℕ) → i ≡ maxChallenges → length leaves ≡ maxChallenges → take i leaves ≡ leavesTo n statement root i
+    → leaves ≡ leavesTo n statement root maxChallenges
 leaves-all n statement root leaves i all size e =
     sym (take-all i leaves (omega arith)) ∙ e ∙ ap (λ (k : ℕ). leavesTo n statement root k) all
 

@@ -4,9 +4,11 @@ ghost use mathlib.Core.Path.{_≡_};
 ghost use mathlib.Core.List.{map};
 ghost use Prim.Native.Nat.{min};
 ghost use lib.ListN.{take};
+ghost use Rattle.base.specs.Limits.{maxChallenges};
 ghost use Rattle.base.specs.Bytes.{bigEndian, zeros};
 ghost use Rattle.sha256.specs.Portions.{newHash, updatedAll, finishDigest};
 ghost use Rattle.vector_runs.specs.Whole.{wholeRun, wholeFile, leavesTo};
+use base::MAX_LEAVES;
 use base::big_endian;
 use opening_check::label_at;
 use proof_file::challenge;
@@ -73,10 +75,10 @@ pub fn write_file(
 }
 
 // The leaves of challenges 1 to 200.
-pub fn challenged(depth: u64, statement: [u8; 32], root: [u8; 32]) -> [u64; 200]
-    ensures { λ r. ⌜ r ≡ leavesTo depth statement root 200 ⌝ }
+pub fn challenged(depth: u64, statement: [u8; 32], root: [u8; 32]) -> [u64; MAX_LEAVES]
+    ensures { λ r. ⌜ r ≡ leavesTo depth statement root maxChallenges ⌝ }
 {
-    let mut leaves = [0u64; 200];
+    let mut leaves = [0u64; MAX_LEAVES];
     let mut i: usize = 0;
     while i < 200 {
         let picked = challenge(depth, statement, root, i as u64 + 1);

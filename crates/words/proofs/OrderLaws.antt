@@ -8,7 +8,7 @@ use lib.Dec.{ltb, leb, eqb}
 use lib.ListN.{length}
 use borrow.Author.Tests.{ltb-false, leb-true, not-false}
 use Rattle.base.specs.Choice.{pick, both}
-use Rattle.base.specs.Limits.{maxDepth, maxChallenges}
+use Rattle.base.specs.Limits.{maxDepth, maxChallenges, ownLevel}
 use Rattle.base.proofs.ChoiceLaws.{both-first, both-second}
 use Rattle.refusal.specs.Row.{outside}
 use Rattle.words.specs.Parting.{wordAt, wordCount}
@@ -88,9 +88,9 @@ module _ (n t m : ℕ) where
 
 -- depth, challenges, memory level
 pub record Sealing (n t m : ℕ) : Type 0 where
-  pub depth : (1 ≤ n) × (n ≤ 40)
-  pub count : (1 ≤ t) × (t ≤ 200)
-  pub memory : (m ≤ n) × (m ≤ 14)
+  pub depth : (1 ≤ n) × (n ≤ maxDepth)
+  pub count : (1 ≤ t) × (t ≤ maxChallenges)
+  pub memory : (m ≤ n) × (m ≤ ownLevel)
 
 inside : (low high x : ℕ) → outside low high x ≡ false → (low ≤ x) × (x ≤ high)
 inside low high x e =
@@ -99,13 +99,13 @@ inside low high x e =
 
 pub seal-bounds : (n t m : ℕ) → sealRow n t m ≡ Right → Sealing n t m
 unfolding sealRow
-seal-bounds n t m = go (outside 1 maxDepth n) (outside 1 maxChallenges t) (ltb n m) (ltb 14 m) refl refl refl refl
+seal-bounds n t m = go (outside 1 maxDepth n) (outside 1 maxChallenges t) (ltb n m) (ltb ownLevel m) refl refl refl refl
   where
-    go : (a b c d : Bool) → outside 1 maxDepth n ≡ a → outside 1 maxChallenges t ≡ b → ltb n m ≡ c → ltb 14 m ≡ d
+    go : (a b c d : Bool) → outside 1 maxDepth n ≡ a → outside 1 maxChallenges t ≡ b → ltb n m ≡ c → ltb ownLevel m ≡ d
         → firstOf ((a, Depth) ∷ (b, Challenges) ∷ (c, Memory) ∷ (d, Store) ∷ []) ≡ Right → Sealing n t m
     go true b c d ea eb ec ed e = absurd (wrong-right Depth e)
     go false true c d ea eb ec ed e = absurd (wrong-right Challenges e)
     go false false true d ea eb ec ed e = absurd (wrong-right Memory e)
     go false false false true ea eb ec ed e = absurd (wrong-right Store e)
     go false false false false ea eb ec ed e =
-        record { depth = inside 1 40 n ea; count = inside 1 200 t eb; memory = (ltb-false n m ec, ltb-false 14 m ed) }
+        record { depth = inside 1 maxDepth n ea; count = inside 1 maxChallenges t eb; memory = (ltb-false n m ec, ltb-false ownLevel m ed) }

@@ -7,7 +7,7 @@ use mathlib.Core.List.{List}
 use lib.ListN.{length, getD, take, length-take}
 use lib.Seq.{getD-take, take-all}
 use borrow.Author.Tests.{eq-eqb, ne-eqb}
-use Rattle.planning.specs.Input.{numbers}
+use Rattle.planning.specs.Input.{maxNumbers, numbers}
 use Rattle.planning.specs.Steps.{allFit}
 use Rattle.words.specs.Values.{isNumber, noNumber, valueOf}
 
@@ -16,14 +16,14 @@ unfolding valueOf isNumber
 not-read word e = rw e
 
 module _ (word list : List ℕ) (count : ℕ) (fit : allFit false 0 word ≡ true)
-    (first : take count list ≡ take 202 (numbers word)) (read : count ≡ length (take 202 (numbers word))) where
+    (first : take count list ≡ take maxNumbers (numbers word)) (read : count ≡ length (take maxNumbers (numbers word))) where
   pub not-one : (count ≡ 1 → ⊥) → noNumber ≡ valueOf word
   unfolding valueOf isNumber
-  not-one h = rw (fit, ne-eqb (length (numbers word)) 1 (λ e. h (read ∙ ap length (take-all 202 (numbers word) (omega arith)) ∙ e)))
+  not-one h = rw (fit, ne-eqb (length (numbers word)) 1 (λ e. h (read ∙ ap length (take-all maxNumbers (numbers word) (omega arith)) ∙ e)))
 
   pub one : count ≡ 1 → getD list 0 0 ≡ valueOf word
   unfolding valueOf isNumber
   one h =
-      let few : length (numbers word) ≡ 1 = omega (arith, length-take 202 (numbers word)) in
+      let few : length (numbers word) ≡ 1 = omega (arith, length-take maxNumbers (numbers word)) in
       rw (fit, eq-eqb (length (numbers word)) 1 few)
-      (sym (getD-take count list 0 0 (omega arith)) ∙ ap (λ (l : List ℕ). getD l 0 0) first ∙ getD-take 202 (numbers word) 0 0 (omega arith))
+      (sym (getD-take count list 0 0 (omega arith)) ∙ ap (λ (l : List ℕ). getD l 0 0) first ∙ getD-take maxNumbers (numbers word) 0 0 (omega arith))

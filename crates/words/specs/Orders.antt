@@ -6,7 +6,7 @@ use lib.Dec.{ltb, eqb}
 use lib.ListN.{length}
 use Rattle.base.specs.Choice.{pick, both}
 use Rattle.base.specs.Lists.{sameBytes}
-use Rattle.base.specs.Limits.{maxDepth, maxChallenges}
+use Rattle.base.specs.Limits.{maxDepth, maxChallenges, ownLevel}
 use Rattle.refusal.specs.Row.{outside, either}
 use Rattle.words.specs.Parting.{wordAt, wordCount}
 use Rattle.words.specs.Values.{valueOf}
@@ -62,10 +62,6 @@ unfoldable pub pathRow : ℕ → ℕ → Words
 pathRow report proof =
     firstOf
     ((either (eqb report 0) (eqb proof 0), NoPath) ∷ (either (ltb maxPath report) (ltb maxPath proof), LongPath) ∷ [])
-
--- the greatest memory level that the program's own store holds
-abbrev pub ownLevel : ℕ
-ownLevel = 14
 
 unfoldable pub sealRow : ℕ → ℕ → ℕ → Words
 sealRow n t m =

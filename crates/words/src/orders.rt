@@ -10,6 +10,9 @@ use crate::Words;
 use crate::parting::word;
 use crate::parting::word_count;
 use crate::values::value;
+use base::MAX_CHALLENGES;
+use base::MAX_DEPTH;
+use base::OWN_LEVEL;
 use opening_check::beyond;
 
 fn is_word(word: &[u8], name: &[u8]) -> bool
@@ -109,16 +112,16 @@ fn check_paths(report: usize, proof: usize) -> Words
 fn check_seal(depth: u64, challenges: u64, memory: u64) -> Words
     ensures { λ r. ⌜ r ≡ sealRow depth challenges memory ⌝ }
 {
-    if beyond(40, depth) {
+    if beyond(MAX_DEPTH, depth) {
         return Words::Wrong(Problem::Depth);
     }
-    if beyond(200, challenges) {
+    if beyond(MAX_CHALLENGES, challenges) {
         return Words::Wrong(Problem::Challenges);
     }
     if depth < memory {
         return Words::Wrong(Problem::Memory);
     }
-    if 14 < memory {
+    if OWN_LEVEL < memory {
         return Words::Wrong(Problem::Store);
     }
     Words::Right
@@ -127,10 +130,10 @@ fn check_seal(depth: u64, challenges: u64, memory: u64) -> Words
 fn check_wanted(depth: u64, challenges: u64) -> Words
     ensures { λ r. ⌜ r ≡ wantedRow depth challenges ⌝ }
 {
-    if beyond(40, depth) {
+    if beyond(MAX_DEPTH, depth) {
         return Words::Wrong(Problem::Depth);
     }
-    if beyond(200, challenges) {
+    if beyond(MAX_CHALLENGES, challenges) {
         return Words::Wrong(Problem::Challenges);
     }
     Words::Right
@@ -149,7 +152,7 @@ fn memory_in(line: &[u8], all: usize, depth: u64) -> u64
     ensures { λ r. ⌜ r ≡ memoryIn (now (line .entry)) all depth ⌝ }
 {
     if all < 6 {
-        return run::smaller(depth, 14);
+        return run::smaller(depth, OWN_LEVEL);
     }
     value(word(line, 5))
 }

@@ -5,6 +5,7 @@ ghost use Rattle.writing.specs.Rows.{writeRow, rewriteRow};
 ghost use Rattle.writing.specs.Possible.{stateOutside};
 use crate::Writing;
 use crate::labels::may_follow;
+use base::MAX_CHALLENGES;
 use opening::nodes_anew;
 use opening::not_possible;
 use opening_check::beyond;
@@ -27,7 +28,7 @@ pub fn may_start(depth: u64, memory: u64, count: u64, store: usize, file: usize)
     if store_short(memory, store) {
         return Outcome::Refused(Refusal::ShortStore);
     }
-    if beyond(200, count) {
+    if beyond(MAX_CHALLENGES, count) {
         return Outcome::Refused(Refusal::Count);
     }
     if file < file_size(depth, count) {
@@ -44,7 +45,7 @@ fn state_outside(writing: Writing) -> bool
     if not_possible(opening.depth, opening.memory, opening.made, opening.leaf) {
         return true;
     }
-    if beyond(200, writing.count) {
+    if beyond(MAX_CHALLENGES, writing.count) {
         return true;
     }
     if beyond(writing.count, writing.number) {

@@ -4,6 +4,7 @@ ghost use Prim.Native.Nat.{_+_, _≤_};
 ghost use mathlib.Core.Bool.{false};
 ghost use lib.Dec.{ltb, eqb};
 ghost use lib.ListN.{length};
+ghost use Rattle.base.specs.Limits.{maxDepth, maxChallenges};
 ghost use Rattle.base.specs.Choice.{both};
 ghost use Rattle.opening.specs.Rows.{nodesAnew};
 ghost use Rattle.writing.specs.Possible.{Room, Ready, GoesOn, writtenOf};
@@ -93,9 +94,9 @@ fn label_some(writing: Writing, labels: u64, store: &[u8], file: &mut [u8]) -> W
 
 // The labels that remain: of the opening under way, and of those after it.
 pub fn labels_left(writing: Writing) -> u64
-    requires { ⌜ (writing .opening .depth ≤ 40) × (writing .opening .memory ≤ writing .opening .depth) ⌝ }
+    requires { ⌜ (writing .opening .depth ≤ maxDepth) × (writing .opening .memory ≤ writing .opening .depth) ⌝ }
     requires { ⌜ writing .opening .made ≤ nodesAnew (writing .opening .depth) (writing .opening .memory) ⌝ }
-    requires { ⌜ (writing .number ≤ writing .count) × (writing .count ≤ 200) ⌝ }
+    requires { ⌜ (writing .number ≤ writing .count) × (writing .count ≤ maxChallenges) ⌝ }
     ensures { λ r. ⌜ r ≡ remaining writing ⌝ }
 {
     let opening = writing.opening;

@@ -9,6 +9,7 @@ ghost use Rattle.refusal.specs.Number.{outcomeNumber};
 ghost use Rattle.writing.specs.Rows.{writeRow, rewriteRow};
 ghost use Rattle.writing.specs.Possible.{writtenOf};
 ghost use Rattle.writing.specs.Steps.{noWriting, started, labelsIn, advanced};
+use base::HELD_SIZE;
 use checks::may_continue;
 use checks::may_start;
 use labels::label_many;
@@ -45,7 +46,7 @@ fn no_writing() -> Writing
 {
     let root = [0u8; 32];
     let statement = [0u8; 32];
-    let held = [0u8; 1312];
+    let held = [0u8; HELD_SIZE];
     let opening = Opening {
         statement,
         depth: 0,

@@ -2,6 +2,7 @@
 ghost use mathlib.Core.Path.{_≡_};
 ghost use Prim.Native.Nat.{_+_, _≤_};
 ghost use lib.ListN.{length};
+ghost use Rattle.base.specs.Limits.{maxDepth, maxChallenges};
 ghost use Rattle.opening.specs.Rows.{openingSize, nodesAnew};
 ghost use Rattle.proof_file.specs.Layout.{headSize, openingFrom, fileSize};
 ghost use Rattle.writing.specs.Possible.{Room, Ready, writtenOf, labelled};
@@ -13,7 +14,7 @@ use proof_file::file_size;
 
 // Where opening i begins: t + 1 − i openings before the file's end.
 fn part_start(n: u64, t: u64, i: u64) -> usize
-    requires { ⌜ (n ≤ 40) × (1 ≤ i) × (i ≤ t) × (t ≤ 200) ⌝ }
+    requires { ⌜ (n ≤ maxDepth) × (1 ≤ i) × (i ≤ t) × (t ≤ maxChallenges) ⌝ }
     ensures { λ r. ⌜ r ≡ openingFrom n (headSize n t) i ⌝ }
     ensures { λ r. ⌜ r + openingSize n ≤ fileSize n t ⌝ }
 {

@@ -6,11 +6,12 @@ use native.Mathlib.Omega.{arith}
 use mathlib.Core.List.{List, _++_}
 use lib.ListN.{length, take, drop}
 use lib.Seq.{take-at}
+use Rattle.base.specs.Limits.{heldSize}
 use Rattle.base.specs.Bytes.{zeros}
 use Rattle.tree.specs.Nodes.{root}
 use Rattle.tree.specs.Walk.{nodesIn}
 use Rattle.run.specs.Steps as runs
-use Rattle.run.specs.Steps.{heldSize, Stamped}
+use Rattle.run.specs.Steps.{Stamped}
 use Rattle.proof_file.specs.Layout.{fileSize}
 use Rattle.proof_file.specs.FileCheck.{fileCheck}
 use Rattle.run_theory.specs.Calls.{total, afterCalls}

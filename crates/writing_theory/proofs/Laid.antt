@@ -7,6 +7,7 @@ use native.Mathlib.Omega.{arith}
 use mathlib.Core.List.{List, _++_, append-assoc, append-nil}
 use lib.ListN.{length, take, drop, length-append, length-drop, take-append-drop}
 use lib.Seq.{take-at, length-take-le, drop-drop}
+use Rattle.base.specs.Limits.{maxDepth}
 use Rattle.base.specs.Bytes.{joined, written}
 use Rattle.tree.specs.Nodes.{root}
 use Rattle.opening.specs.Rows.{openingSize}
@@ -52,7 +53,7 @@ module _ (n t : ℕ) (bytes : List ℕ) (q : ℕ) where
       (sym (take-append-drop (openingSize n) (drop (laidSize n t q) bytes)))
 
 -- its leaf
-pub leaf-inside : (statement : List ℕ) (n q : ℕ) → n ≤ 40 → leafAfter statement n q < 2 ^ n
+pub leaf-inside : (statement : List ℕ) (n q : ℕ) → n ≤ maxDepth → leafAfter statement n q < 2 ^ n
 leaf-inside statement n q shallow = challengeLeaf-small n statement (rootOf statement n) (q + 1) (omega arith)
 
 module _ (statement : List ℕ) (n t : ℕ) where

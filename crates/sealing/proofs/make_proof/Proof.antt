@@ -2,6 +2,7 @@
 use mathlib.Core.Path.{_≡_, refl}
 use native.Mathlib.Omega.{arith}
 use lib.ListN.{length}
+use Rattle.base.specs.Limits.{heldSize}
 use Rattle.run.proofs.StepLaws.{small-nodes}
 use Rattle.sealing.proofs.CountLaws.{small-anew, some-labels}
 use Rattle.sealing.proofs.EndLaws.{startable, still-fits, the-root, holds-labels, all-made}
@@ -18,7 +19,7 @@ label-tree-requires c κs =
     )
 
 label-at-requires : tie.Need-label-at-requires
-label-at-requires c κs = let l : length (c .before .before .before .before .label-tree .result .held) ≡ 1312 = search needs in omega (arith, l)
+label-at-requires c κs = let l : length (c .before .before .before .before .label-tree .result .held) ≡ heldSize = search needs in omega (arith, l)
 
 write-openings-requires : tie.Need-write-openings-requires
 write-openings-requires c κs =

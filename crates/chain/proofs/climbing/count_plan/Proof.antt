@@ -1,4 +1,5 @@
 -- `climbing::count_plan` meets its contract. The invariant: what is counted and what the leaves from i on write are the whole plan.
+use Rattle.base.specs.Limits.{maxDepth}
 use Rattle.chain.proofs.Writing.{plan-count}
 use Rattle.chain_theory.proofs.Turns.{planFrom-end}
 use Rattle.chain_theory.specs.Planning.{planFrom}
@@ -12,7 +13,7 @@ use Rattle.chain.proofs.climbing.count_plan.Tie as tie
 
 abbrev Inv-loop : tie.InvT-loop
 Inv-loop depth leaves count₀ i₀ count i =
-    (i ≤ length leaves) × (count + length (planFrom depth (drop i leaves)) ≡ length (planFrom depth leaves)) × (count ≤ 41 * i)
+    (i ≤ length leaves) × (count + length (planFrom depth (drop i leaves)) ≡ length (planFrom depth leaves)) × (count ≤ (maxDepth + 1) * i)
 
 abbrev μ-loop : tie.MeasureT-loop
 μ-loop depth leaves count₀ i₀ count i = length leaves - i

@@ -2,6 +2,7 @@
 use mathlib.Core.Path.{_≡_, sym}
 use native.Mathlib.Omega.{arith}
 use lib.ListN.{length}
+use Rattle.base.specs.Limits.{maxFile}
 use Rattle.words.proofs.OrderLaws.{seal-bounds}
 use Rattle.commands.proofs.SealLaws.{seal-fits, file-fits}
 use lib.Seq.{length-take-le}
@@ -23,7 +24,7 @@ array-share-prefix-file : tie.Need-array-share-prefix-file
 array-share-prefix-file c =
     let a = c .before .before .before .before .before .before .before .before .before in
     let k = seal-bounds (a .args .depth) (a .args .challenges) (a .args .memory) (a .pre) in
-    let l : length (c .before .before .before .before .before .before .empty-file .result) ≡ 262468 = search needs in
+    let l : length (c .before .before .before .before .before .before .empty-file .result) ≡ maxFile = search needs in
     omega (
       arith,
       c .file-size .ensures,
@@ -36,7 +37,7 @@ slice-aggregate-keep-proof : tie.Need-slice-aggregate-keep-proof
 slice-aggregate-keep-proof c =
     let a = c .before .before .before .before .before .before .before .before .before .before in
     let k = seal-bounds (a .args .depth) (a .args .challenges) (a .args .memory) (a .pre) in
-    let l : length (c .before .before .before .before .before .before .before .empty-file .result) ≡ 262468 = search needs in
+    let l : length (c .before .before .before .before .before .before .before .empty-file .result) ≡ maxFile = search needs in
     sym
     (length-take-le _ _
     (omega (

@@ -2,6 +2,7 @@
 use mathlib.Core.Path.{_≡_}
 use native.Mathlib.Omega.{arith}
 use lib.ListN.{length}
+use Rattle.base.specs.Limits.{maxChain}
 use Rattle.verdict_lines.proofs.ChainLaws.{chain-in}
 use borrow.Author.Needs.{needs}
 use Rattle.commands.proofs.telling.tell_chain.Statement.{statement}
@@ -14,8 +15,8 @@ put-drawing-requires c κs =
     let list = c .before .before .before .before .before .before .empty-list .result in
     let d = c .before .before .before .before .draw in
     let text = c .before .before .empty-text .result in
-    let places : length list ≡ 6855 = search needs in
-    let room : length text ≡ 287992 = search needs in (
+    let places : length list ≡ maxChain = search needs in
+    let room : length text ≡ maxOutput = search needs in (
       chain-in (s .args .file .now) (s .args .statement) (w .depth) (w .count) _ list _ places (d .ensures .0) (d .ensures .1 .0)
           (omega (arith, d .kept)),
       omega arith,

@@ -1,7 +1,7 @@
 -- `compare::table::cell_at` meets its contract.
 use Rattle.opening_check.proofs.Parts.{part-size}
 use Prim.Native.Nat.{_+_, _-_, _*_}
-use Rattle.compare.specs.Table.{cell}
+use Rattle.compare.specs.Table.{cell, rowSize}
 use borrow.Author.Needs.{needs}
 use Rattle.compare.proofs.table.cell_at.Statement.{statement}
 use Rattle.compare.proofs.table.cell_at.Tie as tie
@@ -10,7 +10,7 @@ returns : tie.Need-returns
 unfolding cell
 returns c =
     let s = c .before in
-    part-size (s .args .table .now) (2560 * (s .args .i - 1) + 64 * (s .args .n - (s .args .level + 1))) 64
+    part-size (s .args .table .now) (rowSize * (s .args .i - 1) + 64 * (s .args .n - (s .args .level + 1))) 64
 
 pub cell-at-spec : {M : Type 1} → statement M
 cell-at-spec =

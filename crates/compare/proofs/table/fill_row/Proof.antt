@@ -8,7 +8,7 @@ use Rattle.tree.specs.Openings.{computed}
 use Rattle.opening_check.specs.OpeningCheck.{givenBy}
 use Rattle.opening_check.proofs.Parts.{part-size, part-length}
 use Rattle.opening_check.proofs.OneOpening.{climbed}
-use Rattle.compare.specs.Table.{RowOf}
+use Rattle.compare.specs.Table.{RowOf, rowSize}
 use Rattle.compare.proofs.Filling.{row-more}
 use borrow.Author.Needs.{needs}
 use native.Mathlib.Omega.{arith}
@@ -17,7 +17,7 @@ use Rattle.compare.proofs.table.fill_row.Tie as tie
 
 abbrev Inv-loop : tie.InvT-loop
 Inv-loop row₀ statement n leaf bytes child₀ height₀ row child height =
-    (height ≤ n) × (length row ≡ 2560) × (length child ≡ 32) ×
+    (height ≤ n) × (length row ≡ rowSize) × (length child ≡ 32) ×
     (child ≡ computed (stampRule statement) n leaf (givenBy bytes) height) × RowOf (stampRule statement) n leaf (givenBy bytes)
     height row₀ row
 

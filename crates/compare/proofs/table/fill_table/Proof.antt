@@ -4,7 +4,7 @@ use Prim.Native.Nat.{_+_, _-_, _*_, _≤_}
 use lib.ListN.{length}
 use Rattle.opening.specs.Rows.{openingSize}
 use Rattle.opening_check.proofs.Parts.{part-size, part-length}
-use Rattle.compare.specs.Table.{TableOf}
+use Rattle.compare.specs.Table.{TableOf, rowSize, tableSize}
 use Rattle.compare.proofs.Filling.{opening-fits, lent-back, table-more}
 use borrow.Author.Needs.{needs}
 use native.Mathlib.Omega.{arith}
@@ -13,7 +13,7 @@ use Rattle.compare.proofs.table.fill_table.Tie as tie
 
 abbrev Inv-loop : tie.InvT-loop
 Inv-loop table₀ statement n leaves openings size i₀ table i =
-    (i ≤ length leaves) × (length table ≡ 512000) × TableOf statement n leaves openings i table₀ table
+    (i ≤ length leaves) × (length table ≡ tableSize) × TableOf statement n leaves openings i table₀ table
 
 abbrev μ-loop : tie.MeasureT-loop
 μ-loop table₀ statement n leaves openings size i₀ table i = length leaves - i
@@ -29,7 +29,7 @@ loop-holds c = (omega arith, c .before .before .before .pre .1, record { rows = 
 
 -- this turn's row and opening lie within the table and the openings
 within : (c : tie.In-loop Inv-loop μ-loop)
-    → (2560 * c .before .loop .i + 2560 ≤ 512000) ×
+    → (rowSize * c .before .loop .i + rowSize ≤ tableSize) ×
     (c .before .loop .i * openingSize (c .before .before .before .before .before .args .n)
     + openingSize (c .before .before .before .before .before .args .n) ≤ length
     (c .before .before .before .before .before .args .openings .now))
@@ -77,8 +77,8 @@ fill-row-requires c κs =
     let room = within (c .before .before .before) in (
       entry .pre .0 .most,
       ap length (part-size (a .openings .now) (i * size) size) ∙ part-length (a .openings .now) (i * size) size (room .1),
-      ap length (part-size (loop .table) (2560 * i) 2560)
-          ∙ part-length (loop .table) (2560 * i) 2560 (omega (arith, room .0)),
+      ap length (part-size (loop .table) (rowSize * i) rowSize)
+          ∙ part-length (loop .table) (rowSize * i) rowSize (omega (arith, room .0)),
     )
 
 loop-again : tie.Need-loop-again Inv-loop μ-loop
@@ -90,7 +90,7 @@ loop-again c =
       search needs,
       table-more (a .statement) (a .n) (a .leaves .now) (a .openings .now) (a .table .now) (l .table) (row .last .0) _ (l .i)
           (omega (arith, within (c .before .before .before .before .before .before) .0)) (l .inv .1) (search needs) (l .inv .2)
-          (row .ensures) (lent-back (l .table) (row .last .0) (2560 * l .i) 2560 (search needs)),
+          (row .ensures) (lent-back (l .table) (row .last .0) (rowSize * l .i) rowSize (search needs)),
     )
 
 returns : tie.Need-returns Inv-loop μ-loop

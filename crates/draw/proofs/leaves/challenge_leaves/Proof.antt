@@ -4,6 +4,7 @@ use mathlib.Core.Path.{_≡_, refl}
 use mathlib.Core.List.{_++_}
 use Prim.Native.Nat.{_+_, _-_, _≤_}
 use lib.ListN.{length, take, drop}
+use Rattle.base.specs.Limits.{maxChallenges}
 use Rattle.base.specs.Bytes.{zeros}
 use Rattle.draw.specs.Drawing.{leavesFrom}
 use Rattle.draw.proofs.LeavesOpened.{leaves-none, leaves-more, leaves-all, zeros-more}
@@ -14,8 +15,8 @@ use Rattle.draw.proofs.leaves.challenge_leaves.Tie as tie
 
 abbrev Inv-loop : tie.InvT-loop
 Inv-loop depth statement root count leaves₀ i₀ leaves i =
-    (i ≤ count) × (length leaves ≡ 200) × (take i leaves ++ leavesFrom depth statement root (i + 1) (count - i) ≡ leavesFrom
-    depth statement root 1 count) × (drop i leaves ≡ zeros (200 - i))
+    (i ≤ count) × (length leaves ≡ maxChallenges) × (take i leaves ++ leavesFrom depth statement root (i + 1) (count - i) ≡ leavesFrom
+    depth statement root 1 count) × (drop i leaves ≡ zeros (maxChallenges - i))
 
 abbrev μ-loop : tie.MeasureT-loop
 μ-loop depth statement root count leaves₀ i₀ leaves i = count - i

@@ -3,11 +3,12 @@ use mathlib.Core.Path.{_≡_}
 use native.Mathlib.Omega.{arith}
 use borrow.Author.Needs.{needs}
 use lib.ListN.{length, length-take}
+use Rattle.label.specs.Buffer.{inputSpace}
 use Rattle.label.proofs.Padded.{length-front, hashed-front, laid-padded}
 use Rattle.label.proofs.hashed.hash_front.Statement.{statement}
 use Rattle.label.proofs.hashed.hash_front.Tie as tie
 
-room : (c : tie.Start) → length (c .args .input .now) ≡ 1344
+room : (c : tie.Start) → length (c .args .input .now) ≡ inputSpace
 room c = length-front _ (c .args .len) (c .pre .0) (c .pre .1)
 
 put-requires : tie.Need-put-requires

@@ -8,6 +8,7 @@ use lib.Count.{ones}
 use lib.ListN.{length}
 use Rattle.tree.specs.Nodes.{node}
 use Rattle.tree.proofs.Slots.{slot-inside}
+use Rattle.opening.specs.Possible.{frontSize}
 use Rattle.opening.proofs.AboveLaws.{Above, above-none, above-more, above-few, above-taken}
 use Rattle.opening.proofs.PlaceLaws.{way-inside}
 use Rattle.opening.proofs.above.labels_above.Statement.{statement}
@@ -15,13 +16,13 @@ use Rattle.opening.proofs.above.labels_above.Tie as tie
 
 abbrev Inv-loop : tie.InvT-loop
 Inv-loop depth memory leaf store len bytes₀ filled₀ level₀ bytes filled level =
-    (level ≤ memory) × Above depth leaf store level filled bytes × (length bytes ≡ 640)
+    (level ≤ memory) × Above depth leaf store level filled bytes × (length bytes ≡ frontSize)
 
 abbrev μ-loop : tie.MeasureT-loop
 μ-loop depth memory leaf store len bytes₀ filled₀ level₀ bytes filled level = memory - level
 
 -- what is filled before the last level leaves room for one label more
-some-room : (c : tie.In-loop Inv-loop μ-loop) → c .before .loop .filled + 32 ≤ 640
+some-room : (c : tie.In-loop Inv-loop μ-loop) → c .before .loop .filled + 32 ≤ frontSize
 some-room c =
     let s = c .before .before .before in
     omega (

@@ -6,8 +6,9 @@ use native.Mathlib.Omega.{arith}
 use borrow.Author.Needs.{needs}
 use lib.ListN.{length-take, length}
 use lib.Seq.{length-take-le}
+use Rattle.base.specs.Limits.{heldSize}
 use Rattle.opening.specs.Steps.{Open, steps}
-use Rattle.opening.specs.Possible.{openingOf, openOf}
+use Rattle.opening.specs.Possible.{openingOf, openOf, frontSize}
 use Rattle.opening.proofs.AboveLaws.{above-few}
 use Rattle.opening.proofs.StepLaws.{anew-small, steps-none, steps-more}
 use Rattle.opening.proofs.labels.label_many.Statement.{statement}
@@ -19,7 +20,7 @@ Inv-loop count store out₀ statement depth memory leaf made held₀ bytes len i
     ×
     (steps store i (openOf (openingOf statement depth memory leaf made held₀) out₀)
     ≡ openOf (openingOf statement depth memory leaf (made + i) held) out)
-    × (length held ≡ 1312) × (length out ≡ length out₀)
+    × (length held ≡ heldSize) × (length out ≡ length out₀)
 
 abbrev μ-loop : tie.MeasureT-loop
 μ-loop count store out₀ statement depth memory leaf made held₀ bytes len i₀ out held i = count - i
@@ -28,7 +29,7 @@ abbrev μ-loop : tie.MeasureT-loop
 read-fits : (c : tie.After-labels-above Inv-loop μ-loop) → c .labels-above .result .len ≤ length (c .labels-above .result .bytes)
 read-fits c =
     let entry = c .before .before .before .before .before in
-    let whole : length (c .labels-above .result .bytes) ≡ 640 = search needs in
+    let whole : length (c .labels-above .result .bytes) ≡ frontSize = search needs in
     let o = entry .args .opening in
     let s = entry .pre .0 .0 in
     omega (arith, s .kept, above-few (o .depth) (o .leaf) (o .memory) _ (s .above) (s .inside) (c .labels-above .ensures .0))

@@ -2,18 +2,19 @@
 use native.Mathlib.Omega.{arith}
 use borrow.Author.Needs.{needs}
 use lib.Pow.{pow-pos, pow-mono}
+use Rattle.base.specs.Limits.{maxDepth}
 use Rattle.label.proofs.Walking.{full}
 use Rattle.opening.proofs.places.slot_of.Statement.{statement}
 use Rattle.opening.proofs.places.slot_of.Tie as tie
 
 sub-result : tie.Need-sub-result
-sub-result c = omega (arith, full (c .args .level) (c .pre .0), pow-pos (c .args .level), pow-mono {i = c .args .level} {j = 40} (c .pre .0))
+sub-result c = omega (arith, full (c .args .level) (c .pre .0), pow-pos (c .args .level), pow-mono {i = c .args .level} {j = maxDepth} (c .pre .0))
 
 add-result : tie.Need-add-result
-add-result c = omega (arith, full (c .args .level) (c .pre .0), pow-pos (c .args .level), pow-mono {i = c .args .level} {j = 40} (c .pre .0))
+add-result c = omega (arith, full (c .args .level) (c .pre .0), pow-pos (c .args .level), pow-mono {i = c .args .level} {j = maxDepth} (c .pre .0))
 
 mul-result : tie.Need-mul-result
-mul-result c = omega (arith, full (c .args .level) (c .pre .0), pow-pos (c .args .level), pow-mono {i = c .args .level} {j = 40} (c .pre .0))
+mul-result c = omega (arith, full (c .args .level) (c .pre .0), pow-pos (c .args .level), pow-mono {i = c .args .level} {j = maxDepth} (c .pre .0))
 
 returns : tie.Need-returns
 returns c = rw (full (c .args .level) (c .pre .0))

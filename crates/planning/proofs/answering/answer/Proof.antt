@@ -1,7 +1,7 @@
 -- `answering::answer` meets its contract: one law for each exit.
 use Rattle.planning.proofs.InputLaws.{long-input, bad-input, no-number, good-input, plan-printed, input-printed, answered, no-room}
 use Rattle.planning.proofs.ReadLaws.{kept-all}
-use Rattle.planning.specs.Input.{numbers}
+use Rattle.planning.specs.Input.{maxNumbers, numbers}
 use lib.ListN.{length, length-take}
 use borrow.Author.Tests.{not-true, not-false}
 use native.Mathlib.Omega.{arith}
@@ -35,7 +35,7 @@ returns-4 c =
     let e1 = t .before .before .before .before .before .before in
     let bytes = e1 .before .before .before .args .input .now in
     answered _ _ _ _ (e1 .if1 .left)
-    (input-printed _ _ _ _ (no-number bytes (omega (arith, t .if4 .taken, rn .ensures .1, length-take 202 (numbers bytes))))
+    (input-printed _ _ _ _ (no-number bytes (omega (arith, t .if4 .taken, rn .ensures .1, length-take maxNumbers (numbers bytes))))
     (c .before .before .put-refused3 .ensures))
 
 part-put-answer-end : tie.Need-part-put-answer-end
@@ -57,7 +57,7 @@ returns-5 c =
     let bytes = e1 .before .before .before .args .input .now in
     let good =
     good-input bytes (e3 .before .before .if2 .left) (sym (e3 .before .is-readable .ensures) ∙ not-false _ (e3 .if3 .left))
-    (omega (arith, t .if4 .left, rn .ensures .1, length-take 202 (numbers bytes))) in
+    (omega (arith, t .if4 .left, rn .ensures .1, length-take maxNumbers (numbers bytes))) in
     answered _ _ _ _ (e1 .if1 .left)
     (plan-printed bytes (rn .result .list) _ _ (rn .result .count) _ (t .if4 .left)
     (kept-all (rn .result .list) _ _ (rn .result .count) (rn .ensures .0) (rn .ensures .1)) good

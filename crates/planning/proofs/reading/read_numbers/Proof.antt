@@ -3,7 +3,7 @@
 use Rattle.planning.proofs.ReadLaws.{all-start, all-turn, next-fits, must-go, numbers-turn, numbers-last, first-full, first-all, kept-first, kept-behind, ended-short, all-kept}
 use Rattle.base.specs.Bytes.{zeros}
 use Rattle.planning.specs.Steps.{allFit, ended}
-use Rattle.planning.specs.Input.{fits, numbers, numbersFrom}
+use Rattle.planning.specs.Input.{maxNumbers, fits, numbers, numbersFrom}
 use lib.ListN.{length, drop, take}
 use native.Mathlib.Omega.{arith}
 use Prim.Native.Nat.{_+_, _-_, _≤_, _<_}
@@ -16,9 +16,9 @@ use Rattle.planning.proofs.reading.read_numbers.Tie as tie
 
 abbrev Inv-loop : tie.InvT-loop
 Inv-loop input list₀ count₀ value₀ within₀ i₀ list count value within i =
-    (i ≤ length input) × (length list ≡ 202) × (count < 202)
+    (i ≤ length input) × (length list ≡ maxNumbers) × (count < maxNumbers)
     × (take count list ++ numbersFrom within value (drop i input) ≡ numbers input) × (fits value ≡ true)
-    × (allFit true value (drop i input) ≡ true) × (drop count list ≡ drop count (zeros 202))
+    × (allFit true value (drop i input) ≡ true) × (drop count list ≡ drop count (zeros maxNumbers))
 
 abbrev μ-loop : tie.MeasureT-loop
 μ-loop input list₀ count₀ value₀ within₀ i₀ list count value within i = length input - i
@@ -50,8 +50,8 @@ returns c =
     let all =
     first-full (push .last .0) _ (numbers bytes) (push .result) (omega (arith, push .ensures .next, room, push .kept .0))
     (push .kept .0 ∙ l .inv .1) (c .if1 .taken) turn in (
-      all-kept (push .last .0) (zeros 202) _ (push .result) (all .0) (all .1)
-          (kept-behind (l .list) _ _ (l .count) _ (push .ensures) room (zeros 202) (l .inv .6)),
+      all-kept (push .last .0) (zeros maxNumbers) _ (push .result) (all .0) (all .1)
+          (kept-behind (l .list) _ _ (l .count) _ (push .ensures) room (zeros maxNumbers) (l .inv .6)),
       all .1,
     )
 
@@ -77,7 +77,7 @@ loop-again c =
           (l .inv .3),
       next-fits (b .result) (l .value) _ on (step .ensures .after good),
       all-turn bytes (l .i) (b .result) (l .value) (omega arith) (b .ensures .0) _ (l .inv .4) on (step .ensures .after good) ∙ l .inv .5,
-      kept-behind (l .list) _ _ (l .count) _ (push .ensures) room (zeros 202) (l .inv .6),
+      kept-behind (l .list) _ _ (l .count) _ (push .ensures) room (zeros maxNumbers) (l .inv .6),
     )
 
 push-requires-2 : tie.Need-push-requires-2 Inv-loop μ-loop
@@ -97,8 +97,8 @@ returns-2 c =
     let all =
     first-all (push .last .0) (numbers bytes) (push .result) (omega (arith, push .ensures .next, room, push .kept .0))
     (push .kept .0 ∙ l .inv .1) last in (
-      all-kept (push .last .0) (zeros 202) _ (push .result) (all .0) (all .1)
-          (kept-behind (l .list) _ _ (l .count) _ (push .ensures) room (zeros 202) (l .inv .6)),
+      all-kept (push .last .0) (zeros maxNumbers) _ (push .result) (all .0) (all .1)
+          (kept-behind (l .list) _ _ (l .count) _ (push .ensures) room (zeros maxNumbers) (l .inv .6)),
       all .1,
     )
 

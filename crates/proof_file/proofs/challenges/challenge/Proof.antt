@@ -1,6 +1,7 @@
 -- `proof_file::challenge` meets its contract: one law for each return.
 use mathlib.Core.Path.{sym, _∙_}
 use borrow.Author.Needs.{needs}
+use Rattle.base.specs.Limits.{maxDepth}
 use Rattle.opening_check.proofs.Ranges.{range-of}
 use Rattle.proof_file.proofs.ChallengeLaws.{depth-refused, number-refused, leaf-answered}
 use Rattle.proof_file.proofs.challenges.challenge.Statement.{statement}
@@ -20,7 +21,7 @@ returns-2 c =
 
 challenge-leaf-requires : tie.Need-challenge-leaf-requires
 challenge-leaf-requires c κs =
-    range-of 1 40 (c .before .before .before .before .args .depth)
+    range-of 1 maxDepth (c .before .before .before .before .args .depth)
     (sym (c .before .before .before .beyond .ensures) ∙ c .before .before .if1 .left)
 
 returns-3 : tie.Need-returns-3

@@ -2,6 +2,7 @@
 use mathlib.Core.Path.{sym, _∙_}
 use borrow.Author.Needs.{needs}
 use lib.ListN.{length}
+use Rattle.base.specs.Limits.{maxDepth, maxChallenges}
 use Rattle.opening_check.proofs.Ranges.{range-of}
 use Rattle.proof_file.proofs.WritingLaws.{depth-refused, count-refused, short-refused, head-fits, head-written}
 use Rattle.proof_file.proofs.writing.write_head.Statement.{statement}
@@ -22,8 +23,8 @@ returns-2 c =
 file-size-requires : tie.Need-file-size-requires
 file-size-requires c κs =
     let a = c .before .before .before .before .before .args in (
-      range-of 1 40 (a .depth) (sym (c .before .before .before .beyond .ensures) ∙ c .before .before .if1 .left) .1,
-      range-of 1 200
+      range-of 1 maxDepth (a .depth) (sym (c .before .before .before .beyond .ensures) ∙ c .before .before .if1 .left) .1,
+      range-of 1 maxChallenges
           (a .count) (sym (c .before .beyond2 .ensures) ∙ c .if2 .left) .1,
     )
 
@@ -38,9 +39,9 @@ returns-3 c =
 put-head-requires : tie.Need-put-head-requires
 put-head-requires c κs =
     let a = c .before .before .before .before .before .before .before .before .args in (
-      range-of 1 40 (a .depth) (sym (c .before .before .before .before .before .before .beyond .ensures) ∙ c .before .before
+      range-of 1 maxDepth (a .depth) (sym (c .before .before .before .before .before .before .beyond .ensures) ∙ c .before .before
           .before .before .before .if1 .left) .1,
-      range-of 1 200 (a .count)
+      range-of 1 maxChallenges (a .count)
           (sym (c .before .before .before .before .beyond2 .ensures) ∙ c .before .before .before .if2 .left) .1,
       head-fits (a .depth)
           (a .count) _ (length (a .out .now)) (c .before .before .file-size .ensures) (c .before .if3 .left),

@@ -2,6 +2,7 @@
 use mathlib.Core.Path.{_∙_}
 use native.Mathlib.Omega.{arith}
 use lib.Pow.{pow-pos, pow-mono}
+use Rattle.base.specs.Limits.{maxDepth}
 use Rattle.tree.specs.Nodes.{node}
 use Rattle.tree.proofs.Slots.{slot-inside}
 use Rattle.label.proofs.Walking.{full}
@@ -18,7 +19,7 @@ sub-at c =
       full (entry .args .w .level) (entry .pre .0),
       pow-pos (entry .args .w .level),
       pow-mono {i =
-          entry .args .w .level} {j = 40} (entry .pre .0),
+          entry .args .w .level} {j = maxDepth} (entry .pre .0),
       entry .pre .1,
     )
 
@@ -30,7 +31,7 @@ add-at c =
       full (entry .args .w .level) (entry .pre .0),
       pow-pos (entry .args .w .level),
       pow-mono {i =
-          entry .args .w .level} {j = 40} (entry .pre .0),
+          entry .args .w .level} {j = maxDepth} (entry .pre .0),
       entry .pre .1,
     )
 
@@ -42,7 +43,7 @@ mul-at c =
       full (entry .args .w .level) (entry .pre .0),
       pow-pos (entry .args .w .level),
       pow-mono {i =
-          entry .args .w .level} {j = 40} (entry .pre .0),
+          entry .args .w .level} {j = maxDepth} (entry .pre .0),
       entry .pre .1,
     )
 
@@ -57,7 +58,7 @@ put-requires c κs =
       arith,
       full (entry .args .w .level) (entry .pre .0),
       pow-pos (entry .args .w .level),
-      pow-mono {i = entry .args .w .level} {j = 40} (entry .pre .0),
+      pow-mono {i = entry .args .w .level} {j = maxDepth} (entry .pre .0),
       entry .pre .1,
       slice-aggregate-put c,
       s .pre .2,

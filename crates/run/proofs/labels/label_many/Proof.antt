@@ -4,6 +4,7 @@ use Prim.Native.Nat.{_+_, _-_, _≤_}
 use native.Mathlib.Omega.{arith}
 use borrow.Author.Needs.{needs}
 use lib.ListN.{length}
+use Rattle.base.specs.Limits.{heldSize}
 use Rattle.run.specs.Steps.{stamped, steps}
 use Rattle.run.proofs.StepLaws.{small-nodes, state, no-step, next-step, all-steps}
 use Rattle.run.proofs.labels.label_many.Statement.{statement}
@@ -13,7 +14,7 @@ abbrev Inv-loop : tie.InvT-loop
 Inv-loop count store₀ statement depth memory made held₀ i₀ store held i =
     (i ≤ count)
     × (steps i (state statement depth memory made held₀ store₀) ≡ state statement depth memory (made + i) held store)
-    × (length held ≡ 1312)
+    × (length held ≡ heldSize)
     × (length store ≡ length store₀)
 
 abbrev μ-loop : tie.MeasureT-loop

@@ -2,6 +2,7 @@
 use Prim.Native.Nat.{_≤_, _-_}
 use native.Mathlib.Omega.{arith}
 use lib.ListN.{length, take}
+use Rattle.base.specs.Limits.{maxChallenges}
 use Rattle.vector_runs.specs.Whole.{leavesTo}
 use Rattle.vector_runs.proofs.WholeLaws.{leaves-none, leaves-more, leaves-all}
 use mathlib.Core.Path.{_≡_}
@@ -10,10 +11,10 @@ use Rattle.vector_runs.proofs.filled.challenged.Statement.{statement}
 use Rattle.vector_runs.proofs.filled.challenged.Tie as tie
 
 abbrev Inv-loop : tie.InvT-loop
-Inv-loop depth statement root leaves₀ i₀ leaves i = (i ≤ 200) × (length leaves ≡ 200) × (take i leaves ≡ leavesTo depth statement root i)
+Inv-loop depth statement root leaves₀ i₀ leaves i = (i ≤ maxChallenges) × (length leaves ≡ maxChallenges) × (take i leaves ≡ leavesTo depth statement root i)
 
 abbrev μ-loop : tie.MeasureT-loop
-μ-loop depth statement root leaves₀ i₀ leaves i = 200 - i
+μ-loop depth statement root leaves₀ i₀ leaves i = maxChallenges - i
 
 loop-holds : tie.Need-loop-holds Inv-loop μ-loop
 loop-holds c = (omega arith, search needs, leaves-none (c .args .depth) (c .args .statement) (c .args .root))

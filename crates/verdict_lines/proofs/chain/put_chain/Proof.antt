@@ -4,6 +4,7 @@ use native.Mathlib.Omega.{arith}
 use Prim.Native.Nat.{ℕ, _<_}
 use lib.ListN.{getD}
 use lib.Seq.{length-take-le}
+use Rattle.base.specs.Limits.{maxChain}
 use Rattle.planning.proofs.AnswerLaws.{done-wrote}
 use Rattle.draw.proofs.AcceptedFile.{depth-known, count-known, size-known, leaves-known}
 use Rattle.verdict_lines.proofs.ChainLaws.{file-accepted, plan-done}
@@ -16,7 +17,7 @@ add-label-at c =
     let s = c .before .before .before .before in
     let small : (j : ℕ) → getD (s .args .file .now) j 0 < 256 =
     λ j. c .before .before .before .shared-slice-known .given j .fits in
-    let ok = file-accepted (s .args .file .now) (s .args .statement) (s .args .depth) (s .args .count) 6855 _ (s .pre .0) in
+    let ok = file-accepted (s .args .file .now) (s .args .statement) (s .args .depth) (s .args .count) maxChain _ (s .pre .0) in
     omega (
       arith,
       size-known (s .args .file .now) (s .args .statement) (s .args .depth) (s .args .count) small ok _
@@ -28,7 +29,7 @@ label-at-requires c κs =
     let s = c .before .before .before .before in
     let small : (j : ℕ) → getD (s .args .file .now) j 0 < 256 =
     λ j. c .before .before .before .shared-slice-known .given j .fits in
-    let ok = file-accepted (s .args .file .now) (s .args .statement) (s .args .depth) (s .args .count) 6855 _ (s .pre .0) in
+    let ok = file-accepted (s .args .file .now) (s .args .statement) (s .args .depth) (s .args .count) maxChain _ (s .pre .0) in
     omega (
       arith,
       size-known (s .args .file .now) (s .args .statement) (s .args .depth) (s .args .count) small ok _
@@ -40,7 +41,7 @@ challenge-leaves-requires c κs =
     let s = c .before .before .before .before .before in
     let small : (j : ℕ) → getD (s .args .file .now) j 0 < 256 =
     λ j. c .before .before .before .before .shared-slice-known .given j .fits in
-    let ok = file-accepted (s .args .file .now) (s .args .statement) (s .args .depth) (s .args .count) 6855 _ (s .pre .0) in
+    let ok = file-accepted (s .args .file .now) (s .args .statement) (s .args .depth) (s .args .count) maxChain _ (s .pre .0) in
     let d = depth-known (s .args .file .now) (s .args .statement) (s .args .depth) (s .args .count) small ok in
     let t = count-known (s .args .file .now) (s .args .statement) (s .args .depth) (s .args .count) small ok in (d .0, d .1, t .1)
 
@@ -49,7 +50,7 @@ array-share-prefix-leaves c =
     let s = c .before .before .before .before .before .before in
     let small : (j : ℕ) → getD (s .args .file .now) j 0 < 256 =
     λ j. c .before .before .before .before .before .shared-slice-known .given j .fits in
-    let ok = file-accepted (s .args .file .now) (s .args .statement) (s .args .depth) (s .args .count) 6855 _ (s .pre .0) in
+    let ok = file-accepted (s .args .file .now) (s .args .statement) (s .args .depth) (s .args .count) maxChain _ (s .pre .0) in
     omega (arith, count-known (s .args .file .now) (s .args .statement) (s .args .depth) (s .args .count) small ok .1)
 
 slice-aggregate-put-plan : tie.Need-slice-aggregate-put-plan
@@ -57,7 +58,7 @@ slice-aggregate-put-plan c =
     let s = c .before .before .before .before .before .before .before in
     let small : (j : ℕ) → getD (s .args .file .now) j 0 < 256 =
     λ j. c .before .before .before .before .before .before .shared-slice-known .given j .fits in
-    let ok = file-accepted (s .args .file .now) (s .args .statement) (s .args .depth) (s .args .count) 6855 _ (s .pre .0) in
+    let ok = file-accepted (s .args .file .now) (s .args .statement) (s .args .depth) (s .args .count) maxChain _ (s .pre .0) in
     sym
     (length-take-le _ _
     (omega (arith, count-known (s .args .file .now) (s .args .statement) (s .args .depth) (s .args .count) small ok .1)))
@@ -67,12 +68,12 @@ put-plan-requires c κs =
     let s = c .before .before .before .before .before .before .before .before in
     let small : (j : ℕ) → getD (s .args .file .now) j 0 < 256 =
     λ j. c .before .before .before .before .before .before .before .shared-slice-known .given j .fits in
-    let ok = file-accepted (s .args .file .now) (s .args .statement) (s .args .depth) (s .args .count) 6855 _ (s .pre .0) in
+    let ok = file-accepted (s .args .file .now) (s .args .statement) (s .args .depth) (s .args .count) maxChain _ (s .pre .0) in
     let l =
     leaves-known (s .args .file .now) (s .args .statement) (s .args .depth) (s .args .count) small ok _ _ _
     (c .before .before .before .before .numbers-end .ensures) (c .before .before .before .label-at .ensures)
     (c .before .before .challenge-leaves .ensures .0) in (
-      plan-done (s .args .file .now) (s .args .statement) (s .args .depth) (s .args .count) 6855 _ (s .pre .0) small _ l,
+      plan-done (s .args .file .now) (s .args .statement) (s .args .depth) (s .args .count) maxChain _ (s .pre .0) small _ l,
       (s .pre .1 ∙ rw (sym l), s .pre .2),
     )
 
@@ -82,7 +83,7 @@ returns c =
     let small : (j : ℕ) → getD (s .args .file .now) j 0 < 256 =
     λ j.
     c .before .before .before .before .before .before .before .before .before .before .shared-slice-known .given j .fits in
-    let ok = file-accepted (s .args .file .now) (s .args .statement) (s .args .depth) (s .args .count) 6855 _ (s .pre .0) in
+    let ok = file-accepted (s .args .file .now) (s .args .statement) (s .args .depth) (s .args .count) maxChain _ (s .pre .0) in
     let l =
     leaves-known (s .args .file .now) (s .args .statement) (s .args .depth) (s .args .count) small ok _ _ _
     (c .before .before .before .before .before .before .before .numbers-end .ensures)
@@ -90,7 +91,7 @@ returns c =
     (c .before .before .before .before .before .challenge-leaves .ensures .0) in
     rw (sym l)
     (done-wrote _ _ _ _ _
-    (plan-done (s .args .file .now) (s .args .statement) (s .args .depth) (s .args .count) 6855 _ (s .pre .0) small _ l)
+    (plan-done (s .args .file .now) (s .args .statement) (s .args .depth) (s .args .count) maxChain _ (s .pre .0) small _ l)
     (c .before .before .put-plan .ensures))
 
 pub put-chain-spec : {M : Type 1} → statement M

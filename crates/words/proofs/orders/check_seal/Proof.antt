@@ -1,6 +1,7 @@
 -- `words::orders::check_seal` meets its contract.
 use borrow.Author.Tests.{lt-ltb, le-ltb}
 use mathlib.Core.Path.{sym, _∙_}
+use Rattle.base.specs.Limits.{ownLevel}
 use Rattle.words.specs.Orders.{sealRow}
 use borrow.Author.Needs.{needs}
 use Rattle.words.proofs.orders.check_seal.Statement.{statement}
@@ -30,7 +31,7 @@ returns-4 c =
       sym (c .before .before .before .before .before .beyond .ensures) ∙ c .before .before .before .before .if1 .left,
       sym (c .before .before .before .beyond2 .ensures) ∙ c .before .before .if2 .left,
       le-ltb _ _ (c .before .if3 .left),
-      lt-ltb 14 _ (c .if4 .taken),
+      lt-ltb ownLevel _ (c .if4 .taken),
     )
 
 returns-5 : tie.Need-returns-5
@@ -40,7 +41,7 @@ returns-5 c =
       sym (c .before .before .before .before .before .beyond .ensures) ∙ c .before .before .before .before .if1 .left,
       sym (c .before .before .before .beyond2 .ensures) ∙ c .before .before .if2 .left,
       le-ltb _ _ (c .before .if3 .left),
-      le-ltb 14 _ (c .if4 .left),
+      le-ltb ownLevel _ (c .if4 .left),
     )
 
 pub check-seal-spec : {M : Type 1} → statement M

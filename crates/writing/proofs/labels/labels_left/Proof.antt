@@ -2,6 +2,7 @@
 use Prim.Native.Nat.{_-_, _*_, _^_, _≤_, _<_}
 use native.Mathlib.Nat.{mul-le-mul-right}
 use native.Mathlib.Omega.{arith}
+use Rattle.base.specs.Limits.{maxDepth, maxChallenges}
 use Rattle.opening.proofs.StepLaws.{anew-small}
 use borrow.Author.Needs.{needs}
 use Rattle.writing.proofs.labels.labels_left.Statement.{statement}
@@ -11,12 +12,12 @@ use Rattle.writing.proofs.labels.labels_left.Tie as tie
 small : (c : tie.After-struct-known)
     →
     ((c .before .before .before .args .writing .count - c .before .before .before .args .writing .number) *
-    c .before .nodes-anew .result ≤ 200 * c .before .nodes-anew .result)
-    × (c .before .nodes-anew .result < 2 ^ 41)
+    c .before .nodes-anew .result ≤ maxChallenges * c .before .nodes-anew .result)
+    × (c .before .nodes-anew .result < 2 ^ (maxDepth + 1))
 small c =
     let s = c .before .before .before in
     let w = s .args .writing in (
-      mul-le-mul-right {m = w .count - w .number} {n = 200} (c .before .nodes-anew .result) (omega (arith, s .pre)),
+      mul-le-mul-right {m = w .count - w .number} {n = maxChallenges} (c .before .nodes-anew .result) (omega (arith, s .pre)),
       omega (arith, c .before .nodes-anew .ensures, anew-small (w .opening .depth) (w .opening .memory) (s .pre .0 .0)),
     )
 
