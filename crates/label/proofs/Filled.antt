@@ -12,6 +12,7 @@ use Rattle.base.proofs.BytesLaws.{length-bigEndian}
 use Rattle.base.proofs.Zeros.{filled-more}
 use Rattle.tree.specs.Nodes.{node}
 use Rattle.tree.specs.Labels.{inputHead}
+use Rattle.label.specs.Buffer.{inputSpace}
 
 -- the head of an input in a zeroed buffer of a given width
 module _ (width : ℕ) (room : 41 ≤ width) (statement : List ℕ) (level position : ℕ) (whole : length statement ≡ 32) (small : level < 256) where

@@ -7,6 +7,7 @@ use Rattle.verdict_lines.proofs.ChainLaws.{chain-in}
 use borrow.Author.Needs.{needs}
 use Rattle.commands.proofs.telling.tell_chain.Statement.{statement}
 use Rattle.commands.proofs.telling.tell_chain.Tie as tie
+use Rattle.planning.specs.Output.{maxOutput}
 
 put-drawing-requires : tie.Need-put-drawing-requires
 put-drawing-requires c κs =
