@@ -4,3 +4,4 @@ pub mod ListsLaws
 pub mod Copying
 pub mod Zeros
 pub mod WrittenLaws
+pub mod Parts

@@ -1,8 +1,9 @@
-// What every layer shares: specs/ has the words of the definitions; here are the limits, the one copy of bytes and numbers as bytes.
+// What every layer shares: specs/ has the words of the definitions; here are the limits, the one copy of bytes, numbers as bytes.
 ghost use mathlib.Core.Path.{_≡_};
-ghost use Prim.Native.Nat.{_+_, _≤_};
-ghost use lib.ListN.{length};
+ghost use Prim.Native.Nat.{_+_, _<_, _≤_, min};
+ghost use lib.ListN.{length, take, drop};
 ghost use Rattle.base.specs.Bytes.{bigEndian, written};
+ghost use Rattle.base.specs.Lists.{sameBytes};
 
 // Document 01's limits and the sizes that follow from them: specs/Limits.antt says what each one is.
 pub const MAX_DEPTH: u64 = 40;
@@ -61,4 +62,43 @@ pub fn big_endian(x: u64) -> [u8; 8]
         (x1 % 256) as u8,
         (x % 256) as u8,
     ]
+}
+
+pub fn smaller(x: u64, y: u64) -> u64
+    ensures { λ r. ⌜ r ≡ min x y ⌝ }
+{
+    if x < y { x } else { y }
+}
+
+// A byte as a number.
+pub fn wide(byte: u8) -> u64
+    ensures { λ r. ⌜ (r ≡ byte) × (r < 256) ⌝ }
+{
+    byte as u64
+}
+
+// Whether two lists of bytes of one length are the same.
+pub fn same(a: &[u8], b: &[u8]) -> bool
+    requires { ⌜ length (now a) ≡ length (now b) ⌝ }
+    ensures { λ r. ⌜ r ≡ sameBytes (now (a .entry)) (now (b .entry)) ⌝ }
+{
+    let mut i = 0;
+    while i < a.len() {
+        if a[i] != b[i] {
+            return false;
+        }
+        i += 1;
+    }
+    true
+}
+
+// The 32 bytes at a place.
+pub fn label_at(bytes: &[u8], at: usize) -> [u8; 32]
+    requires { ⌜ at + 32 ≤ length (now bytes) ⌝ }
+    ensures { λ r. ⌜ r ≡ take 32 (drop at (now (bytes .entry))) ⌝ }
+{
+    let end = at + 32;
+    let mut label = [0u8; 32];
+    put(&mut label, 0, &bytes[at..end]);
+    label
 }

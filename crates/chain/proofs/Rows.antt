@@ -4,17 +4,17 @@ use Prim.Native.Nat.{ℕ, _≤_, _<_}
 use native.Mathlib.Omega.{arith}
 use mathlib.Core.Bool.{Bool, true, false, not}
 use mathlib.Core.List.{List, [], _∷_}
-use lib.Dec.{ltb, leb}
+use lib.Dec.{ltb}
 use lib.ListN.{length}
-use borrow.Author.Tests.{lt-ltb, le-ltb, le-leb, lt-leb, leb-true, not-false}
+use borrow.Author.Tests.{lt-ltb, le-ltb, not-false}
 use Rattle.base.specs.Choice.{pick}
 use Rattle.base.specs.Bytes.{written}
 use Rattle.base.specs.Limits.{maxDepth, maxChallenges}
-use Rattle.base.proofs.ChoiceLaws.{both-second, both-false}
 use Rattle.refusal.specs.declared.Refusal.{Refusal}
 use Rattle.refusal.specs.declared.Refusal.the-variants.{ShortList}
 use Rattle.refusal.specs.Number.{numberOf}
 use Rattle.refusal.specs.Row.{outside}
+use Rattle.refusal.proofs.Ranges.{range-of}
 use Rattle.refusal.proofs.RowLaws.{NoneHolds, none-holds, row-refused, row-passed, not-done}
 use Rattle.chain_theory.specs.Ways.{chain}
 use Rattle.chain_theory.specs.Planning.{every, isLeaf, sorted, planFrom, plan}
@@ -23,18 +23,6 @@ use Rattle.chain_theory.proofs.Plan.{plan-chain}
 use Rattle.chain_theory.proofs.Bound.{leavesOpened-le, plan-length}
 use Rattle.chain.specs.PlanRow.{planRow, plannedCount, plannedList}
 use Rattle.chain.specs.Place.{Leaves, leavesRow}
-
-pub too-low : (low high x : ℕ) → x < low → outside low high x ≡ true
-too-low low high x h = rw (lt-leb low x h)
-
-pub too-high : (low high x : ℕ) → high < x → outside low high x ≡ true
-too-high low high x h = rw (lt-leb x high h, both-false (leb low x))
-
-pub in-range : (low high x : ℕ) → low ≤ x → x ≤ high → outside low high x ≡ false
-in-range low high x h k = rw (le-leb low x h, le-leb x high k)
-
-below : (low high x : ℕ) → outside low high x ≡ false → x ≤ high
-below low high x e = leb-true x high (both-second (leb low x) (leb x high) (not-false _ e))
 
 -- each exit of the first three checks
 module _ (n : ℕ) (leaves : List ℕ) where
@@ -70,8 +58,8 @@ module _ (n : ℕ) (leaves : List ℕ) (done : leavesRow n leaves ≡ 0) where
   leaves-known =
       record {
         depth =
-            below 1 maxDepth n (passed .0);
-        few = below 1 maxChallenges (length leaves) (passed .1 .0);
+            range-of 1 maxDepth n (passed .0) .1;
+        few = range-of 1 maxChallenges (length leaves) (passed .1 .0) .1;
         inside = not-false _
             (passed .1 .1 .0);
       }

@@ -124,7 +124,7 @@ fn level(statement: [u8; 32], depth: u64, memory: u64, count: u64, size: usize, 
     let mut file = file_space();
     let root = write_file(statement, depth, memory, count, &mut file);
     if size < 83269 {
-        column(vector_text::wide(file[size]));
+        column(base::wide(file[size]));
         vector_text::text(b"\n");
         file_lines(&mut file[..size], statement, depth, count, places);
     }

@@ -8,7 +8,7 @@ use borrow.Author.Tests.{le-ltb, eq-eqb}
 use Rattle.base.specs.Bytes.{joined}
 use Rattle.base.proofs.ListsLaws.{test-same, tells-bytes}
 use Rattle.tree.specs.Disagreement.{Given32}
-use Rattle.opening.specs.Rows.{openingSize}
+use Rattle.tree.specs.Openings.{openingSize}
 use Rattle.proof_file.specs.Challenge.{challengeLeaf}
 use Rattle.proof_file.specs.Layout.{headNumbers, fileSize, file}
 use Rattle.proof_file.specs.Head.{numbers, headOf, lengthFrom, statementAt, rootAt, openingAt}

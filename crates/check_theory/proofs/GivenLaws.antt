@@ -7,11 +7,10 @@ use lib.ListN.{length, drop, length-drop}
 use lib.Seq.{length-take-le}
 use Rattle.tree.specs.Nodes.{node}
 use Rattle.tree.specs.Labels.{Label, Rule}
-use Rattle.tree.specs.Openings.{Given, computed, inputAt, Right}
+use Rattle.tree.specs.Openings.{Given, computed, inputAt, Right, openingSize}
 use Rattle.tree.specs.TreeOpening.{leftGiven}
 use Rattle.tree.specs.Disagreement.{Given32}
 use Rattle.tree.proofs.OpeningLaws.{input-leaf}
-use Rattle.opening.specs.Rows.{openingSize}
 use Rattle.opening_check.specs.OpeningCheck.{givenBy}
 
 pub given-sized : (n : ℕ) (bytes : List ℕ) → length bytes ≡ openingSize n → Given32 n (givenBy bytes)

@@ -13,7 +13,7 @@ use Rattle.base.proofs.BytesLaws.{length-joined, joined-at}
 use Rattle.groups.specs.Groups.{groups}
 use Rattle.groups.specs.Reading.{value, readAt}
 use Rattle.groups.proofs.ReadBack.{read-written}
-use Rattle.opening.specs.Rows.{openingSize}
+use Rattle.tree.specs.Openings.{openingSize}
 use Rattle.proof_file.specs.Layout.{numberGroups, headNumbers, head, fileSize, file}
 use Rattle.proof_file.specs.Head.{numbers, headOf, statementAt, rootAt, openingAt}
 use Rattle.check_theory.specs.IsProof.{IsDepth, IsCount, nth}

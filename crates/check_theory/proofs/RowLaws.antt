@@ -14,9 +14,8 @@ use Rattle.base.proofs.ChoiceLaws.{both-first, both-second}
 use Rattle.base.proofs.ListsLaws.{test-same, tells-bytes}
 use Rattle.refusal.proofs.RowLaws.{NoneHolds, none-holds}
 use Rattle.refusal.specs.Row.{firstOf, outside}
-use Rattle.tree.specs.Openings.{LeafRight, RootRight}
+use Rattle.tree.specs.Openings.{LeafRight, RootRight, openingSize}
 use Rattle.label.specs.Rule.{stampRule}
-use Rattle.opening.specs.Rows.{openingSize}
 use Rattle.proof_file.specs.Challenge.{challengeRow}
 use Rattle.proof_file.specs.Layout.{fileSize, headRow}
 use Rattle.opening_check.specs.OpeningCheck.{givenBy, leafWrong, rootWrong, rightRow, openingRow}

@@ -17,7 +17,7 @@ use Rattle.refusal.specs.Row.{outside}
 use Rattle.groups.specs.Groups.{groups}
 use Rattle.groups.specs.Reading.{readAt}
 use Rattle.groups.proofs.ShortestOnly.{Shortest, only-shortest}
-use Rattle.opening.specs.Rows.{openingSize}
+use Rattle.tree.specs.Openings.{openingSize}
 use Rattle.proof_file.specs.Challenge.{challengeLeaf}
 use Rattle.proof_file.specs.Layout.{numberGroups, headNumbers, head, file}
 use Rattle.proof_file.specs.Head.{HeadAnswer, numbers, notRead, headOf, lengthFrom, statementAt, rootAt, openingAt}

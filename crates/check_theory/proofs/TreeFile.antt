@@ -13,13 +13,12 @@ use Rattle.base.specs.Lists.{EachOf}
 use Rattle.base.proofs.BytesLaws.{length-joined, joined-append, joined-at}
 use Rattle.tree.specs.Nodes.{root}
 use Rattle.tree.specs.Labels.{label}
-use Rattle.tree.specs.Openings.{siblings, openingNodes}
+use Rattle.tree.specs.Openings.{siblings, openingNodes, openingSize}
 use Rattle.tree.specs.TreeOpening.{treeOpening}
 use Rattle.tree.proofs.Labelling.{label-length}
 use Rattle.tree.proofs.OpeningLaws.{tree-right, tree-sized}
 use Rattle.groups.proofs.Steps.{lt-or-le}
 use Rattle.label.specs.Rule.{stampRule}
-use Rattle.opening.specs.Rows.{openingSize}
 use Rattle.proof_file.specs.Challenge.{challengeLeaf}
 use Rattle.proof_file.specs.Layout.{fileSize}
 use Rattle.opening_check.specs.OpeningCheck.{givenBy}

@@ -5,9 +5,8 @@ use mathlib.Core.List.{List, []}
 use lib.ListN.{length, getD}
 use Rattle.base.specs.Limits.{maxDepth, maxChallenges}
 use Rattle.base.specs.Lists.{EachOf}
-use Rattle.tree.specs.Openings.{Right}
+use Rattle.tree.specs.Openings.{Right, openingSize}
 use Rattle.label.specs.Rule.{stampRule}
-use Rattle.opening.specs.Rows.{openingSize}
 use Rattle.proof_file.specs.Challenge.{challengeLeaf}
 use Rattle.proof_file.specs.Layout.{file}
 use Rattle.opening_check.specs.OpeningCheck.{givenBy}

@@ -114,7 +114,7 @@ fn are_same(a: &[u8], b: &[u8]) -> bool
     if a.len() != b.len() {
         return false;
     }
-    opening_check::same(a, b)
+    base::same(a, b)
 }
 
 // Whether the file of that name has these bytes and no more.

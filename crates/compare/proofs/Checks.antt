@@ -13,8 +13,8 @@ use Rattle.refusal.specs.declared.Refusal.{Refusal}
 use Rattle.refusal.specs.Number.{numberOf}
 use Rattle.refusal.specs.Row.{firstOf, isDone}
 use Rattle.refusal.proofs.RowLaws.{NoneHolds, none-holds, row-refused, row-passed, not-done}
-use Rattle.opening.specs.Rows.{openingSize}
-use Rattle.opening_check.proofs.Ranges.{range-of}
+use Rattle.refusal.proofs.Ranges.{range-of}
+use Rattle.tree.specs.Openings.{openingSize}
 use Rattle.chain.specs.Place.{leavesRow}
 use Rattle.chain.proofs.Rows.{leavesChecks, passed}
 use Rattle.compare.specs.Comparison.{compareRow, compared, firstDisagreement}

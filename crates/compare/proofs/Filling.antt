@@ -20,13 +20,12 @@ use Rattle.chain.proofs.Writing.{written-append}
 use Rattle.sha256.specs.Digest.{digest}
 use Rattle.tree.specs.Nodes.{Node}
 use Rattle.tree.specs.Labels.{Label, Rule, labelBy, inputHead, documentInput}
-use Rattle.tree.specs.Openings.{Given, childLabels, computed}
+use Rattle.tree.specs.Openings.{Given, childLabels, computed, openingSize}
 use Rattle.tree.specs.Disagreement.{childrenKnown}
 use Rattle.tree.proofs.Clash.{children-known}
 use Rattle.label.specs.Rule.{stampRule}
-use Rattle.opening.specs.Rows.{openingSize}
 use Rattle.opening_check.specs.OpeningCheck.{givenBy}
-use Rattle.opening_check.proofs.Parts.{part-size, part-length}
+use Rattle.base.proofs.Parts.{part-size, part-length}
 use Rattle.compare.specs.Table.{partOf, RowOf, TableOf, rowSize, tableSize}
 
 -- ---- parts of one width

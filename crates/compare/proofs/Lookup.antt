@@ -15,10 +15,10 @@ use Rattle.base.proofs.ListsLaws.{tells-bytes, test-false}
 use Rattle.tree.specs.Labels.{Label, Rule, inputHead, documentInput}
 use Rattle.tree.specs.Disagreement.{Given32, wayNode, shared, childrenKnown}
 use Rattle.tree.proofs.Clash.{children-count, children-sized, input-children, labels-agree, labels-disagree, unshared-agrees}
+use Rattle.tree.specs.Openings.{openingSize}
 use Rattle.label.specs.Rule.{stampRule}
 use Rattle.label.proofs.RuleLaws.{stamp-hash}
-use Rattle.opening.specs.Rows.{openingSize}
-use Rattle.opening_check.proofs.Parts.{part-length}
+use Rattle.base.proofs.Parts.{part-length}
 use Rattle.compare.specs.declared.Pair.{Pair}
 use Rattle.compare.specs.declared.Pair.the-variants.{Agree, Disagree}
 use Rattle.compare.specs.FirstPair.{firstPair}

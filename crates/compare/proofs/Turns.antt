@@ -12,7 +12,7 @@ use Rattle.base.specs.Lists.{sameBytes}
 use Rattle.base.proofs.ChoiceLaws.{both-false}
 use Rattle.tree.specs.Disagreement.{shared}
 use Rattle.tree.proofs.Clash.{unshared-below}
-use Rattle.opening_check.proofs.Parts.{part-length}
+use Rattle.base.proofs.Parts.{part-length}
 use Rattle.compare.specs.declared.Pair.the-variants.{Agree, Disagree}
 use Rattle.compare.specs.FirstPair.{levelsFrom}
 use Rattle.compare.specs.Comparison.{leafOf}

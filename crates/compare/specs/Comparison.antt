@@ -9,11 +9,10 @@ use Rattle.base.specs.Bytes.{zeros}
 use Rattle.base.specs.Limits.{maxDepth, maxChallenges}
 use Rattle.refusal.specs.Row.{firstOf, outside, isDone}
 use Rattle.tree.specs.Labels.{Rule}
-use Rattle.tree.specs.Openings.{Given, inputAt}
+use Rattle.tree.specs.Openings.{Given, inputAt, openingSize}
 use Rattle.tree.specs.Disagreement.{wayNode, disagreeAt}
 use Rattle.chain_theory.specs.Planning.{every, isLeaf}
 use Rattle.label.specs.Rule.{stampRule}
-use Rattle.opening.specs.Rows.{openingSize}
 use Rattle.opening_check.specs.OpeningCheck.{givenBy}
 use Rattle.compare.specs.declared.Pair.{Pair}
 use Rattle.compare.specs.declared.Pair.the-variants.{Agree, Disagree}

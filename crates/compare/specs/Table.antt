@@ -11,10 +11,9 @@ use Rattle.base.specs.Bytes.{joined}
 use Rattle.base.specs.Lists.{sameBytes}
 use Rattle.base.specs.Limits.{maxDepth, maxChallenges}
 use Rattle.tree.specs.Labels.{Rule}
-use Rattle.tree.specs.Openings.{Given}
+use Rattle.tree.specs.Openings.{Given, openingSize}
 use Rattle.tree.specs.Disagreement.{shared, childrenKnown}
 use Rattle.label.specs.Rule.{stampRule}
-use Rattle.opening.specs.Rows.{openingSize}
 use Rattle.opening_check.specs.OpeningCheck.{givenBy}
 use Rattle.compare.specs.Comparison.{leafOf}
 

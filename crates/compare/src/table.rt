@@ -7,17 +7,16 @@ ghost use Rattle.base.specs.Bytes.{zeros, joined, written};
 ghost use Rattle.base.specs.Limits.{maxDepth};
 ghost use Rattle.tree.specs.Nodes.{node};
 ghost use Rattle.tree.specs.Labels.{labelBy};
-ghost use Rattle.tree.specs.Openings.{childLabels};
+ghost use Rattle.tree.specs.Openings.{childLabels, openingSize};
 ghost use Rattle.label.specs.Rule.{stampRule};
-ghost use Rattle.opening.specs.Rows.{openingSize};
 ghost use Rattle.opening_check.specs.OpeningCheck.{givenBy};
 ghost use Rattle.compare.specs.Comparison.{leafOf};
 ghost use Rattle.compare.specs.Table.{Sized, RowOf, TableOf, cell, rowSize, tableSize};
 use base::MAX_DEPTH;
 use base::MAX_LEAVES;
+use base::label_at;
 use base::put;
 use label::label;
-use opening_check::label_at;
 
 // The bytes of a row, and of the table.
 const ROW_SIZE: usize = 64 * MAX_DEPTH as usize;

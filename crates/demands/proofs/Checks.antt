@@ -11,22 +11,22 @@ use borrow.Author.Tests.{leb-true, leb-false}
 use Rattle.base.specs.Choice.{pick, both}
 use Rattle.base.specs.Bytes.{zeros}
 use Rattle.base.specs.Limits.{maxHashed}
-use Rattle.refusal.specs.Row.{outside, either}
+use Rattle.refusal.specs.Row.{outside, either, memoryOver}
 use Rattle.refusal.proofs.RowLaws.{some-refused}
 use Rattle.sha256.specs.declared.Hash.{Hash}
 use Rattle.sha256.specs.Portions.{newHash, tooMany, updateRow, updateState, finishRow, finishDigest, digestRow, digestAnswer}
 use Rattle.tree.specs.Walk.{nodesIn}
 use Rattle.tree.specs.Store.{storeSize}
-use Rattle.tree.specs.Openings.{LeafRight, RootRight}
+use Rattle.tree.specs.Openings.{LeafRight, RootRight, openingSize}
 use Rattle.label.specs.Rule.{stampRule}
 use Rattle.run.specs.declared.Run.{Run}
-use Rattle.run.specs.Rows.{memoryOver, impossible, startRow, continueRow}
+use Rattle.run.specs.Rows.{impossible, startRow, continueRow}
 use Rattle.run.specs.Steps as runs
 use Rattle.run.specs.Steps.{Stamped, stamped}
 use Rattle.opening.specs.Steps.{Open}
 use Rattle.opening.specs.Possible.{openOf}
 use Rattle.opening.specs.declared.Opening.{Opening}
-use Rattle.opening.specs.Rows.{openingSize, nodesAnew, openRow, reopenRow}
+use Rattle.opening.specs.Rows.{nodesAnew, openRow, reopenRow}
 use Rattle.opening.specs.Steps as openings
 use Rattle.opening_check.specs.OpeningCheck.{givenBy, leafWrong, rootWrong, openingRow}
 use Rattle.proof_file.specs.Challenge.{challengeRow, challenged}

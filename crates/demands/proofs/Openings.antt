@@ -19,10 +19,11 @@ use Rattle.tree.specs.Store.{slot, storeSize}
 use Rattle.tree.specs.Walk.{nodesIn}
 use Rattle.tree.specs.Labels.{Label}
 use Rattle.tree.proofs.Slots.{slot-inside}
+use Rattle.tree.specs.Openings.{openingSize}
 use Rattle.label.specs.Step.{nextNode, nextLabel, heldWith}
 use Rattle.label.proofs.RuleLaws.{digest-length}
 use Rattle.label.proofs.OneStep.{next-level}
-use Rattle.opening.specs.Rows.{openingSize, nodesAnew, reopenRow}
+use Rattle.opening.specs.Rows.{nodesAnew, reopenRow}
 use Rattle.opening.specs.Steps.{labelIn, ancestor, beside, placed, copied, copiedAll, Open, front, stepped, steps, labelsIn, advanced}
 use Rattle.opening.specs.Possible.{openingOf, openOf}
 use Rattle.opening.proofs.StepLaws.{anew-few, next-below}

@@ -10,7 +10,7 @@ use lib.ListN.{length, getD, drop}
 use Rattle.refusal.proofs.RowLaws.{some-refused}
 use Rattle.groups.specs.Groups.{groupsOf}
 use Rattle.groups.specs.Writing.{putRow, putCount, outputAfter}
-use Rattle.opening.specs.Rows.{openingSize}
+use Rattle.tree.specs.Openings.{openingSize}
 use Rattle.chain.specs.PlanRow.{planRow}
 use Rattle.planning.specs.Input as input
 use Rattle.planning.specs.Input.{readable, numbers, unreadable}

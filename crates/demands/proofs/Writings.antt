@@ -14,8 +14,9 @@ use Rattle.base.specs.Bytes.{zeros, written}
 use Rattle.base.proofs.ChoiceLaws.{both-false}
 use Rattle.base.proofs.Copying.{length-written}
 use Rattle.groups.proofs.Steps.{lt-or-le}
+use Rattle.tree.specs.Openings.{openingSize}
 use Rattle.opening.specs.declared.Opening.{Opening}
-use Rattle.opening.specs.Rows.{openingSize, nodesAnew}
+use Rattle.opening.specs.Rows.{nodesAnew}
 use Rattle.opening.specs.Steps as openings
 use Rattle.opening.specs.Possible.{openingOf, openOf}
 use Rattle.proof_file.specs.Challenge.{challengeLeaf}

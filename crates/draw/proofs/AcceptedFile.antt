@@ -15,10 +15,10 @@ use Rattle.refusal.specs.Number.{numberOf, codeOf}
 use Rattle.refusal.specs.Row.{isDone}
 use Rattle.refusal.proofs.Bounds.{number-some}
 use Rattle.refusal.proofs.RowLaws.{some-refused}
+use Rattle.tree.specs.Openings.{openingSize}
 use Rattle.chain_theory.specs.Ways.{chain}
 use Rattle.chain_theory.specs.Planning.{every, isLeaf}
-use Rattle.opening.specs.Rows.{openingSize}
-use Rattle.opening_check.proofs.Ranges.{in-range}
+use Rattle.refusal.proofs.Ranges.{in-range}
 use Rattle.proof_file.specs.Layout.{headNumbers}
 use Rattle.proof_file.specs.Head.{headOf, lengthFrom, rootAt}
 use Rattle.proof_file.specs.FileCheck.{foundIn, fileCheck}

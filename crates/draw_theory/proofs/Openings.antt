@@ -12,14 +12,13 @@ use borrow.Author.Tests.{lt-ltb, le-ltb}
 use Rattle.base.proofs.ChoiceLaws.{true-false}
 use Rattle.groups.proofs.Steps.{lt-or-le}
 use Rattle.tree.specs.Nodes.{Node, onWay}
-use Rattle.tree.specs.Openings.{Right}
+use Rattle.tree.specs.Openings.{Right, openingSize}
 use Rattle.tree.specs.Disagreement.{Given32, disagreeAt}
 use Rattle.tree.proofs.Among.{either, either-right}
 use Rattle.label.specs.Rule.{stampRule}
 use Rattle.chain_theory.specs.Ways.{onSomeWay}
 use Rattle.chain_theory.specs.Planning.{every, isLeaf}
 use Rattle.chain_theory.proofs.Lists.{at-every}
-use Rattle.opening.specs.Rows.{openingSize}
 use Rattle.opening_check.specs.OpeningCheck.{givenBy}
 use Rattle.proof_file.specs.Challenge.{challengeLeaf}
 use Rattle.proof_file.specs.Layout.{headNumbers}

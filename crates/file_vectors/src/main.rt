@@ -2,7 +2,7 @@
 // checked; and their openings read as parts. The stored output has the shared files' digests and an independent model's answers.
 mod parts; // parts.rt: openings read as parts
 
-use opening_check::label_at;
+use base::label_at;
 use parts::every_part;
 use proof_file::check_file_code;
 use refusal::outcome_number;

@@ -1,4 +1,5 @@
 // Numbers in seven-bit groups, read at a place of the caller's bytes and written there.
+use base::wide;
 use refusal::Outcome;
 use refusal::Refusal;
 ghost use mathlib.Core.Path.{_≡_};
@@ -31,13 +32,6 @@ pub struct Put {
 struct Laid {
     bytes: [u8; 10],
     count: usize,
-}
-
-// A byte as a number.
-fn wide(byte: u8) -> u64
-    ensures { λ r. ⌜ (r ≡ byte) × (r < 256) ⌝ }
-{
-    byte as u64
 }
 
 // How many groups may be read.

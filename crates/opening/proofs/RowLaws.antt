@@ -8,13 +8,14 @@ use borrow.Author.Tests.{ltb-false, leb-false}
 use lib.Dec.{ltb, leb}
 use lib.ListN.{length}
 use Rattle.base.specs.Limits.{maxDepth}
-use Rattle.refusal.specs.Row.{outside, either, isDone}
+use Rattle.refusal.specs.Row.{outside, either, isDone, memoryOver}
 use Rattle.tree.specs.Walk.{nodesIn}
 use Rattle.tree.specs.Store.{storeSize}
-use Rattle.run.specs.Rows.{memoryOver, impossible}
-use Rattle.run.proofs.RowLaws.{depth-some, depth-inside, memory-below, memory-inside, neither}
+use Rattle.tree.specs.Openings.{openingSize}
+use Rattle.run.specs.Rows.{impossible}
+use Rattle.refusal.proofs.Ranges.{depth-some, depth-inside, memory-below, memory-inside, neither}
 use Rattle.opening.specs.declared.Opening.{Opening}
-use Rattle.opening.specs.Rows.{openingSize, nodesAnew, openRow, reopenRow}
+use Rattle.opening.specs.Rows.{nodesAnew, openRow, reopenRow}
 use Rattle.opening.specs.Possible.{Possible, openOf}
 use Rattle.opening.specs.Steps.{newOpening, noOpening, copiedAll, started, startedOut, steps, labelsIn, advanced}
 

@@ -1,16 +1,13 @@
 -- Document 01's rows 'Starting an opening' and 'Continuing an opening'.
-use Prim.Native.Nat.{ℕ, _+_, _-_, _*_, _^_}
+use Prim.Native.Nat.{ℕ, _+_, _-_, _^_}
 use mathlib.Core.List.{[], _∷_}
 use lib.Dec.{ltb, leb}
 use Rattle.base.specs.Limits.{maxDepth}
-use Rattle.refusal.specs.Row.{firstOf, outside, either}
+use Rattle.refusal.specs.Row.{firstOf, outside, either, memoryOver}
+use Rattle.tree.specs.Openings.{openingSize}
 use Rattle.tree.specs.Store.{storeSize}
-use Rattle.run.specs.Rows.{memoryOver, impossible}
+use Rattle.run.specs.Rows.{impossible}
 use Rattle.opening.specs.declared.Opening.{Opening}
-
--- the bytes of an opening: 32 × (n + 1)
-abbrev pub openingSize : ℕ → ℕ
-openingSize n = 32 * (n + 1)
 
 -- the nodes that an opening labels anew: those strictly below the leaf's ancestor on level m
 abbrev pub nodesAnew : ℕ → ℕ → ℕ

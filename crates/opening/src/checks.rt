@@ -5,13 +5,15 @@ ghost use lib.Dec.{ltb, leb};
 ghost use Rattle.base.specs.Limits.{maxDepth};
 ghost use Rattle.refusal.specs.Row.{either};
 ghost use Rattle.refusal.specs.Number.{outcomeNumber};
+ghost use Rattle.tree.specs.Openings.{openingSize};
 ghost use Rattle.run.specs.Rows.{impossible};
-ghost use Rattle.opening.specs.Rows.{openingSize, nodesAnew, openRow, reopenRow};
+ghost use Rattle.opening.specs.Rows.{nodesAnew, openRow, reopenRow};
 use crate::Opening;
+use base::MAX_DEPTH;
 use refusal::Outcome;
 use refusal::Refusal;
-use run::depth_outside;
-use run::memory_over;
+use refusal::beyond;
+use refusal::memory_over;
 use run::nodes;
 use run::store_short;
 
@@ -40,7 +42,7 @@ fn output_short(depth: u64, out: usize) -> bool
 pub fn not_possible(depth: u64, memory: u64, made: u64, leaf: u64) -> bool
     ensures { λ r. ⌜ r ≡ either (impossible depth memory made (nodesAnew depth memory)) (leb (2 ^ depth) leaf) ⌝ }
 {
-    if depth_outside(depth) {
+    if beyond(MAX_DEPTH, depth) {
         return true;
     }
     if memory_over(depth, memory) {
@@ -56,7 +58,7 @@ pub fn not_possible(depth: u64, memory: u64, made: u64, leaf: u64) -> bool
 pub fn may_start(depth: u64, memory: u64, leaf: u64, store: usize, out: usize) -> Outcome
     ensures { λ r. ⌜ outcomeNumber r ≡ openRow depth memory leaf store out ⌝ }
 {
-    if depth_outside(depth) {
+    if beyond(MAX_DEPTH, depth) {
         return Outcome::Refused(Refusal::Depth);
     }
     if memory_over(depth, memory) {

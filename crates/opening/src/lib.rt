@@ -11,6 +11,7 @@ ghost use Rattle.opening.specs.Rows.{openRow, reopenRow};
 ghost use Rattle.opening.specs.Possible.{openOf};
 ghost use Rattle.opening.specs.Steps.{newOpening, started, startedOut, labelsIn, advanced};
 use base::HELD_SIZE;
+use base::smaller;
 use checks::may_continue;
 use checks::may_start;
 pub use checks::nodes_anew;
@@ -18,7 +19,6 @@ pub use checks::not_possible;
 use labels::label_many;
 use places::copy_held;
 use refusal::Outcome;
-use run::smaller;
 
 // Document 01's opening: a run's state with the leaf besides; count and held labels are those of the nodes labelled anew.
 #[repr(C)]

@@ -21,14 +21,13 @@ use Rattle.refusal.specs.Row.{outside}
 use Rattle.sha256.specs.Digest.{digest}
 use Rattle.tree.specs.Nodes.{node}
 use Rattle.tree.specs.Labels.{Label, labelBy, inputHead, documentInput}
-use Rattle.tree.specs.Openings.{Given, childLabels, computed, inputAt}
+use Rattle.tree.specs.Openings.{Given, childLabels, computed, inputAt, openingSize}
 use Rattle.tree.specs.TreeOpening.{leftGiven}
 use Rattle.tree.proofs.InputLengths.{ones-zero}
 use Rattle.tree.proofs.OpeningLaws.{halved, input-leaf}
 use Rattle.label.specs.Rule.{stampRule}
 use Rattle.label.proofs.Walking.{full}
-use Rattle.opening.specs.Rows.{openingSize}
-use Rattle.opening_check.proofs.Parts.{written-behind, part-size, part-length}
+use Rattle.base.proofs.Parts.{written-behind, part-size, part-length}
 use Rattle.opening_check.specs.OpeningCheck.{givenBy, rightRow, openingRow}
 
 -- ---- the leaf

@@ -10,9 +10,8 @@ use Rattle.base.specs.Limits.{maxDepth}
 use Rattle.refusal.specs.Row.{firstOf, outside}
 use Rattle.tree.specs.Nodes.{node}
 use Rattle.tree.specs.Labels.{Rule}
-use Rattle.tree.specs.Openings.{Given, computed, inputAt}
+use Rattle.tree.specs.Openings.{Given, computed, inputAt, openingSize}
 use Rattle.label.specs.Rule.{stampRule}
-use Rattle.opening.specs.Rows.{openingSize}
 
 -- an opening's bytes as the labels that it gives: place i takes 32 bytes from 32 × i
 abbrev pub givenBy : List ℕ → Given

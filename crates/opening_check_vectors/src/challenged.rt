@@ -1,6 +1,6 @@
 // The openings of the shared files' challenges, made at every memory level.
+use base::label_at;
 use opening::Opening;
-use opening_check::label_at;
 use proof_file::challenge;
 use sha256::Hash;
 use vector_runs::finished;

@@ -1,8 +1,8 @@
 // Openings checked upward to the root: as they were made, of a wrong length, and with a byte of each label changed.
 ghost use Prim.Native.Nat.{_≤_};
+use base::label_at;
 use opening::Opening;
 use opening_check::check_opening;
-use opening_check::label_at;
 use refusal::outcome_number;
 use vector_runs::finished;
 use vector_runs::hash;

@@ -15,7 +15,7 @@ use Rattle.base.proofs.ChoiceLaws.{both-first, both-second}
 use Rattle.refusal.specs.Row.{either, outside}
 use Rattle.chain_theory.specs.Planning.{every}
 use Rattle.chain.specs.PlanRow.{planRow}
-use Rattle.chain.proofs.Rows.{too-high}
+use Rattle.refusal.proofs.Ranges.{above-range}
 use Rattle.planning.specs.Input.{maxNumbers, readable, fits, numbers, unreadable}
 use Rattle.planning.specs.Output.{refusedText, answerText, planText, printed, maxOutput}
 use Rattle.planning.specs.Steps.{allFit, Wrote}
@@ -60,7 +60,7 @@ module _ (bytes : List ℕ) where
 -- more than 200 leaves are refused whichever they are
 too-many : (n : ℕ) (zs : List ℕ) → maxChallenges < length zs → planText n zs ≡ pick (outside 1 maxDepth n) (refusedText 1) (refusedText 8)
 unfolding planText planRow
-too-many n zs h = rw (too-high 1 maxChallenges (length zs) h) (go (outside 1 maxDepth n))
+too-many n zs h = rw (above-range 1 maxChallenges (length zs) h) (go (outside 1 maxDepth n))
   where
     go : (d : Bool) → answerText n zs (pick d 1 8) ≡ pick d (refusedText 1) (refusedText 8)
     go true = refl

@@ -7,6 +7,7 @@ ghost use Rattle.base.specs.Bytes.{zeros, written};
 ghost use Rattle.planning.specs.Input.{maxNumbers, numbers};
 ghost use Rattle.planning.specs.Steps.{Step, Wrote, allFit, ended};
 use base::MAX_LEAVES;
+use base::wide;
 
 // What a byte does to the number before it: it can be read, it is a digit, the value after it. The last two are decided where
 // it can be read, and nobody reads them elsewhere.
@@ -23,13 +24,6 @@ pub const MAX_NUMBERS: usize = MAX_LEAVES + 2;
 pub struct Numbers {
     pub list: [u64; MAX_NUMBERS],
     pub count: usize,
-}
-
-// A byte as a number.
-fn wide(byte: u8) -> u64
-    ensures { λ r. ⌜ (r ≡ byte) × (r < 256) ⌝ }
-{
-    byte as u64
 }
 
 fn step(byte: u64, value: u64) -> Stepped

@@ -17,13 +17,13 @@ use Rattle.refusal.specs.declared.Outcome.the-variants.{Done, Refused}
 use Rattle.refusal.specs.Number.{numberOf, outcomeNumber}
 use Rattle.refusal.specs.Row.{isDone}
 use Rattle.refusal.proofs.RowLaws.{not-done}
-use Rattle.opening.specs.Rows.{openingSize}
+use Rattle.tree.specs.Openings.{openingSize}
 use Rattle.proof_file.specs.Challenge.{challengeLeaf}
 use Rattle.proof_file.specs.Layout.{openingFrom}
 use Rattle.proof_file.specs.Head.{numbers, notRead, headOf, lengthFrom, statementAt, rootAt, openingAt}
 use Rattle.opening_check.specs.OpeningCheck.{rightRow}
 use Rattle.proof_file.specs.FileCheck.{foundIn, openingsFrom, wanted, fileRest, fileCheck}
-use Rattle.opening_check.proofs.Parts.{part-size}
+use Rattle.base.proofs.Parts.{part-size}
 
 -- ---- the openings: one refused, one right, none left
 module _ (bytes statement root : List ℕ) (n at i t start leaf : ℕ) (outcome : Outcome)

@@ -15,11 +15,11 @@ use Rattle.groups.specs.Reading.{Answer, value, refused, readAt}
 use Rattle.groups.proofs.Sizes.{length-groups-le}
 use Rattle.groups.proofs.Steps.{read-number}
 use Rattle.groups.proofs.ShortestOnly.{only-shortest}
-use Rattle.opening.specs.Rows.{openingSize}
+use Rattle.tree.specs.Openings.{openingSize}
 use Rattle.proof_file.specs.Head.{HeadAnswer, numbers, notRead, checked, headOf, lengthFrom, hasOpening, partStart, partLength, openingPart}
 use Rattle.proof_file.specs.HeadSteps.{countFrom, depthFrom}
-use Rattle.opening_check.proofs.Parts.{part-size}
-use Rattle.opening_check.proofs.Ranges.{range-of}
+use Rattle.base.proofs.Parts.{part-size}
+use Rattle.refusal.proofs.Ranges.{range-of}
 
 -- ---- a number: refused, bad, or followed by the next
 module _ (number : Answer) (bad : ℕ → Bool) (refusal : ℕ) (next : ℕ → ℕ → HeadAnswer) where

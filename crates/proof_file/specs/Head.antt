@@ -9,7 +9,7 @@ use Rattle.base.specs.Limits.{maxDepth, maxChallenges, edition}
 use Rattle.refusal.specs.Number.{numberOf}
 use Rattle.refusal.specs.Row.{outside}
 use Rattle.groups.specs.Reading.{Answer, value, refused, readAt}
-use Rattle.opening.specs.Rows.{openingSize}
+use Rattle.tree.specs.Openings.{openingSize}
 use Rattle.proof_file.specs.declared.HeadNumbers.{HeadNumbers}
 use Rattle.proof_file.specs.declared.HeadNumbers.the-variants.{Numbers, NotRead}
 use Rattle.proof_file.specs.Layout.{numberGroups, openingFrom}

@@ -7,8 +7,8 @@ use Rattle.base.specs.Choice.{pick}
 use Rattle.base.specs.Bytes.{joined, written}
 use Rattle.base.specs.Limits.{maxDepth, maxChallenges, edition}
 use Rattle.refusal.specs.Row.{firstOf, outside, isDone}
+use Rattle.tree.specs.Openings.{openingSize}
 use Rattle.groups.specs.Groups.{groups}
-use Rattle.opening.specs.Rows.{openingSize}
 
 -- a number of the file: at most two groups
 abbrev pub numberGroups : ℕ

@@ -10,21 +10,15 @@ use base::MAX_CHALLENGES;
 use base::MAX_DEPTH;
 use base::big_endian;
 use base::put;
-use opening_check::beyond;
+use base::wide;
 use refusal::Outcome;
 use refusal::Refusal;
+use refusal::beyond;
 
 // A challenge's outcome, and its leaf: 0, if refused.
 pub struct Challenged {
     pub outcome: Outcome,
     pub leaf: u64,
-}
-
-// A byte as a number.
-fn wide(byte: u8) -> u64
-    ensures { λ r. ⌜ (r ≡ byte) × (r < 256) ⌝ }
-{
-    byte as u64
 }
 
 // The hash of challenge i: over the statement, the word, the root and i in 4 bytes.

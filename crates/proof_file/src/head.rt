@@ -8,8 +8,8 @@ use base::MAX_CHALLENGES;
 use base::MAX_DEPTH;
 use groups::Cursor;
 use groups::Number;
-use opening_check::beyond;
 use refusal::Refusal;
+use refusal::beyond;
 
 // The count, after the depth.
 fn read_count(bytes: &[u8], n: u64, from: Cursor) -> HeadNumbers

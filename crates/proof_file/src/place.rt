@@ -3,14 +3,14 @@ ghost use mathlib.Core.Path.{_≡_};
 ghost use Prim.Native.Nat.{_+_, _≤_};
 ghost use Rattle.base.specs.Limits.{maxDepth, maxChallenges};
 ghost use Rattle.base.specs.Choice.{pick};
-ghost use Rattle.opening.specs.Rows.{openingSize};
+ghost use Rattle.tree.specs.Openings.{openingSize};
 ghost use Rattle.proof_file.specs.Layout.{openingFrom};
 ghost use Rattle.proof_file.specs.Head.{headOf, hasOpening, partStart, partLength, openingPart};
 use crate::HeadNumbers;
 use crate::head::read_head;
 use crate::sizes::file_length;
 use crate::sizes::opening_start;
-use opening_check::beyond;
+use refusal::beyond;
 
 // A part of the bytes; 0 and 0 where there is none.
 #[repr(C)]

@@ -11,9 +11,9 @@ use crate::sizes::file_length;
 use base::MAX_CHALLENGES;
 use base::MAX_DEPTH;
 use base::put;
-use opening_check::beyond;
 use refusal::Outcome;
 use refusal::Refusal;
+use refusal::beyond;
 
 // The length of the whole file: edition and depth take a byte each, the count one or two.
 pub fn file_size(n: u64, t: u64) -> usize

@@ -1,6 +1,8 @@
 // The refusals of document 01 and the answers that carry them.
 ghost use mathlib.Core.Path.{_≡_};
 ghost use Rattle.refusal.specs.Number.{numberOf, outcomeNumber, codeOf};
+ghost use Rattle.refusal.specs.Row.{outside, memoryOver};
+use base::MAX_MEMORY;
 
 // What was wrong. Document 01's number of each case is `numberOf` of specs/Number.antt.
 pub enum Refusal {
@@ -79,4 +81,27 @@ pub fn code(c: Check) -> u64
         Check::Accepted => 0,
         Check::Rejected(r, opening) => 256 * number(r) + (opening as u64),
     }
+}
+
+// Whether a number is not from 1 to the highest.
+pub fn beyond(high: u64, x: u64) -> bool
+    ensures { λ r. ⌜ r ≡ outside 1 high x ⌝ }
+{
+    if x < 1 {
+        return true;
+    }
+    if high < x {
+        return true;
+    }
+    false
+}
+
+// Whether a memory level is over the smaller of the depth and the limit.
+pub fn memory_over(depth: u64, memory: u64) -> bool
+    ensures { λ r. ⌜ r ≡ memoryOver depth memory ⌝ }
+{
+    if depth < memory {
+        return true;
+    }
+    MAX_MEMORY < memory
 }

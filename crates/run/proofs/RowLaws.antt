@@ -1,4 +1,4 @@
--- The tests of the two rows, and what is known of a run that may be continued.
+-- What is known of a run that may be continued.
 use mathlib.Core.Path.{_≡_, refl, sym}
 use mathlib.Core.Bool.{Bool, true, false, not}
 use mathlib.Core.List.{List}
@@ -8,56 +8,14 @@ use borrow.Author.Tests.{ltb-true, ltb-false, leb-true, leb-false, lt-ltb, le-lt
 use lib.Dec.{ltb, leb, lit≤}
 use lib.ListN.{length}
 use Rattle.base.specs.Limits.{maxDepth, maxMemory}
-use Rattle.base.proofs.ChoiceLaws.{both-first, both-second}
-use Rattle.refusal.specs.Row.{outside, either, isDone}
+use Rattle.refusal.specs.Row.{outside, either, isDone, memoryOver}
+use Rattle.refusal.proofs.Ranges.{depth-inside, memory-inside, neither}
 use Rattle.refusal.proofs.RowLaws.{passed}
 use Rattle.tree.specs.Walk.{nodesIn}
 use Rattle.tree.specs.Store.{storeSize}
 use Rattle.run.specs.declared.Run.{Run}
-use Rattle.run.specs.Rows.{memoryOver, impossible, startRow, continueRow}
+use Rattle.run.specs.Rows.{impossible, startRow, continueRow}
 use Rattle.run.specs.Steps.{newRun, noRun, started, stamped, steps, labelsIn, advanced}
-
-not-leb : (a b : ℕ) → ltb b a ≡ not (leb a b)
-not-leb a b = by (leb a b) refl
-  where
-    by : (t : Bool) → leb a b ≡ t → ltb b a ≡ not t
-    by true e = le-ltb b a (leb-true a b e)
-    by false e = lt-ltb b a (leb-false a b e)
-
--- n not 1..40
-pub no-depth : (n : ℕ) → n < 1 → true ≡ outside 1 maxDepth n
-no-depth n h = rw (lt-leb 1 n h)
-
-pub great-depth : (n : ℕ) → 1 ≤ n → ltb maxDepth n ≡ outside 1 maxDepth n
-great-depth n h = rw (le-leb 1 n h) (not-leb n maxDepth)
-
-pub depth-some : (n : ℕ) → outside 1 maxDepth n ≡ false → 1 ≤ n
-depth-some n e = leb-true 1 n (both-first (leb 1 n) (leb n maxDepth) (not-false _ e))
-
-pub depth-inside : (n : ℕ) → outside 1 maxDepth n ≡ false → n ≤ maxDepth
-depth-inside n e = leb-true n maxDepth (both-second (leb 1 n) (leb n maxDepth) (not-false _ e))
-
--- m over min(n, 20)
-pub over-depth : (n m : ℕ) → n < m → true ≡ memoryOver n m
-over-depth n m h = sym (lt-ltb (min n maxMemory) m (omega arith))
-
-pub over-memory : (n m : ℕ) → m ≤ n → ltb maxMemory m ≡ memoryOver n m
-over-memory n m h = by (ltb maxMemory m) refl
-  where
-    by : (t : Bool) → ltb maxMemory m ≡ t → t ≡ memoryOver n m
-    by true e = sym (lt-ltb (min n maxMemory) m (omega (arith, ltb-true maxMemory m e)))
-    by false e = sym (le-ltb (min n maxMemory) m (omega (arith, ltb-false maxMemory m e)))
-
-pub memory-below : (n m : ℕ) → memoryOver n m ≡ false → m ≤ n
-memory-below n m e = omega (arith, ltb-false (min n maxMemory) m e)
-
-pub memory-inside : (n m : ℕ) → memoryOver n m ≡ false → m ≤ maxMemory
-memory-inside n m e = omega (arith, ltb-false (min n maxMemory) m e)
-
--- neither holds
-pub neither : (a b : Bool) → either a b ≡ false → (a ≡ false) × (b ≡ false)
-neither true b e = (e, cc)
-neither false b e = (refl, e)
 
 -- a run that can be
 pub record Possible (n m made : ℕ) : Type 0 where

@@ -1,17 +1,13 @@
 -- Document 01's rows 'Starting a run' and 'Continuing a run'.
-use Prim.Native.Nat.{ℕ, min}
+use Prim.Native.Nat.{ℕ}
 use mathlib.Core.Bool.{Bool}
 use mathlib.Core.List.{[], _∷_}
 use lib.Dec.{ltb}
-use Rattle.base.specs.Limits.{maxDepth, maxMemory}
-use Rattle.refusal.specs.Row.{firstOf, outside, either}
+use Rattle.base.specs.Limits.{maxDepth}
+use Rattle.refusal.specs.Row.{firstOf, outside, memoryOver, either}
 use Rattle.tree.specs.Walk.{nodesIn}
 use Rattle.tree.specs.Store.{storeSize}
 use Rattle.run.specs.declared.Run.{Run}
-
--- m over min(n, 20)
-abbrev pub memoryOver : ℕ → ℕ → Bool
-memoryOver n m = ltb (min n maxMemory) m
 
 -- 1: n not 1..40; 2: m over min(n, 20); 3: store short
 unfoldable pub startRow : ℕ → ℕ → ℕ → ℕ

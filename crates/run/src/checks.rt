@@ -4,15 +4,16 @@ ghost use Prim.Native.Nat.{_≤_};
 ghost use lib.Dec.{ltb};
 ghost use Rattle.base.specs.Limits.{maxDepth, maxMemory};
 ghost use Rattle.refusal.specs.Number.{outcomeNumber};
-ghost use Rattle.refusal.specs.Row.{outside};
+ghost use Rattle.refusal.specs.Row.{outside, memoryOver};
 ghost use Rattle.tree.specs.Walk.{nodesIn};
 ghost use Rattle.tree.specs.Store.{storeSize};
-ghost use Rattle.run.specs.Rows.{memoryOver, impossible, startRow, continueRow};
+ghost use Rattle.run.specs.Rows.{impossible, startRow, continueRow};
 use crate::Run;
 use base::MAX_DEPTH;
-use base::MAX_MEMORY;
 use refusal::Outcome;
 use refusal::Refusal;
+use refusal::beyond;
+use refusal::memory_over;
 
 // The number of nodes of a tree.
 pub fn nodes(depth: u64) -> u64
@@ -20,24 +21,6 @@ pub fn nodes(depth: u64) -> u64
     ensures { λ r. ⌜ r ≡ nodesIn depth ⌝ }
 {
     2 * (1u64 << depth) - 1
-}
-
-pub fn depth_outside(depth: u64) -> bool
-    ensures { λ r. ⌜ r ≡ outside 1 maxDepth depth ⌝ }
-{
-    if depth < 1 {
-        return true;
-    }
-    MAX_DEPTH < depth
-}
-
-pub fn memory_over(depth: u64, memory: u64) -> bool
-    ensures { λ r. ⌜ r ≡ memoryOver depth memory ⌝ }
-{
-    if depth < memory {
-        return true;
-    }
-    MAX_MEMORY < memory
 }
 
 pub fn store_short(memory: u64, store: usize) -> bool
@@ -51,7 +34,7 @@ pub fn store_short(memory: u64, store: usize) -> bool
 fn not_possible(depth: u64, memory: u64, made: u64) -> bool
     ensures { λ r. ⌜ r ≡ impossible depth memory made (nodesIn depth) ⌝ }
 {
-    if depth_outside(depth) {
+    if beyond(MAX_DEPTH, depth) {
         return true;
     }
     if memory_over(depth, memory) {
@@ -64,7 +47,7 @@ fn not_possible(depth: u64, memory: u64, made: u64) -> bool
 pub fn may_start(depth: u64, memory: u64, store: usize) -> Outcome
     ensures { λ r. ⌜ outcomeNumber r ≡ startRow depth memory store ⌝ }
 {
-    if depth_outside(depth) {
+    if beyond(MAX_DEPTH, depth) {
         return Outcome::Refused(Refusal::Depth);
     }
     if memory_over(depth, memory) {

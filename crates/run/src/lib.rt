@@ -6,13 +6,10 @@ ghost use mathlib.Core.Path.{_≡_};
 ghost use lib.ListN.{length};
 ghost use Rattle.refusal.specs.Number.{outcomeNumber};
 ghost use Rattle.run.specs.Rows.{startRow, continueRow};
-ghost use Prim.Native.Nat.{min};
 ghost use Rattle.run.specs.Steps.{newRun, started, stamped, labelsIn, advanced};
 use base::HELD_SIZE;
-pub use checks::depth_outside;
 use checks::may_continue;
 use checks::may_start;
-pub use checks::memory_over;
 pub use checks::nodes;
 pub use checks::store_short;
 use labels::label_many;
@@ -39,12 +36,6 @@ pub struct Advanced {
     pub outcome: Outcome,
     pub labels: u64,
     pub run: Run,
-}
-
-pub fn smaller(x: u64, y: u64) -> u64
-    ensures { λ r. ⌜ r ≡ min x y ⌝ }
-{
-    if x < y { x } else { y }
 }
 
 fn new_run(statement: [u8; 32], depth: u64, memory: u64) -> Run

@@ -5,9 +5,9 @@ use native.Mathlib.Omega.{arith}
 use mathlib.Core.List.{List, _++_}
 use lib.ListN.{length, drop}
 use Rattle.tree.specs.Walk.{nodesIn}
-use Rattle.tree.specs.Openings.{openingNodes}
+use Rattle.tree.specs.Openings.{openingNodes, openingSize}
 use Rattle.run.specs.Steps.{Stamped, steps}
-use Rattle.opening.specs.Rows.{openingSize, nodesAnew}
+use Rattle.opening.specs.Rows.{nodesAnew}
 use Rattle.opening.specs.Steps as opening
 use Rattle.run_theory.specs.Reached.{labelsOf}
 use Rattle.run_theory.specs.Calls.{total, afterCalls}

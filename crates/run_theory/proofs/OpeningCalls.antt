@@ -12,12 +12,11 @@ use Rattle.base.specs.Choice.{pick, both}
 use Rattle.base.specs.Limits.{maxDepth, maxMemory}
 use Rattle.base.proofs.ChoiceLaws.{both-first, both-second}
 use Rattle.refusal.proofs.RowLaws.{NoneHolds, none-holds}
-use Rattle.refusal.specs.Row.{outside}
+use Rattle.refusal.specs.Row.{outside, memoryOver}
 use Rattle.tree.specs.Store.{storeSize}
-use Rattle.tree.specs.Openings.{openingNodes}
-use Rattle.run.specs.Rows.{memoryOver}
+use Rattle.tree.specs.Openings.{openingNodes, openingSize}
 use Rattle.opening.specs.declared.Opening.{Opening}
-use Rattle.opening.specs.Rows.{openingSize, nodesAnew, openRow, reopenRow}
+use Rattle.opening.specs.Rows.{nodesAnew, openRow, reopenRow}
 use Rattle.opening.specs.Steps.{copiedAll, newOpening, started, startedOut, Open, steps, labelsIn, advanced}
 use Rattle.run_theory.specs.Reached.{labelsOf}
 use Rattle.run_theory.specs.Openings.{HoldsLabels, Openable, openingAfter, outAfter, newOpen, openAfter}

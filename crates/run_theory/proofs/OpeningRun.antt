@@ -19,13 +19,13 @@ use Rattle.tree.specs.Nodes.{Node, node, root, orderBelow, leftSiblings}
 use Rattle.tree.specs.Labels.{Label}
 use Rattle.tree.specs.Walk.{nodesIn}
 use Rattle.tree.specs.Held.{among}
-use Rattle.tree.specs.Openings.{siblings, openingNodes}
+use Rattle.tree.specs.Openings.{siblings, openingNodes, openingSize}
 use Rattle.tree.specs.TreeOpening.{treeOpening}
 use Rattle.tree.proofs.Order.{order-length}
 use Rattle.tree.proofs.OpeningLaws.{left-siblings-same, tree-leaf, tree-sibling}
 use Rattle.label.specs.Rule.{stampRule}
 use Rattle.label.specs.Step.{nextNode, nextLabel, heldWith}
-use Rattle.opening.specs.Rows.{openingSize, nodesAnew}
+use Rattle.opening.specs.Rows.{nodesAnew}
 use Rattle.opening.specs.Steps.{labelIn, ancestor, beside, placed, copied, copiedAll, front, stepped, steps}
 use Rattle.run_theory.specs.Reached.{labelOf, labelsOf, heldBytes}
 use Rattle.run_theory.specs.Openings.{HoldsLabels, openingNode, besides, copiedNodes, anewNodes, outWith, outAfter, newOpen, openAfter}

@@ -17,10 +17,9 @@ use Rattle.base.proofs.WrittenLaws.{written-here, written-apart}
 use Rattle.tree.specs.Nodes.{Node, node, sameNode}
 use Rattle.tree.specs.Held.{among}
 use Rattle.tree.specs.Labels.{Label}
-use Rattle.tree.specs.Openings.{sibling}
+use Rattle.tree.specs.Openings.{sibling, openingSize}
 use Rattle.tree.proofs.Among.{sameNode-true, sameNode-refl, false-if-not, true-not-false, among-here, among-there}
 use Rattle.tree.proofs.OpeningLaws.{sibling-differs}
-use Rattle.opening.specs.Rows.{openingSize}
 use Rattle.opening.specs.Steps.{beside, placed}
 use Rattle.run_theory.specs.Reached.{labelOf}
 use Rattle.run_theory.specs.Openings.{openingNode, outWith}

@@ -7,10 +7,9 @@ use lib.ListN.{take}
 use Rattle.base.specs.Choice.{pick}
 use Rattle.base.specs.Limits.{maxDepth, maxMemory}
 use Rattle.tree.specs.Nodes.{Node, node, InTree, orderBelow}
-use Rattle.tree.specs.Openings.{sibling}
+use Rattle.tree.specs.Openings.{sibling, openingSize}
 use Rattle.tree.specs.Store.{storeSize}
 use Rattle.opening.specs.declared.Opening.{Opening}
-use Rattle.opening.specs.Rows.{openingSize}
 use Rattle.opening.specs.Steps.{labelIn, ancestor, beside, placed, copiedAll, newOpening, Open}
 use Rattle.run_theory.specs.Reached.{labelOf, heldBytes}
 

@@ -1,9 +1,9 @@
 // Runs to their end at several budgets and memory levels. The stored output has the roots and store digests of the shared
 // vectors, and of an independent model.
+use base::wide;
 use run::Run;
 use vector_runs::hash;
 use vector_runs::run_to_end;
-use vector_text::wide;
 
 // Room for memory level 14 and a byte more, which no run may touch.
 fn dirty_store() -> [u8; 1048545] {

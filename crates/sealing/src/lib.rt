@@ -13,9 +13,9 @@ ghost use Rattle.run.specs.Steps.{steps};
 ghost use Rattle.run_theory.specs.Runs.{atStart};
 ghost use Rattle.check_theory.specs.TreeFile.{rootOf, treeFile};
 ghost use Rattle.writing_theory.specs.Filed.{Writable, labelsAnew};
+use base::label_at;
 use labelling::label_tree;
 use opening_all::write_openings;
-use opening_check::label_at;
 pub use portions::all_labels;
 use portions::portion_of;
 

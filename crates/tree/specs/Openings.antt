@@ -1,6 +1,6 @@
 -- Document 01: the opening of a leaf, when it is right, and the hash input that it gives at each node on the leaf's way.
 use mathlib.Core.Path.{_≡_}
-use Prim.Native.Nat.{ℕ, zero, suc, _+_, _-_, _/_, _^_}
+use Prim.Native.Nat.{ℕ, zero, suc, _+_, _-_, _*_, _/_, _^_}
 use mathlib.Core.Bool.{Bool}
 use mathlib.Core.List.{List, [], _∷_, map}
 use Rattle.base.specs.Choice.{pick, odd}
@@ -19,6 +19,10 @@ siblings (suc l) p = node (suc l) (sibling p) ∷ siblings l (p / 2)
 -- 'An opening is the leaf's label, then its path's siblings from level n to level 1.'
 unfoldable pub openingNodes : ℕ → ℕ → List Node
 openingNodes n leaf = node n leaf ∷ siblings n leaf
+
+-- '32 × (n + 1) bytes'
+abbrev pub openingSize : ℕ → ℕ
+openingSize n = 32 * (n + 1)
 
 -- An opening as given: the label at each of its places, the leaf's at place 0 and at place h + 1 the sibling's of height h
 -- above the leaves. It need not be right.

@@ -10,7 +10,7 @@ ghost use Rattle.sha256.specs.Portions.{newHash, updatedAll, finishDigest};
 ghost use Rattle.vector_runs.specs.Whole.{wholeRun, wholeFile, leavesTo};
 use base::MAX_LEAVES;
 use base::big_endian;
-use opening_check::label_at;
+use base::label_at;
 use proof_file::challenge;
 use run::Run;
 use sha256::Hash;

@@ -13,4 +13,3 @@ pub use vectors::digest;
 pub use vectors::field;
 pub use vectors::is_comment;
 pub use vectors::line_end;
-pub use vectors::wide;

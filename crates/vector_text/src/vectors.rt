@@ -4,13 +4,7 @@ ghost use Prim.Native.Nat.{_/_, _<_, _≤_, min};
 ghost use lib.ListN.{length};
 ghost use Rattle.base.specs.Bytes.{zeros, written};
 ghost use Rattle.vector_text.specs.Text.{endFrom, isComment, fieldStart, fieldOf, digitValue, spelled, decimalFrom};
-
-// A byte as a number.
-pub fn wide(byte: u8) -> u64
-    ensures { λ r. ⌜ r ≡ byte ⌝ }
-{
-    byte as u64
-}
+use base::wide;
 
 // The value of a hexadecimal digit.
 fn digit(byte: u8) -> u64

@@ -28,7 +28,7 @@ pub fn put_chain(
     ensures { λ r. ⌜ Wrote (now (out .entry)) 0 (planText depth (leavesOf (now (file .entry)) statement depth count)) (now (out .exit)) r ⌝ }
 {
     let at = draw::numbers_end(file);
-    let root = opening_check::label_at(file, at + 32);
+    let root = base::label_at(file, at + 32);
     let leaves = draw::challenge_leaves(depth, statement, root, count);
     let t = count as usize;
     planning::put_plan(depth, &leaves[..t], codes, out)

@@ -13,7 +13,7 @@ use crate::values::value;
 use base::MAX_CHALLENGES;
 use base::MAX_DEPTH;
 use base::OWN_LEVEL;
-use opening_check::beyond;
+use refusal::beyond;
 
 fn is_word(word: &[u8], name: &[u8]) -> bool
     ensures { λ r. ⌜ r ≡ sameBytes (now (word .entry)) (now (name .entry)) ⌝ }
@@ -21,7 +21,7 @@ fn is_word(word: &[u8], name: &[u8]) -> bool
     if word.len() != name.len() {
         return false;
     }
-    opening_check::same(word, name)
+    base::same(word, name)
 }
 
 fn kind_of(word: &[u8]) -> u64
@@ -152,7 +152,7 @@ fn memory_in(line: &[u8], all: usize, depth: u64) -> u64
     ensures { λ r. ⌜ r ≡ memoryIn (now (line .entry)) all depth ⌝ }
 {
     if all < 6 {
-        return run::smaller(depth, OWN_LEVEL);
+        return base::smaller(depth, OWN_LEVEL);
     }
     value(word(line, 5))
 }

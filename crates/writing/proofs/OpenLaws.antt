@@ -10,10 +10,11 @@ use Rattle.base.specs.Choice.{pick}
 use Rattle.base.specs.Bytes.{written}
 use Rattle.base.proofs.Copying.{length-written}
 use Rattle.tree.specs.Nodes.{Node, node, sameNode}
+use Rattle.tree.specs.Openings.{openingSize}
 use Rattle.label.specs.Step.{nextNode, nextLabel}
 use Rattle.label.proofs.RuleLaws.{digest-length}
 use Rattle.opening.specs.declared.Opening.{Opening}
-use Rattle.opening.specs.Rows.{openingSize, nodesAnew}
+use Rattle.opening.specs.Rows.{nodesAnew}
 use Rattle.opening.specs.Possible.{openOf}
 use Rattle.opening.specs.Steps.{Open, ancestor, beside, placed, front, stepped, steps, labelsIn, advanced}
 use Rattle.opening.proofs.StepLaws.{anew-few, next-below}

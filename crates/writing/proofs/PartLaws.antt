@@ -8,8 +8,8 @@ use lib.ListN.{length, take, drop, take-append-drop}
 use lib.Seq.{take-add, drop-drop, length-take-le}
 use Rattle.base.specs.Bytes.{written}
 use Rattle.base.proofs.WrittenLaws.{written-over}
-use Rattle.opening_check.proofs.Parts.{part-length}
-use Rattle.opening.specs.Rows.{openingSize}
+use Rattle.base.proofs.Parts.{part-length}
+use Rattle.tree.specs.Openings.{openingSize}
 use Rattle.proof_file.specs.Layout.{headSize, openingFrom, fileSize}
 use Rattle.proof_file.proofs.HeadLaws.{opening-inside}
 

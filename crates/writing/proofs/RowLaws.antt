@@ -7,9 +7,9 @@ use borrow.Author.Tests.{ltb-false, leb-false}
 use lib.Dec.{ltb, leb}
 use lib.ListN.{length}
 use Rattle.base.specs.Limits.{maxDepth, maxMemory, maxChallenges}
-use Rattle.refusal.specs.Row.{outside, either, isDone}
-use Rattle.run.specs.Rows.{memoryOver, impossible}
-use Rattle.run.proofs.RowLaws.{neither}
+use Rattle.refusal.specs.Row.{outside, either, isDone, memoryOver}
+use Rattle.run.specs.Rows.{impossible}
+use Rattle.refusal.proofs.Ranges.{neither}
 use Rattle.opening.specs.declared.Opening.{Opening}
 use Rattle.opening.specs.Rows.{nodesAnew}
 use Rattle.check_theory.proofs.RowLaws.{bounds}

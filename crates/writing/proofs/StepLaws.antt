@@ -11,8 +11,9 @@ use lib.Dec.{ltb}
 use lib.ListN.{length}
 use Rattle.base.proofs.WrittenLaws.{written-here}
 use Rattle.groups.proofs.Steps.{lt-or-le}
-use Rattle.opening_check.proofs.Parts.{part-length}
-use Rattle.opening.specs.Rows.{openingSize, nodesAnew}
+use Rattle.base.proofs.Parts.{part-length}
+use Rattle.tree.specs.Openings.{openingSize}
+use Rattle.opening.specs.Rows.{nodesAnew}
 use Rattle.opening.specs.Steps as openings
 use Rattle.opening.specs.Possible.{openOf}
 use Rattle.proof_file.specs.Layout.{headSize, openingFrom}

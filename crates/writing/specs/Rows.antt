@@ -5,9 +5,9 @@ use mathlib.Core.List.{[], _∷_}
 use lib.Dec.{ltb, leb, eqb}
 use Rattle.base.specs.Choice.{both}
 use Rattle.base.specs.Limits.{maxDepth, maxChallenges}
-use Rattle.refusal.specs.Row.{firstOf, outside, either}
+use Rattle.refusal.specs.Row.{firstOf, outside, either, memoryOver}
 use Rattle.tree.specs.Store.{storeSize}
-use Rattle.run.specs.Rows.{memoryOver, impossible}
+use Rattle.run.specs.Rows.{impossible}
 use Rattle.opening.specs.declared.Opening.{Opening}
 use Rattle.opening.specs.Rows.{nodesAnew}
 use Rattle.proof_file.specs.Layout.{fileSize}

@@ -8,8 +8,9 @@ use lib.ListN.{length, take, drop}
 use Rattle.base.specs.Choice.{pick, both}
 use Rattle.base.specs.Bytes.{zeros, written}
 use Rattle.refusal.specs.Row.{isDone}
+use Rattle.tree.specs.Openings.{openingSize}
 use Rattle.opening.specs.declared.Opening.{Opening}
-use Rattle.opening.specs.Rows.{openingSize, nodesAnew}
+use Rattle.opening.specs.Rows.{nodesAnew}
 use Rattle.opening.specs.Steps as openings
 use Rattle.proof_file.specs.Challenge.{challengeLeaf}
 use Rattle.proof_file.specs.Layout.{head, headSize, openingFrom}

@@ -6,20 +6,20 @@ ghost use Rattle.writing.specs.Possible.{stateOutside};
 use crate::Writing;
 use crate::labels::may_follow;
 use base::MAX_CHALLENGES;
+use base::MAX_DEPTH;
 use opening::nodes_anew;
 use opening::not_possible;
-use opening_check::beyond;
 use proof_file::file_size;
 use refusal::Outcome;
 use refusal::Refusal;
-use run::depth_outside;
-use run::memory_over;
+use refusal::beyond;
+use refusal::memory_over;
 use run::store_short;
 
 pub fn may_start(depth: u64, memory: u64, count: u64, store: usize, file: usize) -> Outcome
     ensures { λ r. ⌜ outcomeNumber r ≡ writeRow depth memory count store file ⌝ }
 {
-    if depth_outside(depth) {
+    if beyond(MAX_DEPTH, depth) {
         return Outcome::Refused(Refusal::Depth);
     }
     if memory_over(depth, memory) {

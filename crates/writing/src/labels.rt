@@ -12,9 +12,9 @@ ghost use Rattle.writing.specs.Steps.{mayFollow, followed, newWriting, s
 use crate::Writing;
 use crate::parts::begin;
 use crate::parts::label_part;
+use base::smaller;
 use opening::nodes_anew;
 use proof_file::write_head;
-use run::smaller;
 
 // The opening under way is done and is not the last.
 pub fn may_follow(made: u64, anew: u64, number: u64, count: u64) -> bool

@@ -10,6 +10,7 @@ ghost use Rattle.writing.specs.Rows.{writeRow, rewriteRow};
 ghost use Rattle.writing.specs.Possible.{writtenOf};
 ghost use Rattle.writing.specs.Steps.{noWriting, started, labelsIn, advanced};
 use base::HELD_SIZE;
+use base::smaller;
 use checks::may_continue;
 use checks::may_start;
 use labels::label_many;
@@ -17,7 +18,6 @@ use labels::labels_left;
 use labels::write_first;
 use opening::Opening;
 use refusal::Outcome;
-use run::smaller;
 
 // A file under writing: its root and count, the number of the opening under way, from 1, and that opening.
 #[repr(C)]

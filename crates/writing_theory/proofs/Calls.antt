@@ -5,7 +5,8 @@ use native.Mathlib.Nat.{zero-add, sub-zero}
 use native.Mathlib.Omega.{arith}
 use mathlib.Core.List.{List, _++_}
 use lib.ListN.{length, take, drop, length-append, length-drop}
-use Rattle.opening.specs.Rows.{openingSize, nodesAnew}
+use Rattle.tree.specs.Openings.{openingSize}
+use Rattle.opening.specs.Rows.{nodesAnew}
 use Rattle.proof_file.specs.Layout.{fileSize}
 use Rattle.proof_file.specs.FileCheck.{fileCheck}
 use Rattle.run_theory.specs.Calls.{total, afterCalls, labelsOver}

@@ -14,7 +14,8 @@ use borrow.Author.Tests.{eq-eqb, ne-eqb, lt-ltb, le-ltb}
 use Rattle.base.proofs.ChoiceLaws.{both-false}
 use Rattle.base.proofs.WrittenLaws.{written-over}
 use Rattle.groups.proofs.Steps.{lt-or-le}
-use Rattle.opening.specs.Rows.{openingSize, nodesAnew}
+use Rattle.tree.specs.Openings.{openingSize}
+use Rattle.opening.specs.Rows.{nodesAnew}
 use Rattle.opening.specs.Steps.{Open, copiedAll}
 use Rattle.proof_file.specs.Layout.{fileSize}
 use Rattle.proof_file.specs.FileCheck.{fileCheck}

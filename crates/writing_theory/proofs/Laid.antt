@@ -10,7 +10,7 @@ use lib.Seq.{take-at, length-take-le, drop-drop}
 use Rattle.base.specs.Limits.{maxDepth}
 use Rattle.base.specs.Bytes.{joined, written}
 use Rattle.tree.specs.Nodes.{root}
-use Rattle.opening.specs.Rows.{openingSize}
+use Rattle.tree.specs.Openings.{openingSize}
 use Rattle.proof_file.specs.Layout.{head, headSize, openingFrom, fileSize, file}
 use Rattle.proof_file.specs.FileCheck.{fileCheck}
 use Rattle.run_theory.proofs.Step.{label-size}

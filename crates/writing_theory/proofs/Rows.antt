@@ -7,10 +7,10 @@ use lib.Dec.{ltb}
 use lib.ListN.{length}
 use borrow.Author.Tests.{le-ltb, lt-leb}
 use Rattle.base.specs.Limits.{maxDepth, maxMemory, maxChallenges}
-use Rattle.refusal.specs.Row.{outside}
+use Rattle.refusal.specs.Row.{outside, memoryOver}
 use Rattle.refusal.proofs.RowLaws.{none-holds, NoneHolds}
 use Rattle.tree.specs.Store.{storeSize}
-use Rattle.run.specs.Rows.{memoryOver, startRow}
+use Rattle.run.specs.Rows.{startRow}
 use Rattle.opening.specs.Rows.{nodesAnew}
 use Rattle.proof_file.specs.Layout.{fileSize, headRow}
 use Rattle.run_theory.specs.Runs.{Startable}

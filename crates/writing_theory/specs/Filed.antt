@@ -7,8 +7,9 @@ use Rattle.base.specs.Choice.{pick}
 use Rattle.base.specs.Bytes.{joined}
 use Rattle.base.specs.Limits.{maxMemory}
 use Rattle.tree.specs.Store.{storeSize}
+use Rattle.tree.specs.Openings.{openingSize}
 use Rattle.run.specs.Steps.{Stamped}
-use Rattle.opening.specs.Rows.{openingSize, nodesAnew}
+use Rattle.opening.specs.Rows.{nodesAnew}
 use Rattle.opening.specs.Steps.{Open}
 use Rattle.proof_file.specs.Challenge.{challengeLeaf}
 use Rattle.proof_file.specs.Layout.{head, headSize, fileSize}

@@ -1,5 +1,5 @@
 -- `compare::table::cell_at` meets its contract.
-use Rattle.opening_check.proofs.Parts.{part-size}
+use Rattle.base.proofs.Parts.{part-size}
 use Prim.Native.Nat.{_+_, _-_, _*_}
 use Rattle.compare.specs.Table.{cell, rowSize}
 use borrow.Author.Needs.{needs}

@@ -6,7 +6,7 @@ use lib.ListN.{length}
 use Rattle.label.specs.Rule.{stampRule}
 use Rattle.tree.specs.Openings.{computed}
 use Rattle.opening_check.specs.OpeningCheck.{givenBy}
-use Rattle.opening_check.proofs.Parts.{part-size, part-length}
+use Rattle.base.proofs.Parts.{part-size, part-length}
 use Rattle.opening_check.proofs.OneOpening.{climbed}
 use Rattle.compare.specs.Table.{RowOf, rowSize}
 use Rattle.compare.proofs.Filling.{row-more}

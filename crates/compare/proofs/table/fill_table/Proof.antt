@@ -2,8 +2,8 @@
 use mathlib.Core.Path.{_≡_, refl, ap, _∙_}
 use Prim.Native.Nat.{_+_, _-_, _*_, _≤_}
 use lib.ListN.{length}
-use Rattle.opening.specs.Rows.{openingSize}
-use Rattle.opening_check.proofs.Parts.{part-size, part-length}
+use Rattle.base.proofs.Parts.{part-size, part-length}
+use Rattle.tree.specs.Openings.{openingSize}
 use Rattle.compare.specs.Table.{TableOf, rowSize, tableSize}
 use Rattle.compare.proofs.Filling.{opening-fits, lent-back, table-more}
 use borrow.Author.Needs.{needs}

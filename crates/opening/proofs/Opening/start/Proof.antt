@@ -6,11 +6,11 @@ use borrow.Author.Needs.{needs}
 use lib.Dec.{ltb, leb, lit≤}
 use lib.ListN.{length}
 use Rattle.base.specs.Limits.{maxDepth}
-use Rattle.refusal.specs.Row.{outside}
+use Rattle.refusal.specs.Row.{outside, memoryOver}
 use Rattle.tree.specs.Store.{storeSize}
-use Rattle.run.specs.Rows.{memoryOver}
 use Rattle.refusal.proofs.RowLaws.{passed, is-done, is-refused}
-use Rattle.opening.specs.Rows.{openingSize, openRow}
+use Rattle.tree.specs.Openings.{openingSize}
+use Rattle.opening.specs.Rows.{openRow}
 use Rattle.opening.proofs.RowLaws.{Ready, possible, start-done, start-refused}
 use Rattle.opening.proofs.Opening.start.Statement.{statement}
 use Rattle.opening.proofs.Opening.start.Tie as tie

@@ -5,17 +5,16 @@ use Prim.Native.Nat.{_^_}
 use borrow.Author.Needs.{needs}
 use lib.Dec.{ltb, leb}
 use Rattle.base.specs.Limits.{maxDepth}
-use Rattle.refusal.specs.Row.{outside}
+use Rattle.refusal.specs.Row.{outside, memoryOver}
 use Rattle.tree.specs.Store.{storeSize}
-use Rattle.run.specs.Rows.{memoryOver}
-use Rattle.run.proofs.RowLaws.{depth-inside, memory-inside}
+use Rattle.refusal.proofs.Ranges.{depth-inside, memory-inside}
 use Rattle.opening.specs.Rows.{openRow}
 use Rattle.opening.proofs.checks.may_start.Statement.{statement}
 use Rattle.opening.proofs.checks.may_start.Tie as tie
 
 -- the tests passed
 depth-fits : (c : tie.Else1) → outside 1 maxDepth (c .before .before .args .depth) ≡ false
-depth-fits c = sym (c .before .depth-outside .ensures) ∙ c .if1 .left
+depth-fits c = sym (c .before .beyond .ensures) ∙ c .if1 .left
 
 memory-fits : (c : tie.Else2) → memoryOver (c .before .before .before .before .args .depth) (c .before .before .before .before .args .memory) ≡ false
 memory-fits c = sym (c .before .memory-over .ensures) ∙ c .if2 .left
@@ -34,7 +33,7 @@ leaf-fits c = sym (c .before .leaf-outside .ensures) ∙ c .if4 .left
 
 returns : tie.Need-returns
 unfolding openRow
-returns c = rw (sym (c .before .depth-outside .ensures) ∙ c .if1 .taken)
+returns c = rw (sym (c .before .beyond .ensures) ∙ c .if1 .taken)
 
 returns-2 : tie.Need-returns-2
 unfolding openRow

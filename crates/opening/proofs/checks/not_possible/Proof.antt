@@ -6,22 +6,21 @@ use native.Mathlib.Omega.{arith}
 use borrow.Author.Tests.{lt-ltb, le-ltb}
 use borrow.Author.Needs.{needs}
 use Rattle.base.specs.Limits.{maxDepth}
-use Rattle.refusal.specs.Row.{outside}
-use Rattle.run.specs.Rows.{memoryOver}
-use Rattle.run.proofs.RowLaws.{depth-inside, memory-below}
+use Rattle.refusal.specs.Row.{outside, memoryOver}
+use Rattle.refusal.proofs.Ranges.{depth-inside, memory-below}
 use Rattle.opening.specs.Rows.{nodesAnew}
 use Rattle.opening.proofs.checks.not_possible.Statement.{statement}
 use Rattle.opening.proofs.checks.not_possible.Tie as tie
 
 -- the tests passed
 depth-fits : (c : tie.Else1) → outside 1 maxDepth (c .before .before .args .depth) ≡ false
-depth-fits c = sym (c .before .depth-outside .ensures) ∙ c .if1 .left
+depth-fits c = sym (c .before .beyond .ensures) ∙ c .if1 .left
 
 memory-fits : (c : tie.Else2) → memoryOver (c .before .before .before .before .args .depth) (c .before .before .before .before .args .memory) ≡ false
 memory-fits c = sym (c .before .memory-over .ensures) ∙ c .if2 .left
 
 returns : tie.Need-returns
-returns c = rw (sym (c .before .depth-outside .ensures) ∙ c .if1 .taken)
+returns c = rw (sym (c .before .beyond .ensures) ∙ c .if1 .taken)
 
 returns-2 : tie.Need-returns-2
 returns-2 c = rw (depth-fits (c .before .before), sym (c .before .memory-over .ensures) ∙ c .if2 .taken)

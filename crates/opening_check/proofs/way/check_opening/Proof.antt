@@ -6,7 +6,7 @@ use borrow.Author.Needs.{needs}
 use Rattle.base.specs.Limits.{maxDepth}
 use Rattle.label.proofs.Walking.{full}
 use Rattle.opening_check.proofs.OneOpening.{depth-refused, leaf-refused, short-refused, long-refused, rest-right}
-use Rattle.opening_check.proofs.Ranges.{range-of}
+use Rattle.refusal.proofs.Ranges.{range-of}
 use Rattle.opening_check.proofs.way.check_opening.Statement.{statement}
 use Rattle.opening_check.proofs.way.check_opening.Tie as tie
 

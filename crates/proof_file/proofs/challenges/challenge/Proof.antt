@@ -2,7 +2,7 @@
 use mathlib.Core.Path.{sym, _∙_}
 use borrow.Author.Needs.{needs}
 use Rattle.base.specs.Limits.{maxDepth}
-use Rattle.opening_check.proofs.Ranges.{range-of}
+use Rattle.refusal.proofs.Ranges.{range-of}
 use Rattle.proof_file.proofs.ChallengeLaws.{depth-refused, number-refused, leaf-answered}
 use Rattle.proof_file.proofs.challenges.challenge.Statement.{statement}
 use Rattle.proof_file.proofs.challenges.challenge.Tie as tie

@@ -5,8 +5,8 @@ use Prim.Native.Nat.{_+_, _-_, _≤_}
 use native.Mathlib.Omega.{arith}
 use borrow.Author.Needs.{needs}
 use lib.ListN.{length}
-use Rattle.opening_check.proofs.Parts.{part-size, part-length}
-use Rattle.opening.specs.Rows.{openingSize}
+use Rattle.base.proofs.Parts.{part-size, part-length}
+use Rattle.tree.specs.Openings.{openingSize}
 use Rattle.proof_file.specs.FileCheck.{openingsFrom}
 use Rattle.proof_file.proofs.Leaves.{challengeLeaf-small}
 use Rattle.proof_file.proofs.FileLaws.{opening-refused, opening-right, none-left}

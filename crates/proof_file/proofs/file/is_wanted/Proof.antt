@@ -4,7 +4,7 @@ use mathlib.Core.Path.{ap, _∙_}
 use Prim.Native.Nat.{ℕ}
 use borrow.Author.Needs.{needs}
 use lib.ListN.{length}
-use Rattle.opening_check.proofs.Parts.{part-size, part-length}
+use Rattle.base.proofs.Parts.{part-size, part-length}
 use Rattle.base.specs.Lists.{sameBytes}
 use Rattle.proof_file.specs.Head.{statementAt}
 use Rattle.proof_file.proofs.FileLaws.{other-depth, other-count, statement-left}

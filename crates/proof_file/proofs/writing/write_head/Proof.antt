@@ -3,7 +3,7 @@ use mathlib.Core.Path.{sym, _∙_}
 use borrow.Author.Needs.{needs}
 use lib.ListN.{length}
 use Rattle.base.specs.Limits.{maxDepth, maxChallenges}
-use Rattle.opening_check.proofs.Ranges.{range-of}
+use Rattle.refusal.proofs.Ranges.{range-of}
 use Rattle.proof_file.proofs.WritingLaws.{depth-refused, count-refused, short-refused, head-fits, head-written}
 use Rattle.proof_file.proofs.writing.write_head.Statement.{statement}
 use Rattle.proof_file.proofs.writing.write_head.Tie as tie

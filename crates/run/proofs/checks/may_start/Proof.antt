@@ -1,20 +1,20 @@
 -- `run::checks::may_start` meets its contract: each return by the tests passed.
 use mathlib.Core.Path.{sym, _∙_}
 use Rattle.run.specs.Rows.{startRow}
-use Rattle.run.proofs.RowLaws.{memory-inside}
+use Rattle.refusal.proofs.Ranges.{memory-inside}
 use borrow.Author.Needs.{needs}
 use Rattle.run.proofs.checks.may_start.Statement.{statement}
 use Rattle.run.proofs.checks.may_start.Tie as tie
 
 returns : tie.Need-returns
 unfolding startRow
-returns c = rw (sym (c .before .depth-outside .ensures) ∙ c .if1 .taken)
+returns c = rw (sym (c .before .beyond .ensures) ∙ c .if1 .taken)
 
 returns-2 : tie.Need-returns-2
 unfolding startRow
 returns-2 c =
     rw (
-      sym (c .before .before .before .depth-outside .ensures) ∙ c .before .before .if1 .left,
+      sym (c .before .before .before .beyond .ensures) ∙ c .before .before .if1 .left,
       sym (c .before .memory-over .ensures) ∙ c .if2 .taken,
     )
 
@@ -27,7 +27,7 @@ returns-3 : tie.Need-returns-3
 unfolding startRow
 returns-3 c =
     rw (
-      sym (c .before .before .before .before .before .depth-outside .ensures) ∙ c .before .before .before .before .if1 .left,
+      sym (c .before .before .before .before .before .beyond .ensures) ∙ c .before .before .before .before .if1 .left,
       sym (c .before .before .before .memory-over .ensures) ∙ c .before .before .if2 .left,
       sym (c .before .store-short .ensures) ∙ c .if3 .taken,
     )
@@ -36,7 +36,7 @@ returns-4 : tie.Need-returns-4
 unfolding startRow
 returns-4 c =
     rw (
-      sym (c .before .before .before .before .before .depth-outside .ensures) ∙ c .before .before .before .before .if1 .left,
+      sym (c .before .before .before .before .before .beyond .ensures) ∙ c .before .before .before .before .if1 .left,
       sym (c .before .before .before .memory-over .ensures) ∙ c .before .before .if2 .left,
       sym (c .before .store-short .ensures) ∙ c .if3 .left,
     )

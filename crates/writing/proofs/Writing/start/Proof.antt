@@ -6,10 +6,9 @@ use native.Mathlib.Omega.{arith}
 use borrow.Author.Tests.{ltb-false}
 use lib.Dec.{ltb}
 use Rattle.base.specs.Limits.{maxDepth, maxMemory, maxChallenges}
-use Rattle.refusal.specs.Row.{outside}
+use Rattle.refusal.specs.Row.{outside, memoryOver}
 use Rattle.refusal.proofs.RowLaws.{NoneHolds, none-holds, is-done, is-refused}
 use Rattle.tree.specs.Store.{storeSize}
-use Rattle.run.specs.Rows.{memoryOver}
 use Rattle.proof_file.specs.Layout.{fileSize}
 use Rattle.check_theory.proofs.RowLaws.{bounds}
 use Rattle.writing.specs.Possible.{Room}

@@ -5,10 +5,9 @@ use mathlib.Core.Bool.{false}
 use borrow.Author.Tests.{lt-ltb, le-ltb}
 use lib.Dec.{ltb}
 use Rattle.base.specs.Limits.{maxDepth, maxChallenges}
-use Rattle.refusal.specs.Row.{outside}
+use Rattle.refusal.specs.Row.{outside, memoryOver}
 use Rattle.tree.specs.Store.{storeSize}
-use Rattle.run.specs.Rows.{memoryOver}
-use Rattle.run.proofs.RowLaws.{depth-inside, memory-inside}
+use Rattle.refusal.proofs.Ranges.{depth-inside, memory-inside}
 use Rattle.proof_file.specs.Layout.{fileSize}
 use Rattle.check_theory.proofs.RowLaws.{bounds}
 use Rattle.writing.specs.Rows.{writeRow}
@@ -17,7 +16,7 @@ use Rattle.writing.proofs.checks.may_start.Tie as tie
 
 -- the tests passed
 depth-fits : (c : tie.Else1) → outside 1 maxDepth (c .before .before .args .depth) ≡ false
-depth-fits c = sym (c .before .depth-outside .ensures) ∙ c .if1 .left
+depth-fits c = sym (c .before .beyond .ensures) ∙ c .if1 .left
 
 memory-fits : (c : tie.Else2) → memoryOver (c .before .before .before .before .args .depth) (c .before .before .before .before .args .memory) ≡ false
 memory-fits c = sym (c .before .memory-over .ensures) ∙ c .if2 .left
@@ -29,11 +28,11 @@ store-fits :
 store-fits c = sym (c .before .store-short .ensures) ∙ c .if3 .left
 
 count-fits : (c : tie.Else4) → outside 1 maxChallenges (c .before .before .before .before .before .before .before .before .args .count) ≡ false
-count-fits c = sym (c .before .beyond .ensures) ∙ c .if4 .left
+count-fits c = sym (c .before .beyond2 .ensures) ∙ c .if4 .left
 
 returns : tie.Need-returns
 unfolding writeRow
-returns c = rw (sym (c .before .depth-outside .ensures) ∙ c .if1 .taken)
+returns c = rw (sym (c .before .beyond .ensures) ∙ c .if1 .taken)
 
 returns-2 : tie.Need-returns-2
 unfolding writeRow
@@ -60,7 +59,7 @@ returns-4 c =
       depth-fits (c .before .before .before .before .before .before),
       memory-fits (c .before .before .before .before),
       store-fits (c .before .before),
-      sym (c .before .beyond .ensures) ∙ c .if4 .taken,
+      sym (c .before .beyond2 .ensures) ∙ c .if4 .taken,
     )
 
 file-size-requires : tie.Need-file-size-requires

@@ -4,7 +4,7 @@ use mathlib.Core.Path.{refl}
 use Prim.Native.Nat.{_+_, _≤_}
 use native.Mathlib.Omega.{arith}
 use lib.ListN.{length}
-use Rattle.opening.specs.Rows.{openingSize}
+use Rattle.tree.specs.Openings.{openingSize}
 use Rattle.writing.proofs.BegunLaws.{begun-opening, begun-file}
 use Rattle.writing.proofs.parts.begin.Statement.{statement}
 use Rattle.writing.proofs.parts.begin.Tie as tie

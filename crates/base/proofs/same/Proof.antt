@@ -1,4 +1,4 @@
--- `opening_check::same` meets its contract. The invariant: the first i bytes are the same. The measure is what is left.
+-- `base::same` meets its contract. The invariant: the first i bytes are the same. The measure is what is left.
 use mathlib.Core.Path.{_≡_, sym, ap}
 use mathlib.Core.List.{List}
 use Prim.Native.Nat.{ℕ, _≤_, _<_, _-_}
@@ -7,9 +7,9 @@ use borrow.Author.Needs.{needs}
 use borrow.Author.Count.{below-more}
 use lib.ListN.{length, getD}
 use lib.Seq.{ext-getD}
 use Rattle.base.proofs.ListsLaws.{tells-bytes, test-same, test-differ}
-use Rattle.opening_check.proofs.tests.same.Statement.{statement}
-use Rattle.opening_check.proofs.tests.same.Tie as tie
+use Rattle.base.proofs.same.Statement.{statement}
+use Rattle.base.proofs.same.Tie as tie
 
 abbrev Inv-loop : tie.InvT-loop
 Inv-loop a b i₀ i = (i ≤ length a) × ((k : ℕ) → k < i → getD a k 0 ≡ getD b k 0)

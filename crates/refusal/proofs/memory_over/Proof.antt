@@ -1,7 +1,7 @@
--- `run::checks::memory_over` meets its contract.
-use Rattle.run.proofs.RowLaws.{over-depth, over-memory}
-use Rattle.run.proofs.checks.memory_over.Statement.{statement}
-use Rattle.run.proofs.checks.memory_over.Tie as tie
+-- `refusal::memory_over` meets its contract.
+use Rattle.refusal.proofs.Ranges.{over-depth, over-memory}
+use Rattle.refusal.proofs.memory_over.Statement.{statement}
+use Rattle.refusal.proofs.memory_over.Tie as tie
 
 returns : tie.Need-returns
 returns c = over-depth (c .before .args .depth) (c .before .args .memory) (c .if1 .taken)

@@ -1,8 +1,8 @@
--- `opening_check::beyond` meets its contract: below, above or in the range.
+-- `refusal::beyond` meets its contract: below, above or in the range.
 use mathlib.Core.Path.{sym}
-use Rattle.opening_check.proofs.Ranges.{below-range, above-range, in-range}
-use Rattle.opening_check.proofs.tests.beyond.Statement.{statement}
-use Rattle.opening_check.proofs.tests.beyond.Tie as tie
+use Rattle.refusal.proofs.Ranges.{below-range, above-range, in-range}
+use Rattle.refusal.proofs.beyond.Statement.{statement}
+use Rattle.refusal.proofs.beyond.Tie as tie
 
 returns : tie.Need-returns
 returns c = sym (below-range 1 (c .before .args .high) (c .before .args .x) (c .if1 .taken))

@@ -1,13 +1,13 @@
--- `opening_check::label_at` meets its contract: 32 bytes written over 32 zeros.
+-- `base::label_at` meets its contract: 32 bytes written over 32 zeros.
 use mathlib.Core.List.{List}
 use mathlib.Core.Path.{_∙_, sym, ap}
 use Prim.Native.Nat.{ℕ}
 use borrow.Author.Needs.{needs}
 use lib.ListN.{take, drop}
 use Rattle.base.specs.Bytes.{zeros, written}
-use Rattle.opening_check.proofs.Parts.{whole-written, part-size, part-length}
-use Rattle.opening_check.proofs.tests.label_at.Statement.{statement}
-use Rattle.opening_check.proofs.tests.label_at.Tie as tie
+use Rattle.base.proofs.Parts.{whole-written, part-size, part-length}
+use Rattle.base.proofs.label_at.Statement.{statement}
+use Rattle.base.proofs.label_at.Tie as tie
 
 returns : tie.Need-returns
 returns c =
