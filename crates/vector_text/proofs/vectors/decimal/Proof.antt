@@ -24,7 +24,7 @@ loop-again c =
       omega arith,
       l .inv .1
           ∙ decimal-more (c .before .before .before .before .before .args .text .now) (l .i) (l .value) _ _
-          (c .before .before .loop-test .taken) (c .wide .ensures) refl,
+          (c .before .before .loop-test .taken) (c .wide .ensures .0) refl,
     )
 
 returns : tie.Need-returns Inv-loop μ-loop

@@ -6,10 +6,10 @@ use Rattle.vector_text.proofs.vectors.digit.Statement.{statement}
 use Rattle.vector_text.proofs.vectors.digit.Tie as tie
 
 returns : tie.Need-returns
-returns c = (rw (lt-ltb _ 97 (c .before .if1 .taken), c .wide .ensures), omega arith)
+returns c = (rw (lt-ltb _ 97 (c .before .if1 .taken), c .wide .ensures .0), omega arith)
 
 returns-2 : tie.Need-returns-2
-returns-2 c = (rw (le-ltb _ 97 (c .before .if1 .left), c .wide2 .ensures), omega arith)
+returns-2 c = (rw (le-ltb _ 97 (c .before .if1 .left), c .wide2 .ensures .0), omega arith)
 
 pub digit-spec : {M : Type 1} → statement M
 digit-spec =
