@@ -1,12 +1,13 @@
 -- What stands in a list after a part is written over it.
 use mathlib.Core.Path.{_≡_, sym, ap, _∙_}
 use mathlib.Core.Logic.{_⊎_, inl, inr}
-use mathlib.Core.List.{List, _++_, append-assoc}
-use Prim.Native.Nat.{ℕ, _+_, _-_, _≤_, _<_}
+use mathlib.Core.List.{List, [], _∷_, _++_, append-assoc, append-nil}
+use Prim.Native.Nat.{ℕ, suc, _+_, _-_, _≤_, _<_}
+use native.Mathlib.Numerals.{add-one}
 use native.Mathlib.Omega.{arith}
-use lib.ListN.{length, getD, take, drop, length-append, length-take, length-drop, List·getD-append}
+use lib.ListN.{length, getD, take, drop, set, length-set, take-append-drop, length-append, length-take, length-drop, List·getD-append}
 use lib.Seq.{take-at, drop-at, drop-append-add, drop-drop, length-take-le, getD-append-add, getD-take, getD-drop, ext-getD}
-use Rattle.base.proofs.Copying.{length-written}
+use Rattle.base.proofs.Copying.{length-written, written-sets}
 use Rattle.base.specs.Bytes.{written}
 
 -- a part written over another of its length
@@ -86,3 +87,22 @@ module _ (bytes part : List ℕ) (at : ℕ) (fits : at + length part ≤ length 
       go : (i : ℕ) → i < size → (from + size ≤ at) ⊎ (at + length part ≤ from) → (from + i < at) ⊎ (at + length part ≤ from + i)
       go i a (inl b) = inl (omega arith)
       go i a (inr b) = inr (omega arith)
+
+-- a part written element by element
+pub written-none : (d : List ℕ) (at : ℕ) → written d at [] ≡ d
+unfolding written
+written-none d at = let e : at + length {A = ℕ} [] ≡ at = omega arith in rw (e, append-nil) (take-append-drop at d)
+
+pub written-one : (d : List ℕ) (at x : ℕ) (xs : List ℕ) → at + length (x ∷ xs) ≤ length d → written d at (x ∷ xs) ≡ written (set d at x) (at + 1) xs
+written-one d at x xs h =
+    rw (add-one at)
+    (written-sets d at (x ∷ xs) h ∙ sym (written-sets (set d at x) (suc at) xs (rw length-set (omega arith))))
+
+pub written-append : (d : List ℕ) (at : ℕ) (a b : List ℕ) → at + length (a ++ b) ≤ length d
+    → written d at (a ++ b) ≡ written (written d at a) (at + length a) b
+written-append d at [] b h = let e : at + length {A = ℕ} [] ≡ at = omega arith in rw (written-none d at, e)
+written-append d at (x ∷ a) b h =
+    let k : at + length (x ∷ a) ≤ length d = omega (arith, length-append a b) in
+    let e : at + length (x ∷ a) ≡ at + 1 + length a = omega arith in
+    rw (written-one d at x (a ++ b) h, written-one d at x a k, e)
+    (written-append (set d at x) (at + 1) a b (rw length-set (omega arith)))

@@ -16,6 +16,11 @@ both false b = false
 abbrev pub odd : ℕ → Bool
 odd p = eqb (p % 2) 1
 
+-- all elements of a list pass a test
+unfoldable pub every {ℓ} : {A : Type ℓ} → (A → Bool) → List A → Bool
+every test [] = true
+every test (x ∷ xs) = both (test x) (every test xs)
+
 -- those elements of a list that pass a test, in their order
 unfoldable pub passing {ℓ} : {A : Type ℓ} → (A → Bool) → List A → List A
 passing test [] = []

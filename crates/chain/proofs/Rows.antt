@@ -7,7 +7,7 @@ use mathlib.Core.List.{List, [], _∷_}
 use lib.Dec.{ltb}
 use lib.ListN.{length}
 use borrow.Author.Tests.{lt-ltb, le-ltb, not-false}
-use Rattle.base.specs.Choice.{pick}
+use Rattle.base.specs.Choice.{pick, every}
 use Rattle.base.specs.Bytes.{written}
 use Rattle.base.specs.Limits.{maxDepth, maxChallenges}
 use Rattle.refusal.specs.declared.Refusal.{Refusal}
@@ -17,7 +17,7 @@ use Rattle.refusal.specs.Row.{outside}
 use Rattle.refusal.proofs.Ranges.{range-of}
 use Rattle.refusal.proofs.RowLaws.{NoneHolds, none-holds, row-refused, row-passed, not-done}
 use Rattle.chain_theory.specs.Ways.{chain}
-use Rattle.chain_theory.specs.Planning.{every, isLeaf, sorted, planFrom, plan}
+use Rattle.chain_theory.specs.Planning.{isLeaf, sorted, planFrom, plan}
 use Rattle.chain_theory.proofs.Sorting.{every-sorted, length-sorted}
 use Rattle.chain_theory.proofs.Plan.{plan-chain}
 use Rattle.chain_theory.proofs.Bound.{leavesOpened-le, plan-length}

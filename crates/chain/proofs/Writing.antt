@@ -6,27 +6,9 @@ use native.Mathlib.Omega.{arith}
 use mathlib.Core.List.{List, [], _∷_, _++_, append-nil}
 use lib.ListN.{length, set, drop, length-set, length-append, take-append-drop}
 use Rattle.base.specs.Bytes.{written}
-use Rattle.base.proofs.Copying.{written-sets}
+use Rattle.base.proofs.WrittenLaws.{written-none, written-one, written-append}
 use Rattle.chain_theory.specs.Planning.{climb, nextCode, planFrom}
 use Rattle.chain_theory.proofs.Turns.{climb-step, climb-out, planFrom-turn, next-leaf}
-
-pub written-none : (d : List ℕ) (at : ℕ) → written d at [] ≡ d
-unfolding written
-written-none d at = let e : at + length {A = ℕ} [] ≡ at = omega arith in rw (e, append-nil) (take-append-drop at d)
-
-pub written-one : (d : List ℕ) (at x : ℕ) (xs : List ℕ) → at + length (x ∷ xs) ≤ length d → written d at (x ∷ xs) ≡ written (set d at x) (at + 1) xs
-written-one d at x xs h =
-    rw (add-one at)
-    (written-sets d at (x ∷ xs) h ∙ sym (written-sets (set d at x) (suc at) xs (rw length-set (omega arith))))
-
-pub written-append : (d : List ℕ) (at : ℕ) (a b : List ℕ) → at + length (a ++ b) ≤ length d
-    → written d at (a ++ b) ≡ written (written d at a) (at + length a) b
-written-append d at [] b h = let e : at + length {A = ℕ} [] ≡ at = omega arith in rw (written-none d at, e)
-written-append d at (x ∷ a) b h =
-    let k : at + length (x ∷ a) ≤ length d = omega (arith, length-append a b) in
-    let e : at + length (x ∷ a) ≡ at + 1 + length a = omega arith in
-    rw (written-one d at x (a ++ b) h, written-one d at x a k, e)
-    (written-append (set d at x) (at + 1) a b (rw length-set (omega arith)))
 
 -- nothing is left to climb
 pub climb-ended : (left from other : ℕ) → left ≤ 0 → climb left from other ≡ []

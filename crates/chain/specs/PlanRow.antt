@@ -4,11 +4,11 @@ use mathlib.Core.Bool.{not}
 use mathlib.Core.List.{List, [], _∷_}
 use lib.Dec.{ltb}
 use lib.ListN.{length}
-use Rattle.base.specs.Choice.{pick}
+use Rattle.base.specs.Choice.{pick, every}
 use Rattle.base.specs.Bytes.{written}
 use Rattle.base.specs.Limits.{maxDepth, maxChallenges}
 use Rattle.refusal.specs.Row.{firstOf, outside, isDone}
-use Rattle.chain_theory.specs.Planning.{every, isLeaf}
+use Rattle.chain_theory.specs.Planning.{isLeaf}
 use Rattle.chain_theory.specs.Ways.{chain, chainCodes}
 
 -- 1; 8: not 1..200 leaves; 6; 16: list short

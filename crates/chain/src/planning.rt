@@ -12,11 +12,11 @@ ghost use mathlib.Core.Bool.{true};
 ghost use Prim.Native.Nat.{_+_, _≤_};
 ghost use lib.ListN.{length};
 ghost use lib.Dec.{leb};
-ghost use Rattle.base.specs.Choice.{pick};
+ghost use Rattle.base.specs.Choice.{pick, every};
 ghost use Rattle.base.specs.Limits.{maxDepth, maxChallenges};
 ghost use Rattle.chain_theory.specs.Counts.{leavesOpened};
 ghost use Rattle.refusal.specs.Number.{outcomeNumber};
-ghost use Rattle.chain_theory.specs.Planning.{every, isLeaf};
+ghost use Rattle.chain_theory.specs.Planning.{isLeaf};
 ghost use Rattle.chain.specs.PlanRow.{planRow, plannedCount, plannedList};
 ghost use Rattle.chain.specs.Place.{leavesRow};
 

@@ -6,10 +6,10 @@ use mathlib.Core.Bool.{Bool, true, false}
 use mathlib.Core.List.{List, [], _∷_}
 use lib.ListN.{length, length-append, length-map}
 use Rattle.base.specs.Limits.{maxDepth, maxChallenges, maxChain}
-use Rattle.base.specs.Choice.{pick}
+use Rattle.base.specs.Choice.{pick, every}
 use Rattle.chain_theory.specs.Ways.{chain, code, chainCodes}
 use Rattle.chain_theory.specs.Counts.{opened, different, leavesOpened}
-use Rattle.chain_theory.specs.Planning.{every, isLeaf, inserted, sorted, climb, nextCode, planFrom, plan}
+use Rattle.chain_theory.specs.Planning.{isLeaf, inserted, sorted, climb, nextCode, planFrom, plan}
 use Rattle.chain_theory.proofs.Subtrees.{LeavesOf, leftLeaves, rightLeaves, left-leaves, right-leaves, leaves-halves, leaves-under}
 use Rattle.chain_theory.proofs.ChainBelow.{chainBelow, chain-chainBelow}
 use Rattle.chain_theory.proofs.Sorting.{increasing-sorted, every-sorted, chain-sorted, length-sorted}

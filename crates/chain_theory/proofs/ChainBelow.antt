@@ -4,10 +4,10 @@ use Prim.Native.Nat.{ℕ, zero, suc, _+_, _*_, _/_}
 use native.Mathlib.Omega.{arith}
 use mathlib.Core.Bool.{true}
 use mathlib.Core.List.{List, [], _∷_, _++_, append-nil}
-use Rattle.base.specs.Choice.{pick, passing}
+use Rattle.base.specs.Choice.{pick, passing, every}
 use Rattle.tree.specs.Nodes.{Node, node, orderBelow, labellingOrder}
 use Rattle.chain_theory.specs.Ways.{onSomeWay, chain}
-use Rattle.chain_theory.specs.Planning.{every, increasing, isLeaf}
+use Rattle.chain_theory.specs.Planning.{increasing, isLeaf}
 use Rattle.chain_theory.proofs.Lists.{clash, passing-one, passing-append, passing-passing, passing-every}
 use Rattle.chain_theory.proofs.OrderLaws.{order-zero, order-suc}
 use Rattle.chain_theory.proofs.Subtrees.{under, under-half, LeavesOf, leftLeaves, rightLeaves, left-leaves, right-leaves, leaves-halves, single, nonEmpty, someWay-under, leaves-under}

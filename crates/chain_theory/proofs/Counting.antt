@@ -5,11 +5,11 @@ use native.Mathlib.Omega.{arith}
 use mathlib.Core.Bool.{Bool, true, false, not}
 use mathlib.Core.List.{List, [], _∷_}
 use lib.ListN.{length, length-append}
-use Rattle.base.specs.Choice.{pick, both, passing}
+use Rattle.base.specs.Choice.{pick, both, passing, every}
 use Rattle.tree.specs.Nodes.{Node, node, orderBelow, labellingOrder}
 use Rattle.chain_theory.specs.Ways.{onSomeWay, chain}
 use Rattle.chain_theory.specs.Counts.{leavesOpened, holdsNone, insideEmpty, isLargestEmpty, largestEmpty}
-use Rattle.chain_theory.specs.Planning.{every, isLeaf, sorted}
+use Rattle.chain_theory.specs.Planning.{isLeaf, sorted}
 use Rattle.chain_theory.proofs.Lists.{both-false, pick-true, length-pick, passing-one, passing-append, passing-passing, passing-every}
 use Rattle.chain_theory.proofs.Subtrees.{LeavesOf, left-leaves, right-leaves, under, leftLeaves, rightLeaves, under-half, nonEmpty, single, someWay-under, leaves-halves, leaves-under}
 use Rattle.chain_theory.proofs.ChainBelow.{chainBelow, chain-chainBelow}

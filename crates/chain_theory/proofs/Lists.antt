@@ -7,8 +7,8 @@ use mathlib.Core.List.{List, [], _∷_, _++_}
 use lib.Dec.{ltb, eqb}
 use lib.ListN.{length, getD}
 use borrow.Author.Tests.{ltb-true, ltb-false, eqb-true, eqb-false, not-true}
-use Rattle.base.specs.Choice.{pick, both, passing}
-use Rattle.chain_theory.specs.Planning.{every, increasing}
+use Rattle.base.specs.Choice.{pick, both, passing, every}
+use Rattle.chain_theory.specs.Planning.{increasing}
 
 -- a test is not both
 pub clash : {b : Bool} → b ≡ true → b ≡ false → ⊥

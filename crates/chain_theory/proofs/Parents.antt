@@ -9,11 +9,11 @@ use lib.Dec.{eqb}
 use lib.ListN.{length, getD}
 use lib.Pow.{shr-shr}
 use borrow.Author.Tests.{eqb-true, eqb-false, lt-ltb, le-ltb, eq-eqb}
-use Rattle.base.specs.Choice.{pick}
+use Rattle.base.specs.Choice.{pick, every}
 use Rattle.tree.specs.Nodes.{Node, node, root, sameNode, leftSiblings, parents}
 use Rattle.tree.specs.Held.{among}
 use Rattle.chain_theory.specs.Ways.{chain}
-use Rattle.chain_theory.specs.Planning.{every, isLeaf, sorted}
+use Rattle.chain_theory.specs.Planning.{isLeaf, sorted}
 use Rattle.chain_theory.proofs.Lists.{clash, pick-true}
 use Rattle.chain_theory.proofs.Subtrees.{under, under-true, true-under, under-half, div-zero}
 use Rattle.chain_theory.proofs.ChainBelow.{chainBelow-none, chain-chainBelow, chain-induction}

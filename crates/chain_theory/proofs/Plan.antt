@@ -7,9 +7,10 @@ use mathlib.Core.Bool.{true}
 use mathlib.Core.List.{List, [], _∷_, _++_, map, append-nil, append-assoc}
 use lib.Pow.{pow-pos, pow-add}
 use borrow.Author.Tests.{eq-eqb, ne-eqb}
+use Rattle.base.specs.Choice.{every}
 use Rattle.tree.specs.Nodes.{Node, node}
 use Rattle.chain_theory.specs.Ways.{chain, code, chainCodes}
-use Rattle.chain_theory.specs.Planning.{every, increasing, isLeaf, sorted, climb, nextCode, planFrom, plan}
+use Rattle.chain_theory.specs.Planning.{increasing, isLeaf, sorted, climb, nextCode, planFrom, plan}
 use Rattle.chain_theory.proofs.Lists.{clash, every-first}
 use Rattle.chain_theory.proofs.Subtrees.{under, under-true, halved, div-zero, nonEmpty}
 use Rattle.chain_theory.proofs.ChainBelow.{chainBelow-none, chain-chainBelow, chain-induction}

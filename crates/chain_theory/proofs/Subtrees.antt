@@ -9,10 +9,10 @@ use mathlib.Core.List.{List, [], _∷_, _++_}
 use lib.Dec.{ltb, eqb}
 use lib.Pow.{pow-pos, shr-shr, shr-mono}
 use borrow.Author.Tests.{ltb-true, eqb-true, eqb-false, le-leb, eq-eqb, ne-eqb}
-use Rattle.base.specs.Choice.{pick, passing}
+use Rattle.base.specs.Choice.{pick, passing, every}
 use Rattle.tree.specs.Nodes.{node, onWay}
 use Rattle.chain_theory.specs.Ways.{onSomeWay}
-use Rattle.chain_theory.specs.Planning.{every, increasing, isLeaf}
+use Rattle.chain_theory.specs.Planning.{increasing, isLeaf}
 use Rattle.chain_theory.proofs.Lists.{same-test, passing-yes, passing-no, halves, every-first, every-rest, every-imp, every-passing, increasing-first, increasing-kept}
 
 -- the leaf lies in the subtree of height h at position p

@@ -16,7 +16,7 @@ use Rattle.base.specs.Bytes.{joined, written}
 use Rattle.base.specs.Limits.{maxDepth, maxChallenges}
 use Rattle.base.proofs.ChoiceLaws.{is-odd, is-even}
 use Rattle.base.proofs.WrittenLaws.{drop-written, written-here, written-apart}
-use Rattle.chain.proofs.Writing.{written-append}
+use Rattle.base.proofs.WrittenLaws.{written-append}
 use Rattle.sha256.specs.Digest.{digest}
 use Rattle.tree.specs.Nodes.{Node}
 use Rattle.tree.specs.Labels.{Label, Rule, labelBy, inputHead, documentInput}

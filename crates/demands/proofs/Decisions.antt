@@ -8,13 +8,12 @@ use mathlib.Core.List.{List, [], _∷_, _++_}
 use lib.Dec.{ltb, leb, eqb}
 use lib.ListN.{length, getD}
 use borrow.Author.Tests.{ltb-true, ltb-false, leb-true, leb-false, eqb-true, eqb-false, not-true, not-false}
-use Rattle.base.specs.Choice.{pick, both}
+use Rattle.base.specs.Choice.{pick, both, every}
 use Rattle.base.specs.Lists.{sameBytes}
 use Rattle.base.proofs.ChoiceLaws.{both-first, both-second, true-false}
 use Rattle.base.proofs.ListsLaws.{tells-bytes, test-false}
 use Rattle.refusal.specs.Row.{firstOf, outside, either}
 use Rattle.refusal.proofs.RowLaws.{NoneHolds, numbered, none-holds, row-passed}
-use Rattle.chain_theory.specs.Planning.{every}
 use Rattle.demands.specs.Rows.{Row, IsFirst, Outside}
 
 -- ---- rows as tests

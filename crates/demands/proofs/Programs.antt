@@ -13,7 +13,8 @@ use Rattle.groups.specs.Writing.{putRow, putCount, outputAfter}
 use Rattle.tree.specs.Openings.{openingSize}
 use Rattle.chain.specs.PlanRow.{planRow}
 use Rattle.planning.specs.Input as input
-use Rattle.planning.specs.Input.{readable, numbers, unreadable}
+use Rattle.decimal.specs.Numbers.{readable, numbers}
+use Rattle.planning.specs.Input.{unreadable}
 use Rattle.planning.specs.Output.{places, planText, printed}
 use Rattle.compare.specs.Comparison.{compareRow, compared}
 use Rattle.demands.specs.Rows.{OtherByte, Unreadable}

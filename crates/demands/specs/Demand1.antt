@@ -33,7 +33,7 @@ use Rattle.writing.specs.Steps.{Written, noWriting}
 use Rattle.chain.specs.PlanRow.{planRow, plannedCount, plannedList}
 use Rattle.chain_theory.specs.Ways.{chain}
 use Rattle.chain_theory.specs.Counts.{leavesOpened}
-use Rattle.planning.specs.Input.{numbers}
+use Rattle.decimal.specs.Numbers.{numbers}
 use Rattle.planning.specs.Output.{refusedText, headText, nodesText, printed}
 use Rattle.compare.specs.declared.Pair.the-variants.{Agree}
 use Rattle.compare.specs.Comparison.{compareRow, compared}

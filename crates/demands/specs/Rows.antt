@@ -16,7 +16,7 @@ use Rattle.proof_file.specs.Challenge.{challengeLeaf}
 use Rattle.proof_file.specs.Layout.{fileSize}
 use Rattle.proof_file.specs.Head.{statementAt, rootAt, openingAt}
 use Rattle.chain_theory.specs.Ways.{chain}
-use Rattle.planning.specs.Input.{numbers}
+use Rattle.decimal.specs.Numbers.{numbers}
 use Rattle.writing.specs.declared.Writing.{Writing}
 use Rattle.draw_theory.specs.Demand3.{NoneDisagree, chainLength}
 

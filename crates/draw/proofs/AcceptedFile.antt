@@ -6,6 +6,7 @@ use mathlib.Core.Bool.{true, false}
 use mathlib.Core.List.{List}
 use lib.ListN.{length, getD, take, drop, length-drop}
 use lib.Seq.{take-all}
+use Rattle.base.specs.Choice.{every}
 use Rattle.base.specs.Bytes.{zeros}
 use Rattle.base.specs.Limits.{maxDepth, maxChallenges}
 use Rattle.refusal.specs.declared.Refusal.{Refusal}
@@ -17,7 +18,7 @@ use Rattle.refusal.proofs.Bounds.{number-some}
 use Rattle.refusal.proofs.RowLaws.{some-refused}
 use Rattle.tree.specs.Openings.{openingSize}
 use Rattle.chain_theory.specs.Ways.{chain}
-use Rattle.chain_theory.specs.Planning.{every, isLeaf}
+use Rattle.chain_theory.specs.Planning.{isLeaf}
 use Rattle.refusal.proofs.Ranges.{in-range}
 use Rattle.proof_file.specs.Layout.{headNumbers}
 use Rattle.proof_file.specs.Head.{headOf, lengthFrom, rootAt}

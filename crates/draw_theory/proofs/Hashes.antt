@@ -6,6 +6,7 @@ use native.Mathlib.Omega.{arith}
 use mathlib.Core.Bool.{true, false}
 use mathlib.Core.List.{List, [], _∷_, map}
 use lib.ListN.{length, getD, length-map}
+use Rattle.base.specs.Choice.{every}
 use Rattle.base.specs.Lists.{EachOf}
 use Rattle.tree.specs.Nodes.{Node, node, root, onWay, parents}
 use Rattle.tree.specs.Labels.{Label, documentInput}
@@ -18,7 +19,6 @@ use Rattle.tree.proofs.Clash.{same-inputs}
 use Rattle.label.specs.Rule.{stampRule}
 use Rattle.label.proofs.RuleLaws.{stamp-hash}
 use Rattle.chain_theory.specs.Ways.{chain}
-use Rattle.chain_theory.specs.Planning.{every}
 use Rattle.chain_theory.proofs.Lists.{Order, less, same, more, order}
 use Rattle.chain_theory.proofs.Parents.{chain-parents, chain-root, among-place}
 use Rattle.chain_theory.proofs.Once.{chain-at}

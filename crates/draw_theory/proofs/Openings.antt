@@ -9,6 +9,7 @@ use mathlib.Core.List.{List, [], _∷_}
 use lib.ListN.{length, getD, take}
 use lib.Seq.{drop-drop}
 use borrow.Author.Tests.{lt-ltb, le-ltb}
+use Rattle.base.specs.Choice.{every}
 use Rattle.base.proofs.ChoiceLaws.{true-false}
 use Rattle.groups.proofs.Steps.{lt-or-le}
 use Rattle.tree.specs.Nodes.{Node, onWay}
@@ -17,7 +18,7 @@ use Rattle.tree.specs.Disagreement.{Given32, disagreeAt}
 use Rattle.tree.proofs.Among.{either, either-right}
 use Rattle.label.specs.Rule.{stampRule}
 use Rattle.chain_theory.specs.Ways.{onSomeWay}
-use Rattle.chain_theory.specs.Planning.{every, isLeaf}
+use Rattle.chain_theory.specs.Planning.{isLeaf}
 use Rattle.chain_theory.proofs.Lists.{at-every}
 use Rattle.opening_check.specs.OpeningCheck.{givenBy}
 use Rattle.proof_file.specs.Challenge.{challengeLeaf}

@@ -4,8 +4,8 @@ use mathlib.Core.List.{List, _++_}
 use lib.Dec.{leb, eqb}
 use Rattle.base.specs.Choice.{pick}
 use Rattle.refusal.specs.Row.{either}
-use Rattle.planning.specs.Ascii.{ascii}
-use Rattle.planning.specs.Output.{field}
+use Rattle.decimal.specs.Ascii.{ascii}
+use Rattle.decimal.specs.Text.{field}
 use Rattle.lines.specs.Line.{hexOf}
 
 -- a name with a number or with bytes in hexadecimal, a line feed

@@ -2,7 +2,7 @@
 ghost use mathlib.Core.Path.{_≡_};
 ghost use mathlib.Core.List.{[]};
 ghost use Prim.Native.Nat.{_<_};
-ghost use Rattle.planning.specs.Output.{decimal};
+ghost use Rattle.decimal.specs.Text.{decimal};
 ghost use Rattle.lines.specs.Line.{lineOf, added, hexByte, addedHex};
 ghost use Rattle.io.specs.Digits.{glyph};
 use crate::Line;
@@ -50,7 +50,7 @@ pub fn add_line(line: Line, part: Line) -> Line
 pub fn add_number(line: Line, x: u64) -> Line
     ensures { λ r. ⌜ lineOf r ≡ added (lineOf line) (decimal x) ⌝ }
 {
-    let digits = planning::spell(x);
+    let digits = decimal::spell(x);
     let text = digits.text;
     let start = digits.start;
     add(line, &text[start..])

@@ -24,10 +24,11 @@ use Rattle.chain_theory.specs.Counts.{leavesOpened}
 use Rattle.chain_theory.proofs.Once.{chain-at, same-code}
 use Rattle.chain.specs.PlanRow.{planRow, plannedCount, plannedList}
 use Rattle.chain.proofs.Rows.{leavesChecks}
-use Rattle.chain.proofs.Writing.{written-none, written-append}
+use Rattle.base.proofs.WrittenLaws.{written-none, written-append}
 use Rattle.planning.specs.Output.{places, refusedText, headText, nodeText, nodesText, answerText, planText}
-use Rattle.planning.specs.Steps.{Wrote}
-use Rattle.planning.proofs.Laying.{then, nodes-turn, nodes-end, nodes-short, head-short}
+use Rattle.decimal.specs.Steps.{Wrote}
+use Rattle.decimal.proofs.Laying.{then}
+use Rattle.planning.proofs.Laying.{nodes-turn, nodes-end, nodes-short, head-short}
 
 module _ (n : ℕ) (leaves codes : List ℕ) (done : planRow n leaves places ≡ 0) (are : codes ≡ chainCodes n leaves) where
   abbrev checks : List (Bool × ℕ)

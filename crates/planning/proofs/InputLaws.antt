@@ -8,17 +8,17 @@ use lib.Dec.{ltb, leb, eqb}
 use lib.ListN.{length, getD, take, drop}
 use lib.Seq.{take-all, take-nil, getD-take, length-take-le}
 use borrow.Author.Tests.{lt-ltb, le-ltb, le-leb, lt-leb, leb-true, leb-false, eq-eqb, ne-eqb}
-use Rattle.base.specs.Choice.{pick, both}
+use Rattle.base.specs.Choice.{pick, both, every}
 use Rattle.base.specs.Bytes.{written}
 use Rattle.base.specs.Limits.{maxDepth, maxChallenges, maxInput}
 use Rattle.base.proofs.ChoiceLaws.{both-first, both-second}
 use Rattle.refusal.specs.Row.{either, outside}
-use Rattle.chain_theory.specs.Planning.{every}
 use Rattle.chain.specs.PlanRow.{planRow}
 use Rattle.refusal.proofs.Ranges.{above-range}
-use Rattle.planning.specs.Input.{maxNumbers, readable, fits, numbers, unreadable}
+use Rattle.decimal.specs.Numbers.{maxNumbers, readable, fits, numbers}
+use Rattle.planning.specs.Input.{unreadable}
 use Rattle.planning.specs.Output.{refusedText, answerText, planText, printed, maxOutput}
-use Rattle.planning.specs.Steps.{allFit, Wrote}
+use Rattle.decimal.specs.Steps.{allFit, Wrote}
 
 bad : (a r e f : Bool) → both r f ≡ false → either a (either (not r) (either e (not f))) ≡ true
 bad true r e f h = refl

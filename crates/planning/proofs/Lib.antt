@@ -1,4 +1,3 @@
-pub mod ReadLaws
 pub mod Laying
 pub mod AnswerLaws
 pub mod InputLaws

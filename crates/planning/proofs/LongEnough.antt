@@ -7,11 +7,12 @@ use mathlib.Core.List.{List, [], _∷_}
 use lib.Dec.{ltb, leb}
 use lib.ListN.{length}
 use borrow.Author.Tests.{le-ltb, leb-true, not-false}
+use Rattle.base.specs.Choice.{every}
 use Rattle.base.specs.Limits.{maxDepth, maxChallenges}
 use Rattle.base.proofs.ChoiceLaws.{both-second, true-false}
 use Rattle.refusal.specs.Row.{firstOf, outside}
 use Rattle.chain_theory.specs.Ways.{chain}
-use Rattle.chain_theory.specs.Planning.{every, isLeaf}
+use Rattle.chain_theory.specs.Planning.{isLeaf}
 use Rattle.chain_theory.proofs.Bound.{chain-bound, leavesOpened-le}
 use Rattle.chain.specs.PlanRow.{planRow}
 use Rattle.planning.specs.Output.{places}

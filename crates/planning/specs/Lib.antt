@@ -1,4 +1,2 @@
-pub mod Ascii
 pub mod Input
 pub mod Output
-pub mod Steps

@@ -11,21 +11,10 @@ use Rattle.tree.specs.Nodes.{Node}
 use Rattle.chain_theory.specs.Ways.{chain}
 use Rattle.chain_theory.specs.Counts.{leavesOpened}
 use Rattle.chain.specs.PlanRow.{planRow}
-use Rattle.planning.specs.Ascii.{ascii}
-use Rattle.planning.specs.Input.{numbers, unreadable}
-
--- a number in decimal, of at most k digits
-unfoldable pub digits : ℕ → ℕ → List ℕ
-digits zero x = []
-digits (suc k) x = pick (ltb x 10) ((48 + x) ∷ []) (digits k (x / 10) ++ (48 + x % 10) ∷ [])
-
--- 20 digits hold every number below 2^64
-unfoldable pub decimal : ℕ → List ℕ
-decimal x = digits 20 x
-
--- a text and a number after it
-abbrev pub field : List ℕ → ℕ → List ℕ
-field name x = name ++ decimal x
+use Rattle.decimal.specs.Ascii.{ascii}
+use Rattle.decimal.specs.Text.{decimal, field}
+use Rattle.decimal.specs.Numbers.{numbers}
+use Rattle.planning.specs.Input.{unreadable}
 
 -- `refused`, a blank and the number, a line feed
 unfoldable pub refusedText : ℕ → List ℕ

@@ -1,12 +1,12 @@
 // The answer to an input.
-use crate::reading::is_readable;
-use crate::reading::read_numbers;
 use crate::texts::node_of;
 use crate::texts::put_head;
 use crate::texts::put_node;
 use crate::texts::put_refused;
 use base::MAX_CHAIN;
 use base::MAX_INPUT;
+use decimal::is_readable;
+use decimal::read_numbers;
 use refusal::Outcome;
 ghost use mathlib.Core.Path.{_≡_};
 ghost use Prim.Native.Nat.{_≤_};
@@ -17,7 +17,7 @@ ghost use Rattle.base.specs.Choice.{pick};
 ghost use Rattle.chain_theory.specs.Ways.{chainCodes};
 ghost use Rattle.chain.specs.PlanRow.{planRow};
 ghost use Rattle.planning.specs.Output.{places, maxOutput, answerText, planText, printed};
-ghost use Rattle.planning.specs.Steps.{Wrote};
+ghost use Rattle.decimal.specs.Steps.{Wrote};
 
 // Room for all that is ever printed: specs/Output.antt.
 pub const MAX_OUTPUT: usize = 82 + 42 * MAX_CHAIN;

@@ -8,6 +8,7 @@ ghost use Rattle.refusal.specs.Number.{outcomeNumber};
 ghost use Rattle.run.specs.Rows.{startRow, continueRow};
 ghost use Rattle.run.specs.Steps.{newRun, started, stamped, labelsIn, advanced};
 use base::HELD_SIZE;
+use base::smaller;
 use checks::may_continue;
 use checks::may_start;
 pub use checks::nodes;

@@ -12,9 +12,9 @@ use Rattle.base.specs.Choice.{pick, both}
 use Rattle.base.proofs.ChoiceLaws.{both-first, both-second}
 use Rattle.refusal.specs.declared.Refusal.{Refusal}
 use Rattle.refusal.specs.Number.{numberOf}
-use Rattle.planning.specs.Ascii.{ascii}
-use Rattle.planning.specs.Output.{decimal, field}
-use Rattle.planning.proofs.Laying.{decimal-short}
+use Rattle.decimal.specs.Ascii.{ascii}
+use Rattle.decimal.specs.Text.{decimal, field}
+use Rattle.decimal.proofs.Laying.{decimal-short, field-length}
 use Rattle.lines.specs.Line.{added, hexOf}
 use Rattle.lines.specs.Texts.{factText, bytesText, threeText, acceptedText, rejectedText, clashText}
 use Rattle.lines.proofs.LineLaws.{added-fits, length-hex}
@@ -87,9 +87,6 @@ plain-short number size = go (eqb size 0) (words-short number plainTable refl)
     go false h = h
 
 -- the lengths of the other lines
-field-length : (name : List ℕ) (x : ℕ) → length (field name x) ≤ length name + 20
-field-length name x = omega (arith, length-append name (decimal x), decimal-short x)
-
 pub fact-short : (name : List ℕ) (x : ℕ) → length (factText name x) ≤ length name + 21
 unfolding factText
 fact-short name x = omega (arith, length-append (field name x) (ascii "\n"), field-length name x)

@@ -5,7 +5,7 @@ use mathlib.Core.List.{List, [], _∷_}
 use lib.Dec.{eqb}
 use Rattle.base.specs.Limits.{maxDepth}
 use Rattle.base.specs.Choice.{pick}
-use Rattle.planning.specs.Ascii.{ascii}
+use Rattle.decimal.specs.Ascii.{ascii}
 
 -- by document 01's number
 abbrev pub plainTable : List (ℕ × String)

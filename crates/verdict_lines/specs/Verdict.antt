@@ -4,7 +4,7 @@ use mathlib.Core.List.{List, [], _++_}
 use lib.Dec.{eqb}
 use Rattle.base.specs.Choice.{pick}
 use Rattle.refusal.specs.Number.{numberOf}
-use Rattle.planning.specs.Ascii.{ascii}
+use Rattle.decimal.specs.Ascii.{ascii}
 use Rattle.lines.specs.Texts.{factText, bytesText, acceptedText, rejectedText, clashText}
 use Rattle.draw.specs.declared.Drawing.{Drawing}
 use Rattle.draw.specs.declared.Drawing.the-variants.{NotDrawn, Chain, Clash}

@@ -4,7 +4,7 @@ ghost use Prim.Native.Nat.{_≤_};
 ghost use lib.ListN.{length};
 ghost use Rattle.chain_theory.specs.Ways.{chainCodes};
 ghost use Rattle.planning.specs.Output.{places, maxOutput, planText};
-ghost use Rattle.planning.specs.Steps.{Wrote};
+ghost use Rattle.decimal.specs.Steps.{Wrote};
 ghost use Rattle.draw.specs.Drawing.{drawnChain, leavesOf, drawingOf};
 ghost use Rattle.lines.specs.Line.{lineOf};
 ghost use Rattle.verdict_lines.specs.Text.{chainText, ChainIn};

@@ -7,8 +7,8 @@ use mathlib.Core.List.{List}
 use lib.ListN.{length, getD, take, length-take}
 use lib.Seq.{getD-take, take-all}
 use borrow.Author.Tests.{eq-eqb, ne-eqb}
-use Rattle.planning.specs.Input.{maxNumbers, numbers}
-use Rattle.planning.specs.Steps.{allFit}
+use Rattle.decimal.specs.Numbers.{maxNumbers, numbers}
+use Rattle.decimal.specs.Steps.{allFit}
 use Rattle.words.specs.Values.{isNumber, noNumber, valueOf}
 
 pub not-read : (word : List ℕ) → allFit false 0 word ≡ false → noNumber ≡ valueOf word

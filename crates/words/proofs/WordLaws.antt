@@ -9,9 +9,9 @@ use lib.Seq.{drop-cons, drop-drop, drop-nil}
 use borrow.Author.Tests.{eq-eqb, ne-eqb, lt-ltb, le-ltb}
 use Rattle.base.specs.Bytes.{written}
 use Rattle.base.proofs.Copying.{length-written}
-use Rattle.chain.proofs.Writing.{written-none}
-use Rattle.planning.specs.Steps.{Wrote}
-use Rattle.planning.proofs.Laying.{then, one-byte}
+use Rattle.base.proofs.WrittenLaws.{written-none}
+use Rattle.decimal.specs.Steps.{Wrote}
+use Rattle.decimal.proofs.Laying.{then, one-byte}
 use Rattle.words.specs.Parting.{upTo, after, wordAt, wordCount, endedWord}
 
 module _ (line : List ℕ) (i : ℕ) (h : i < length line) where

@@ -5,8 +5,8 @@ use mathlib.Core.List.{List}
 use lib.Dec.{eqb}
 use lib.ListN.{length, getD}
 use Rattle.base.specs.Choice.{pick, both}
-use Rattle.planning.specs.Input.{numbers}
-use Rattle.planning.specs.Steps.{allFit}
+use Rattle.decimal.specs.Numbers.{numbers}
+use Rattle.decimal.specs.Steps.{allFit}
 
 -- one number in decimal, and no other byte but a blank or a line feed; it is at most 2^64 − 1
 unfoldable pub isNumber : List ℕ → Bool

@@ -2,7 +2,7 @@
 ghost use mathlib.Core.Path.{_≡_};
 ghost use Prim.Native.Nat.{_+_, _≤_};
 ghost use lib.ListN.{length, drop};
-ghost use Rattle.planning.specs.Steps.{Wrote};
+ghost use Rattle.decimal.specs.Steps.{Wrote};
 ghost use Rattle.words.specs.Parting.{upTo, after, wordAt, wordCount, endedWord};
 use base::put;
 

@@ -6,10 +6,10 @@ ghost use Rattle.words.specs.Values.{valueOf};
 pub fn value(word: &[u8]) -> u64
     ensures { λ r. ⌜ r ≡ valueOf (now (word .entry)) ⌝ }
 {
-    if !planning::is_readable(word) {
+    if !decimal::is_readable(word) {
         return 18446744073709551615;
     }
-    let numbers = planning::read_numbers(word);
+    let numbers = decimal::read_numbers(word);
     let list = numbers.list;
     let count = numbers.count;
     if count != 1 {

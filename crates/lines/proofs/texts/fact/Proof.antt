@@ -1,7 +1,7 @@
 -- `lines::texts::fact` meets its contract.
 use native.Mathlib.Omega.{arith}
 use Rattle.lines.proofs.LineLaws.{first, more}
-use Rattle.planning.proofs.Laying.{decimal-short}
+use Rattle.decimal.proofs.Laying.{decimal-short}
 use Rattle.lines.specs.Texts.{factText}
 use borrow.Author.Needs.{needs}
 use Rattle.lines.proofs.texts.fact.Statement.{statement}

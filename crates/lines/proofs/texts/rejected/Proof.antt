@@ -2,7 +2,7 @@
 use native.Mathlib.Omega.{arith}
 use mathlib.Core.Path.{_∙_}
 use Rattle.lines.proofs.LineLaws.{first, more}
-use Rattle.planning.proofs.Laying.{decimal-short}
+use Rattle.decimal.proofs.Laying.{decimal-short}
 use Rattle.lines.specs.Texts.{rejectedText}
 use mathlib.Core.List.{append-assoc}
 use borrow.Author.Needs.{needs}

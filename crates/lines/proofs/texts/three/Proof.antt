@@ -2,9 +2,9 @@
 use native.Mathlib.Omega.{arith}
 use mathlib.Core.Path.{_∙_}
 use Rattle.lines.proofs.LineLaws.{first, more, in-threes}
-use Rattle.planning.proofs.Laying.{decimal-short}
+use Rattle.decimal.proofs.Laying.{decimal-short}
 use Rattle.lines.specs.Texts.{threeText}
-use Rattle.planning.specs.Output.{decimal}
+use Rattle.decimal.specs.Text.{decimal}
 use borrow.Author.Needs.{needs}
 use Rattle.lines.proofs.texts.three.Statement.{statement}
 use Rattle.lines.proofs.texts.three.Tie as tie

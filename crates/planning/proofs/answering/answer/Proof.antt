@@ -1,7 +1,7 @@
 -- `answering::answer` meets its contract: one law for each exit.
 use Rattle.planning.proofs.InputLaws.{long-input, bad-input, no-number, good-input, plan-printed, input-printed, answered, no-room}
-use Rattle.planning.proofs.ReadLaws.{kept-all}
-use Rattle.planning.specs.Input.{maxNumbers, numbers}
+use Rattle.decimal.proofs.ReadLaws.{kept-all}
+use Rattle.decimal.specs.Numbers.{maxNumbers, numbers}
 use lib.ListN.{length, length-take}
 use borrow.Author.Tests.{not-true, not-false}
 use native.Mathlib.Omega.{arith}

@@ -1,5 +1,6 @@
 -- `texts::put_head` meets its contract: three fields and a line feed.
-use Rattle.planning.proofs.Laying.{depthWord, leavesWord, chainWord, then, field-end, head-one, head-two, head-short}
+use Rattle.decimal.proofs.Laying.{then, field-end}
+use Rattle.planning.proofs.Laying.{depthWord, leavesWord, chainWord, head-one, head-two, head-short}
 use Rattle.planning.specs.Output.{headText}
 use native.Mathlib.Omega.{arith}
 use borrow.Author.Needs.{needs}

@@ -1,6 +1,7 @@
 -- `texts::put_node` meets its contract: two fields and a line feed.
 use mathlib.Core.List.{_∷_, []}
-use Rattle.planning.proofs.Laying.{then, field-end, node-one, node-short}
+use Rattle.decimal.proofs.Laying.{then, field-end}
+use Rattle.planning.proofs.Laying.{node-one, node-short}
 use Rattle.tree.specs.Nodes.{node}
 use Rattle.planning.specs.Output.{nodeText}
 use native.Mathlib.Omega.{arith}

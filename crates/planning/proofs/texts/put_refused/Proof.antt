@@ -1,5 +1,6 @@
 -- `texts::put_refused` meets its contract: a field and a line feed.
-use Rattle.planning.proofs.Laying.{refusedWord, then, field-end, refused-short}
+use Rattle.decimal.proofs.Laying.{then, field-end}
+use Rattle.planning.proofs.Laying.{refusedWord, refused-short}
 use Rattle.planning.specs.Output.{refusedText}
 use native.Mathlib.Omega.{arith}
 use borrow.Author.Needs.{needs}

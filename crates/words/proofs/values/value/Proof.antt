@@ -1,7 +1,7 @@
 -- `words::values::value` meets its contract.
 use borrow.Author.Tests.{not-true, not-false}
 use mathlib.Core.Path.{sym, _∙_}
-use Rattle.planning.proofs.ReadLaws.{kept-all}
+use Rattle.decimal.proofs.ReadLaws.{kept-all}
 use Rattle.words.proofs.ValueLaws.{not-read, not-one, one}
 use borrow.Author.Needs.{needs}
 use Rattle.words.proofs.values.value.Statement.{statement}

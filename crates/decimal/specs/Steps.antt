@@ -5,9 +5,8 @@ use mathlib.Core.Bool.{Bool, true, not}
 use mathlib.Core.List.{List, [], _∷_}
 use lib.ListN.{length}
 use Rattle.base.specs.Bytes.{written}
-use Rattle.base.specs.Choice.{pick, both}
-use Rattle.chain_theory.specs.Planning.{every}
-use Rattle.planning.specs.Input.{isDigit, readable, fits, numbersFrom}
+use Rattle.base.specs.Choice.{pick, both, every}
+use Rattle.decimal.specs.Numbers.{isDigit, readable, fits, numbersFrom}
 
 -- a byte that can be read after a value, and the value after it
 abbrev pub goesOn : ℕ → ℕ → Bool

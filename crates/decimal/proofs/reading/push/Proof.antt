@@ -1,9 +1,9 @@
 -- `reading::push` meets its contract: a number is kept only where it ends.
-use Rattle.planning.proofs.ReadLaws.{kept-none, kept-one, none-open, goes-on, ends-here}
+use Rattle.decimal.proofs.ReadLaws.{kept-none, kept-one, none-open, goes-on, ends-here}
 use borrow.Author.Tests.{not-true, not-false}
 use borrow.Author.Needs.{needs}
-use Rattle.planning.proofs.reading.push.Statement.{statement}
-use Rattle.planning.proofs.reading.push.Tie as tie
+use Rattle.decimal.proofs.reading.push.Statement.{statement}
+use Rattle.decimal.proofs.reading.push.Tie as tie
 
 returns : tie.Need-returns
 returns c =

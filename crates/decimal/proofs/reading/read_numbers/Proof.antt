@@ -1,9 +1,9 @@
 -- `reading::read_numbers` meets its contract: the invariant: those kept and those left are all numbers,
 -- and zeros stand behind those kept.
-use Rattle.planning.proofs.ReadLaws.{all-start, all-turn, next-fits, must-go, numbers-turn, numbers-last, first-full, first-all, kept-first, kept-behind, ended-short, all-kept}
+use Rattle.decimal.proofs.ReadLaws.{all-start, all-turn, next-fits, must-go, numbers-turn, numbers-last, first-full, first-all, kept-first, kept-behind, ended-short, all-kept}
 use Rattle.base.specs.Bytes.{zeros}
-use Rattle.planning.specs.Steps.{allFit, ended}
-use Rattle.planning.specs.Input.{maxNumbers, fits, numbers, numbersFrom}
+use Rattle.decimal.specs.Steps.{allFit, ended}
+use Rattle.decimal.specs.Numbers.{maxNumbers, fits, numbers, numbersFrom}
 use lib.ListN.{length, drop, take}
 use native.Mathlib.Omega.{arith}
 use Prim.Native.Nat.{_+_, _-_, _≤_, _<_}
@@ -11,8 +11,8 @@ use mathlib.Core.List.{_++_}
 use mathlib.Core.Bool.{true, false}
 use mathlib.Core.Path.{_≡_, refl, _∙_}
 use borrow.Author.Needs.{needs}
-use Rattle.planning.proofs.reading.read_numbers.Statement.{statement}
-use Rattle.planning.proofs.reading.read_numbers.Tie as tie
+use Rattle.decimal.proofs.reading.read_numbers.Statement.{statement}
+use Rattle.decimal.proofs.reading.read_numbers.Tie as tie
 
 abbrev Inv-loop : tie.InvT-loop
 Inv-loop input list₀ count₀ value₀ within₀ i₀ list count value within i =

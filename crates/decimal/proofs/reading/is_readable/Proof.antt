@@ -1,7 +1,7 @@
 -- `reading::is_readable` meets its contract: the invariant: what is left to read tells the same.
-use Rattle.planning.proofs.ReadLaws.{all-start, all-end, all-turn, all-stop, next-fits}
-use Rattle.planning.specs.Steps.{allFit}
-use Rattle.planning.specs.Input.{fits}
+use Rattle.decimal.proofs.ReadLaws.{all-start, all-end, all-turn, all-stop, next-fits}
+use Rattle.decimal.specs.Steps.{allFit}
+use Rattle.decimal.specs.Numbers.{fits}
 use borrow.Author.Tests.{not-true, not-false}
 use lib.ListN.{length, drop}
 use native.Mathlib.Omega.{arith}
@@ -9,8 +9,8 @@ use Prim.Native.Nat.{_-_, _≤_}
 use mathlib.Core.Bool.{true, false}
 use mathlib.Core.Path.{_≡_, refl, sym, _∙_}
 use borrow.Author.Needs.{needs}
-use Rattle.planning.proofs.reading.is_readable.Statement.{statement}
-use Rattle.planning.proofs.reading.is_readable.Tie as tie
+use Rattle.decimal.proofs.reading.is_readable.Statement.{statement}
+use Rattle.decimal.proofs.reading.is_readable.Tie as tie
 
 abbrev Inv-loop : tie.InvT-loop
 Inv-loop input value₀ i₀ value i = (i ≤ length input) × (fits value ≡ true) × (allFit true value (drop i input) ≡ allFit false 0 input)

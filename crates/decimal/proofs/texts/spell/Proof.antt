@@ -1,7 +1,7 @@
 -- `texts::spell` meets its contract: the invariant: the digits of the rest and those laid are the number's,
 -- and zeros stand before them.
-use Rattle.planning.proofs.Laying.{ten-left, tenth, spelled-more, spelled-last, zeros-more, zeros-last}
-use Rattle.planning.specs.Output.{digits, decimal}
+use Rattle.decimal.proofs.Laying.{ten-left, tenth, spelled-more, spelled-last, zeros-more, zeros-last}
+use Rattle.decimal.specs.Text.{digits, decimal}
 use lib.ListN.{length, take, drop, length-set}
 use Rattle.base.specs.Bytes.{zeros}
 use native.Mathlib.Omega.{arith}
@@ -9,8 +9,8 @@ use Prim.Native.Nat.{_+_, _^_, _<_}
 use mathlib.Core.List.{_++_, append-nil}
 use mathlib.Core.Path.{_≡_, refl}
 use borrow.Author.Needs.{needs}
-use Rattle.planning.proofs.texts.spell.Statement.{statement}
-use Rattle.planning.proofs.texts.spell.Tie as tie
+use Rattle.decimal.proofs.texts.spell.Statement.{statement}
+use Rattle.decimal.proofs.texts.spell.Tie as tie
 
 abbrev Inv-loop : tie.InvT-loop
 Inv-loop x text₀ i₀ rest₀ text i rest =

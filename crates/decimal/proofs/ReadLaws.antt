@@ -9,14 +9,13 @@ use lib.Dec.{ltb, leb, eqb}
 use lib.ListN.{length, getD, take, drop, set, length-append, take-append-drop, drop-of-length-le}
 use lib.Seq.{drop-cons, drop-drop, take-at, drop-at, take-all, length-take-le}
 use borrow.Author.Tests.{lt-leb, le-leb, ne-eqb, le-ltb, lt-ltb, ltb-false}
-use Rattle.base.specs.Choice.{pick, both}
+use Rattle.base.specs.Choice.{pick, both, every}
 use Rattle.base.specs.Bytes.{written}
 use Rattle.base.proofs.ChoiceLaws.{both-first, both-second, both-false}
-use Rattle.chain.proofs.Writing.{written-none}
-use Rattle.chain_theory.specs.Planning.{every}
-use Rattle.planning.specs.Input.{maxNumbers, isDigit, readable, fits, numbersFrom, numbers}
-use Rattle.planning.specs.Steps.{goesOn, nextValue, Step, Wrote, allFit, ended}
-use Rattle.planning.proofs.Laying.{one-byte}
+use Rattle.base.proofs.WrittenLaws.{written-none}
+use Rattle.decimal.specs.Numbers.{maxNumbers, isDigit, readable, fits, numbersFrom, numbers}
+use Rattle.decimal.specs.Steps.{goesOn, nextValue, Step, Wrote, allFit, ended}
+use Rattle.decimal.proofs.Laying.{one-byte}
 
 -- each exit of a step
 never : {A : Type 0} → false ≡ true → A

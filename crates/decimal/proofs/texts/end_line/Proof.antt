@@ -1,8 +1,8 @@
 -- `texts::end_line` meets its contract: one byte.
-use Rattle.planning.proofs.Laying.{one-byte}
+use Rattle.decimal.proofs.Laying.{one-byte}
 use borrow.Author.Needs.{needs}
-use Rattle.planning.proofs.texts.end_line.Statement.{statement}
-use Rattle.planning.proofs.texts.end_line.Tie as tie
+use Rattle.decimal.proofs.texts.end_line.Statement.{statement}
+use Rattle.decimal.proofs.texts.end_line.Tie as tie
 
 returns : tie.Need-returns
 returns c = one-byte _ _ _ (c .pre)

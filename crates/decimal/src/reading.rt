@@ -4,8 +4,8 @@ ghost use mathlib.Core.Bool.{true, false};
 ghost use Prim.Native.Nat.{_<_};
 ghost use lib.ListN.{length, take};
 ghost use Rattle.base.specs.Bytes.{zeros, written};
-ghost use Rattle.planning.specs.Input.{maxNumbers, numbers};
-ghost use Rattle.planning.specs.Steps.{Step, Wrote, allFit, ended};
+ghost use Rattle.decimal.specs.Numbers.{maxNumbers, numbers};
+ghost use Rattle.decimal.specs.Steps.{Step, Wrote, allFit, ended};
 use base::MAX_LEAVES;
 use base::wide;
 

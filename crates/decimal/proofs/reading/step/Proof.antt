@@ -1,9 +1,9 @@
 -- `reading::step` meets its contract: one law for each exit.
-use Rattle.planning.proofs.ReadLaws.{blank-step, feed-step, low-step, high-step, over-step, digit-step}
+use Rattle.decimal.proofs.ReadLaws.{blank-step, feed-step, low-step, high-step, over-step, digit-step}
 use native.Mathlib.Omega.{arith}
 use borrow.Author.Needs.{needs}
-use Rattle.planning.proofs.reading.step.Statement.{statement}
-use Rattle.planning.proofs.reading.step.Tie as tie
+use Rattle.decimal.proofs.reading.step.Statement.{statement}
+use Rattle.decimal.proofs.reading.step.Tie as tie
 
 returns : tie.Need-returns
 returns c = blank-step _ _ (c .if1 .taken)

@@ -4,12 +4,12 @@ use lib.ListN.{length, length-drop}
 use mathlib.Core.Path.{ap}
 use lib.Seq.{take-all}
 use lib.ListN.{drop}
-use Rattle.planning.proofs.Laying.{field-wrote}
+use Rattle.decimal.proofs.Laying.{field-wrote}
 use native.Mathlib.Omega.{arith}
 use mathlib.Core.Path.{refl, _∙_}
 use borrow.Author.Needs.{needs}
-use Rattle.planning.proofs.texts.put_field.Statement.{statement}
-use Rattle.planning.proofs.texts.put_field.Tie as tie
+use Rattle.decimal.proofs.texts.put_field.Statement.{statement}
+use Rattle.decimal.proofs.texts.put_field.Tie as tie
 
 returns : tie.Need-returns
 returns c =
