@@ -1,18 +1,18 @@
 -- The end of a message at the front of zeros, padded where it lies (FIPS 180-4, 5.1.1).
 use mathlib.Core.Path.{_≡_, refl, sym, ap, _∙_}
 use mathlib.Core.List.{List, [], _∷_, _++_, append-assoc}
-use Prim.Native.Nat.{ℕ, _+_, _-_, _*_, _/_, _%_, _≤_}
+use Prim.Native.Nat.{ℕ, _+_, _-_, _*_, _%_, _≤_}
 use native.Mathlib.Omega.{arith}
 use lib.ListN.{length, take, length-append, length-replicate}
 use lib.Seq.{take-at}
 use Rattle.base.specs.Bytes.{bigEndian, zeros, written}
 use Rattle.base.proofs.BytesLaws.{length-bigEndian}
 use Rattle.base.proofs.Zeros.{zeros-split, written-zeros}
-use Rattle.sha256.specs.Padding.{zeroBytes, padding}
+use Rattle.sha256.specs.Padding.{zeroBytes, padding, blocksOf}
 
 -- the bytes of the blocks that len bytes fill when they are padded
 abbrev pub paddedSize : ℕ → ℕ
-paddedSize len = 64 * ((len + 8) / 64 + 1)
+paddedSize len = 64 * blocksOf len
 
 -- the zero bytes between the byte 128 and the length
 between : (len : ℕ) → paddedSize len - 8 - (len + 1) ≡ zeroBytes len

@@ -15,6 +15,10 @@ padding len = 128 ∷ zeros (zeroBytes len) ++ bigEndian 8 (8 * len)
 unfoldable pub padded : List ℕ → List ℕ
 padded message = message ++ padding (length message)
 
+-- how many 64-byte blocks a message of so many bytes fills when it is padded
+abbrev pub blocksOf : ℕ → ℕ
+blocksOf len = (len + 8) / 64 + 1
+
 -- the number of 64-byte blocks
 abbrev pub blocks : List ℕ → ℕ
 blocks bytes = length bytes / 64

@@ -3,7 +3,7 @@ ghost use Prim.Native.Nat.{_%_, _≤_};
 ghost use mathlib.Core.Path.{_≡_};
 ghost use lib.ListN.{length, take};
 ghost use mathlib.Core.List.{_++_};
-ghost use Rattle.sha256.specs.Padding.{padding};
+ghost use Rattle.sha256.specs.Padding.{padding, blocksOf};
 ghost use Rattle.sha256.specs.Digest.{digestOf};
 ghost use Rattle.base.specs.Limits.{maxHashed};
 use crate::Words;
@@ -56,13 +56,21 @@ pub struct Last {
     pub count: usize,
 }
 
+// How many blocks a message of so many bytes fills when it is padded.
+pub fn block_count(len: usize) -> usize
+    requires { ⌜ len ≤ maxHashed ⌝ }
+    ensures { λ r. ⌜ r ≡ blocksOf len ⌝ }
+{
+    (len + 8) / 64 + 1
+}
+
 // The last blocks of a message of len bytes: what is left of it after whole blocks, and the padding.
 pub fn last_blocks(rest: &[u8], len: u64) -> Last
     requires { ⌜ (length (now rest) ≡ len % 64) × (len ≤ maxHashed) ⌝ }
     ensures { λ r. ⌜ (take (r .count) (r .bytes) ≡ now (rest .entry) ++ padding len) × (r .count ≤ 128) ⌝ }
 {
     let at = rest.len();
-    let end = 64 * ((at + 8) / 64 + 1);
+    let end = 64 * block_count(at);
     let bits = big_endian(8 * len);
     let mut bytes = [0u8; 128];
     put(&mut bytes, 0, rest);

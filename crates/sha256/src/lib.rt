@@ -17,6 +17,7 @@ ghost use Rattle.base.specs.Limits.{maxHashed};
 ghost use Rattle.refusal.specs.Number.{outcomeNumber};
 ghost use Rattle.sha256.specs.Portions.{newHash, updateRow, updateState, finishRow, finishDigest, finishState, digestRow, digestAnswer};
 use absorb::absorb;
+pub use encode::block_count;
 use encode::digest_bytes;
 use push::aligned;
 use push::closed;
