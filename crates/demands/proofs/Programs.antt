@@ -12,8 +12,7 @@ use Rattle.groups.specs.Groups.{groupsOf}
 use Rattle.groups.specs.Writing.{putRow, putCount, outputAfter}
 use Rattle.tree.specs.Openings.{openingSize}
 use Rattle.chain.specs.PlanRow.{planRow}
-use Rattle.planning.specs.Input as input
-use Rattle.decimal.specs.Numbers.{readable, numbers}
+use Rattle.decimal.specs.Numbers.{readable, numbers, fits}
 use Rattle.planning.specs.Input.{unreadable}
 use Rattle.planning.specs.Output.{places, planText, printed}
 use Rattle.compare.specs.Comparison.{compareRow, compared}
@@ -79,7 +78,7 @@ decides-unreadable bytes =
     decides-either (decides-lt 65536 (length bytes))
     (decides-either (decides-some readable OtherByte decides-byte bytes)
     (decides-either (decides-eq (length (numbers bytes)) 0)
-    (decides-some input.fits (λ x. 2 ^ 64 ≤ x) (λ x. decides-under x (2 ^ 64)) (numbers bytes))))
+    (decides-some fits (λ x. 2 ^ 64 ≤ x) (λ x. decides-under x (2 ^ 64)) (numbers bytes))))
 
 program-by : (bytes : List ℕ) (t : Bool) → unreadable bytes ≡ t → PlanningProgram bytes
 unfolding printed planText
