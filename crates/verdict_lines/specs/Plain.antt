@@ -3,14 +3,13 @@ use Prim.Native.Nat.{ℕ}
 use Prim.Native.String.{String}
 use mathlib.Core.List.{List, [], _∷_}
 use lib.Dec.{eqb}
-use Rattle.base.specs.Limits.{maxDepth}
 use Rattle.base.specs.Choice.{pick}
 use Rattle.decimal.specs.Ascii.{ascii}
 
 -- by document 01's number
 abbrev pub plainTable : List (ℕ × String)
 plainTable =
-    (1, "the proof's depth is not 1 to maxDepth\n")
+    (1, "the proof's depth is not 1 to 40\n")
     ∷ (8, "the proof's number of challenges is not 1 to 200\n")
     ∷ (9, "the proof is not of this report, or not of the depth and challenges wanted\n")
     ∷ (10, "the proof file ends too early\n")

@@ -1,9 +1,9 @@
 // What is told of a proof, as text: the verdict, a refusal, a clash, a chain.
-mod chain; // chain.rt: the text of a drawing
+mod drawing; // drawing.rt: the text of a drawing
 mod sentences; // sentences.rt: a refusal in plain words
 mod telling; // telling.rt: the lines of a drawing
 
-pub use chain::put_drawing;
+pub use drawing::put_drawing;
 pub use sentences::plain;
 pub use telling::clash_lines;
 pub use telling::refused;

@@ -1,4 +1,4 @@
--- `chain_lines::put_line` meets its contract.
+-- `verdict_lines::drawing::put_line` meets its contract.
 use mathlib.Core.Path.{_≡_, sym}
 use native.Mathlib.Omega.{arith}
 use lib.ListN.{length}
@@ -6,8 +6,8 @@ use lib.Seq.{length-take-le}
 use Rattle.lines.specs.Line.{lineOf}
 use Rattle.verdict_lines.proofs.ChainLaws.{line-whole, line-first}
 use borrow.Author.Needs.{needs}
-use Rattle.verdict_lines.proofs.chain.put_line.Statement.{statement}
-use Rattle.verdict_lines.proofs.chain.put_line.Tie as tie
+use Rattle.verdict_lines.proofs.drawing.put_line.Statement.{statement}
+use Rattle.verdict_lines.proofs.drawing.put_line.Tie as tie
 
 put-requires : tie.Need-put-requires
 put-requires c κs =

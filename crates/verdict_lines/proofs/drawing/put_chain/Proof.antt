@@ -1,4 +1,4 @@
--- `chain_lines::put_chain` meets its contract: a drawn chain is the plan of the opened leaves.
+-- `verdict_lines::drawing::put_chain` meets its contract: a drawn chain is the plan of the opened leaves.
 use mathlib.Core.Path.{sym, _∙_}
 use native.Mathlib.Omega.{arith}
 use Prim.Native.Nat.{ℕ, _<_}
@@ -9,8 +9,8 @@ use Rattle.planning.proofs.AnswerLaws.{done-wrote}
 use Rattle.draw.proofs.AcceptedFile.{depth-known, count-known, size-known, leaves-known}
 use Rattle.verdict_lines.proofs.ChainLaws.{file-accepted, plan-done}
 use borrow.Author.Needs.{needs}
-use Rattle.verdict_lines.proofs.chain.put_chain.Statement.{statement}
-use Rattle.verdict_lines.proofs.chain.put_chain.Tie as tie
+use Rattle.verdict_lines.proofs.drawing.put_chain.Statement.{statement}
+use Rattle.verdict_lines.proofs.drawing.put_chain.Tie as tie
 
 add-label-at : tie.Need-add-label-at
 add-label-at c =
