@@ -34,7 +34,7 @@ pub fn put(dst: &mut [u8], at: usize, src: &[u8])
     ensures { λ _. ⌜ now (dst .exit) ≡ written (now (dst .entry)) at (now (src .entry)) ⌝ }
 {
     let count = src.len();
-    let mut i = 0;
+    let mut i: usize = 0;
     while i < count {
         dst[at + i] = src[i];
         i += 1;
