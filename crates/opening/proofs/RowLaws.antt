@@ -1,5 +1,5 @@
 -- What is known of an opening that may be started or continued, and what a call gives by its answer.
-use mathlib.Core.Path.{_≡_, refl}
+use mathlib.Core.Path.{_≡_, sym}
 use mathlib.Core.Bool.{false}
 use mathlib.Core.List.{List}
 use Prim.Native.Nat.{ℕ, _-_, _^_, _≤_, min}
@@ -9,6 +9,8 @@ use lib.Dec.{ltb, leb}
 use lib.ListN.{length}
 use Rattle.base.specs.Limits.{maxDepth}
 use Rattle.refusal.specs.Row.{outside, either, isDone}
+use Rattle.machine.proofs.StepLaws as machines
+use Rattle.machine.proofs.StepLaws.{done-some, done-refused}
 use Rattle.tree.specs.Walk.{nodesIn}
 use Rattle.tree.specs.Store.{storeSize}
 use Rattle.run.specs.Rows.{memoryOver, impossible}
@@ -16,7 +18,7 @@ use Rattle.run.proofs.RowLaws.{depth-some, depth-inside, memory-below, memory-i
 use Rattle.opening.specs.declared.Opening.{Opening}
 use Rattle.opening.specs.Rows.{openingSize, nodesAnew, openRow, reopenRow}
 use Rattle.opening.specs.Possible.{Possible, openOf}
-use Rattle.opening.specs.Steps.{newOpening, noOpening, copiedAll, started, startedOut, steps, labelsIn, advanced}
+use Rattle.opening.specs.Steps.{newOpening, noOpening, copiedAll, started, startedOut, openingMachine, steps, labelsIn, advanced}
 
 -- the number of nodes, as it is computed
 pub anew-nodes : (n m : ℕ) → nodesIn (n - m) - 1 ≡ nodesAnew n m
@@ -65,20 +67,21 @@ module _ (statement : List ℕ) (n m leaf : ℕ) (store out : List ℕ) where
 module _ (o : Opening) (store out : List ℕ) (budget : ℕ) where
   pub labels-done : reopenRow o (length store) (length out) ≡ 0
       → min budget (nodesAnew (o .depth) (o .memory) - o .made) ≡ labelsIn store (openOf o out) budget
-  unfolding labelsIn
-  labels-done e = rw e
+  unfolding openingMachine
+  labels-done e = sym (done-some (openingMachine store) (openOf o out) budget e)
 
   pub labels-refused : isDone (reopenRow o (length store) (length out)) ≡ false → 0 ≡ labelsIn store (openOf o out) budget
-  unfolding labelsIn
-  labels-refused e = rw e
+  unfolding openingMachine
+  labels-refused e = sym (done-refused (openingMachine store) (openOf o out) budget e)
 
   pub advanced-by : (k : ℕ) (o′ : Opening) (out′ : List ℕ) → k ≡ labelsIn store (openOf o out) budget
       → o′ ≡ steps store k (openOf o out) .opening → out′ ≡ steps store k (openOf o out) .out
       → (o′ ≡ advanced store (openOf o out) budget .opening) × (out′ ≡ advanced store (openOf o out) budget .out)
-  unfolding advanced
-  advanced-by k o′ out′ e a b = (rw (← e) a, rw (← e) b)
+  advanced-by k o′ out′ e a b =
+      let f : steps store k (openOf o out) ≡ advanced store (openOf o out) budget =
+      machines.advanced-by (openingMachine store) (openOf o out) budget k e in
+      (rw (← f) a, rw (← f) b)
 
   pub unchanged : 0 ≡ labelsIn store (openOf o out) budget
       → (o ≡ advanced store (openOf o out) budget .opening) × (out ≡ advanced store (openOf o out) budget .out)
-  unfolding steps
-  unchanged e = advanced-by 0 o out e refl refl
+  unchanged e = let f = machines.unchanged (openingMachine store) (openOf o out) budget (sym e) in (rw f, rw f)

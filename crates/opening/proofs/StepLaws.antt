@@ -3,17 +3,17 @@ use mathlib.Core.Path.{_≡_, ap₂, _∙_}
 use mathlib.Core.List.{List}
 use Prim.Native.Nat.{ℕ, zero, suc, _+_, _-_, _^_, _≤_, _<_}
 use native.Mathlib.Nat.{add-zero}
-use native.Mathlib.Numerals.{add-one}
 use native.Mathlib.Omega.{arith}
 use lib.Pow.{pow-mono}
 use Rattle.base.specs.Limits.{maxDepth}
+use Rattle.machine.proofs.StepLaws.{no-step, step-last}
 use Rattle.tree.specs.Nodes.{Node}
 use Rattle.tree.specs.Walk.{nodesIn}
 use Rattle.tree.proofs.Order.{Place, placeOf, place-top, order-placed}
 use Rattle.label.specs.Step.{nextNode, heldWith}
 use Rattle.opening.specs.Rows.{nodesAnew}
 use Rattle.opening.specs.Possible.{openingOf, openOf, nextAnew, labelAnew}
-use Rattle.opening.specs.Steps.{Open, ancestor, placed, front, stepped, steps}
+use Rattle.opening.specs.Steps.{Open, ancestor, placed, front, stepped, openingMachine, steps}
 
 -- the ancestor's own label is not made anew
 pub anew-few : (n m k : ℕ) → k < nodesAnew n m → k + 1 < nodesIn (n - m)
@@ -46,8 +46,8 @@ one-step h n leaf v w w′ label label′ held held′ out out′ is so e f =
 -- no step, and one more
 pub steps-none : (store statement : List ℕ) (n m leaf made : ℕ) (held out : List ℕ)
     → steps store 0 (openOf (openingOf statement n m leaf made held) out) ≡ openOf (openingOf statement n m leaf (made + 0) held) out
-unfolding steps
-steps-none store statement n m leaf made held out = rw (add-zero made)
+steps-none store statement n m leaf made held out =
+    rw (no-step (openingMachine store) (openOf (openingOf statement n m leaf made held) out), add-zero made)
 
 module _ (store : List ℕ) (s : Open) (i : ℕ) (statement : List ℕ) (n m leaf made : ℕ) (held out : List ℕ)
     (before : steps store i s ≡ openOf (openingOf statement n m leaf (made + i) held) out)
@@ -58,7 +58,7 @@ module _ (store : List ℕ) (s : Open) (i : ℕ) (statement : List ℕ) (n m lea
   pub steps-more : (held′ out′ : List ℕ) → held′ ≡ heldWith (n - m) (ancestor n leaf m) held (nextAnew n m leaf (made + i)) label
       → out′ ≡ placed n leaf out (nextAnew n m leaf (made + i)) label
       → steps store (i + 1) s ≡ openOf (openingOf statement n m leaf (made + (i + 1)) held′) out′
-  unfolding steps stepped
+  unfolding openingMachine stepped
   steps-more held′ out′ e f =
       let a : made + (i + 1) ≡ made + i + 1 = omega arith in
-      rw (a, add-one i, before, e, f, read)
+      rw (a, step-last (openingMachine store) i s, before, e, f, read)

@@ -1,6 +1,6 @@
 -- Document 01, 'Runs in lent memory', an opening: what starting it copies, one step on its state and output, and a call with a
 -- budget. The store lent to a call is read and not changed.
-use Prim.Native.Nat.{ℕ, zero, suc, _+_, _-_, _*_, _/_, _^_, min}
+use Prim.Native.Nat.{ℕ, zero, suc, _+_, _-_, _*_, _/_, _^_}
 use mathlib.Core.List.{List, map}
 use lib.Dec.{eqb}
 use lib.ListN.{length, take, drop}
@@ -8,6 +8,8 @@ use Rattle.base.specs.Limits.{heldSize}
 use Rattle.base.specs.Choice.{pick}
 use Rattle.base.specs.Bytes.{zeros, joined, written}
 use Rattle.refusal.specs.Row.{isDone}
+use Rattle.machine.specs.Machines as machines
+use Rattle.machine.specs.Machines.{Machine}
 use Rattle.tree.specs.Nodes.{Node, node, sameNode, leftSiblings}
 use Rattle.tree.specs.Labels.{Label}
 use Rattle.tree.specs.Store.{slot}
@@ -93,16 +95,22 @@ stepped store s =
       out = placed (o .depth) (o .leaf) (s .out) w label;
     }
 
-unfoldable pub steps : List ℕ → ℕ → Open → Open
-steps store zero s = s
-steps store (suc k) s = stepped store (steps store k s)
+-- an opening over its store as a machine: the checks of a call, the labels that remain, and one label
+unfoldable pub openingMachine : List ℕ → Machine Open
+openingMachine store =
+    record {
+      row = λ s. reopenRow (s .opening) (length store) (length (s .out));
+      remaining = λ s. nodesAnew (s .opening .depth) (s .opening .memory) - s .opening .made;
+      step = stepped store;
+    }
+
+abbrev pub steps : List ℕ → ℕ → Open → Open
+steps store k s = machines.steps (openingMachine store) k s
 
 -- the smaller of the budget and what remains; a refused call labels none
-unfoldable pub labelsIn : List ℕ → Open → ℕ → ℕ
-labelsIn store s budget =
-    pick (isDone (reopenRow (s .opening) (length store) (length (s .out))))
-    (min budget (nodesAnew (s .opening .depth) (s .opening .memory) - s .opening .made)) 0
+abbrev pub labelsIn : List ℕ → Open → ℕ → ℕ
+labelsIn store s budget = machines.doneIn (openingMachine store) s budget
 
 -- the opening and its output after a call
-unfoldable pub advanced : List ℕ → Open → ℕ → Open
-advanced store s budget = steps store (labelsIn store s budget) s
+abbrev pub advanced : List ℕ → Open → ℕ → Open
+advanced store s budget = machines.advanced (openingMachine store) s budget

@@ -11,11 +11,13 @@ use Rattle.base.specs.Limits.{maxDepth, maxMemory}
 use Rattle.base.proofs.ChoiceLaws.{both-first, both-second}
 use Rattle.refusal.specs.Row.{outside, either, isDone}
 use Rattle.refusal.proofs.RowLaws.{passed}
+use Rattle.machine.proofs.StepLaws as machines
+use Rattle.machine.proofs.StepLaws.{done-some, done-refused}
 use Rattle.tree.specs.Walk.{nodesIn}
 use Rattle.tree.specs.Store.{storeSize}
 use Rattle.run.specs.declared.Run.{Run}
 use Rattle.run.specs.Rows.{memoryOver, impossible, startRow, continueRow}
-use Rattle.run.specs.Steps.{newRun, noRun, started, stamped, steps, labelsIn, advanced}
+use Rattle.run.specs.Steps.{newRun, noRun, started, stamped, runMachine, steps, labelsIn, advanced}
 
 not-leb : (a b : ℕ) → ltb b a ≡ not (leb a b)
 not-leb a b = by (leb a b) refl
@@ -94,20 +96,20 @@ module _ (statement : List ℕ) (n m store : ℕ) where
 
 module _ (run : Run) (store : List ℕ) (budget : ℕ) where
   pub labels-done : continueRow run (length store) ≡ 0 → min budget (nodesIn (run .depth) - run .made) ≡ labelsIn (stamped run store) budget
-  unfolding labelsIn
-  labels-done e = rw e
+  unfolding runMachine
+  labels-done e = sym (done-some runMachine (stamped run store) budget e)
 
   pub labels-refused : isDone (continueRow run (length store)) ≡ false → 0 ≡ labelsIn (stamped run store) budget
-  unfolding labelsIn
-  labels-refused e = rw e
+  unfolding runMachine
+  labels-refused e = sym (done-refused runMachine (stamped run store) budget e)
 
   pub advanced-by : (k : ℕ) (run' : Run) (store' : List ℕ) → k ≡ labelsIn (stamped run store) budget
       → run' ≡ steps k (stamped run store) .run → store' ≡ steps k (stamped run store) .store
       → (run' ≡ advanced (stamped run store) budget .run) × (store' ≡ advanced (stamped run store) budget .store)
-  unfolding advanced
-  advanced-by k run' store' e a b = (rw (← e) a, rw (← e) b)
+  advanced-by k run' store' e a b =
+      let f : steps k (stamped run store) ≡ advanced (stamped run store) budget = machines.advanced-by runMachine (stamped run store) budget k e in
+      (rw (← f) a, rw (← f) b)
 
   pub unchanged : 0 ≡ labelsIn (stamped run store) budget
       → (run ≡ advanced (stamped run store) budget .run) × (store ≡ advanced (stamped run store) budget .store)
-  unfolding steps
-  unchanged e = advanced-by 0 run store e refl refl
+  unchanged e = let f = machines.unchanged runMachine (stamped run store) budget (sym e) in (rw f, rw f)

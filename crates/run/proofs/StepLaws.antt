@@ -1,20 +1,21 @@
 -- One step on a run and its store, and several.
-use mathlib.Core.Path.{_≡_, refl, sym, ap, ap₂, subst, _∙_}
+use mathlib.Core.Path.{_≡_, sym, ap, ap₂, subst, _∙_}
 use mathlib.Core.List.{List, []}
 use Prim.Native.Nat.{ℕ, _+_, _-_, _*_, _%_, _^_, _≤_, _<_}
 use native.Mathlib.Nat.{add-zero}
-use native.Mathlib.Numerals.{add-one}
 use native.Mathlib.Omega.{arith}
 use borrow.Author.Tests.{le-leb, lt-leb}
-use lib.Pow.{pow-pos, pow-mono}
+use lib.Pow.{pow-mono}
 use Rattle.base.specs.Limits.{maxDepth}
 use Rattle.base.specs.Bytes.{written}
+use Rattle.machine.proofs.StepLaws as machines
+use Rattle.machine.proofs.StepLaws.{step-last}
 use Rattle.tree.specs.Nodes.{Node, node, root, InTree, labellingOrder}
 use Rattle.tree.specs.Walk.{nodesIn}
 use Rattle.tree.proofs.Order.{nodesIn-suc, tree-at}
 use Rattle.label.specs.Step.{nextNode, nextLabel, heldWith}
 use Rattle.label.proofs.Walking.{full}
-use Rattle.run.specs.Steps.{Stamped, runOf, stamped, stored, stepped, steps}
+use Rattle.run.specs.Steps.{Stamped, runOf, stamped, stored, stepped, runMachine, steps}
 
 -- the number of nodes, as it is computed
 pub nodes-full : (n : ℕ) → n ≤ maxDepth → 2 * ((1 * 2 ^ n) % 2 ^ 64) - 1 ≡ nodesIn n
@@ -51,14 +52,13 @@ one-step statement n m made held store l p label held' store' is made-so h k = (
 
 pub no-step : (statement : List ℕ) (n m made : ℕ) (held store : List ℕ)
     → steps 0 (state statement n m made held store) ≡ state statement n m (made + 0) held store
-unfolding steps
-no-step statement n m made held store = rw (add-zero made)
+no-step statement n m made held store = rw (machines.no-step runMachine (state statement n m made held store), add-zero made)
 
 module _ (s : Stamped) (statement : List ℕ) (n m made i : ℕ) (held store : List ℕ)
     (so-far : steps i s ≡ state statement n m (made + i) held store) where
   one-more : steps (i + 1) s ≡ stepped (steps i s)
-  unfolding steps
-  one-more = rw (add-one i)
+  unfolding runMachine
+  one-more = step-last runMachine i s
 
   pub next-step : (held' store' : List ℕ) → held' ≡ stepped (state statement n m (made + i) held store) .run .held
       → store' ≡ stepped (state statement n m (made + i) held store) .store

@@ -1,5 +1,5 @@
 -- Document 01, 'Runs in lent memory': a new run, one step on a run and its store, and a call with a budget.
-use Prim.Native.Nat.{ℕ, zero, suc, _+_, _-_, min}
+use Prim.Native.Nat.{ℕ, _+_, _-_}
 use mathlib.Core.List.{List, []}
 use lib.Dec.{leb}
 use lib.ListN.{length}
@@ -7,6 +7,8 @@ use Rattle.base.specs.Limits.{heldSize}
 use Rattle.base.specs.Choice.{pick}
 use Rattle.base.specs.Bytes.{zeros, written}
 use Rattle.refusal.specs.Row.{isDone}
+use Rattle.machine.specs.Machines as machines
+use Rattle.machine.specs.Machines.{Machine}
 use Rattle.tree.specs.Nodes.{Node, root}
 use Rattle.tree.specs.Walk.{nodesIn}
 use Rattle.tree.specs.Labels.{Label}
@@ -60,15 +62,22 @@ stepped s =
       store = stored (r .memory) (s .store) w label;
     }
 
-unfoldable pub steps : ℕ → Stamped → Stamped
-steps zero s = s
-steps (suc k) s = stepped (steps k s)
+-- the run as a machine: the checks of a call, the labels that remain, and one label
+unfoldable pub runMachine : Machine Stamped
+runMachine =
+    record {
+      row = λ s. continueRow (s .run) (length (s .store));
+      remaining = λ s. nodesIn (s .run .depth) - s .run .made;
+      step = stepped;
+    }
+
+abbrev pub steps : ℕ → Stamped → Stamped
+steps k s = machines.steps runMachine k s
 
 -- 'A call with a budget labels exactly the smaller of the budget and what remains'; a refused one labels none.
-unfoldable pub labelsIn : Stamped → ℕ → ℕ
-labelsIn s budget =
-    pick (isDone (continueRow (s .run) (length (s .store)))) (min budget (nodesIn (s .run .depth) - s .run .made)) 0
+abbrev pub labelsIn : Stamped → ℕ → ℕ
+labelsIn s budget = machines.doneIn runMachine s budget
 
 -- the run and its store after a call
-unfoldable pub advanced : Stamped → ℕ → Stamped
-advanced s budget = steps (labelsIn s budget) s
+abbrev pub advanced : Stamped → ℕ → Stamped
+advanced s budget = machines.advanced runMachine s budget

@@ -4,15 +4,15 @@ use Prim.Native.Nat.{ℕ, _≤_, _<_, _^_}
 use native.Mathlib.Omega.{arith}
 use mathlib.Core.List.{List, _++_}
 use lib.ListN.{length, drop}
+use Rattle.machine.specs.Calls.{total, afterCalls}
 use Rattle.tree.specs.Walk.{nodesIn}
 use Rattle.tree.specs.Openings.{openingNodes}
 use Rattle.run.specs.Steps.{Stamped, steps}
 use Rattle.opening.specs.Rows.{openingSize, nodesAnew}
 use Rattle.opening.specs.Steps as opening
 use Rattle.run_theory.specs.Reached.{labelsOf}
-use Rattle.run_theory.specs.Calls.{total, afterCalls}
 use Rattle.run_theory.specs.Runs.{Startable, atStart}
-use Rattle.run_theory.specs.Openings.{HoldsLabels, Openable, newOpen}
+use Rattle.run_theory.specs.Openings.{HoldsLabels, newOpen}
 use Rattle.run_theory.proofs.StoreLaws.{store-length}
 use Rattle.run_theory.proofs.RunLaws.{run-reached, finished-store}
 use Rattle.run_theory.proofs.OpeningCalls.{opening-carried}

@@ -1,5 +1,4 @@
 pub mod Step
-pub mod Calls
 pub mod StoreLaws
 pub mod StartLaws
 pub mod RunLaws

@@ -1,29 +1,30 @@
 -- An opening's calls: when a start and a continuation are not refused, and any cut of budgets carries it to its end.
-use mathlib.Core.Path.{_≡_, refl, sym, ap, _∙_}
-use Prim.Native.Nat.{ℕ, _+_, _-_, _^_, _≤_, _<_, min}
-use native.Mathlib.Nat.{zero-add, sub-self}
+use mathlib.Core.Path.{_≡_, refl, ap, _∙_}
+use Prim.Native.Nat.{ℕ, _-_, _^_, _≤_, _<_, min}
+use native.Mathlib.Nat.{sub-self}
 use native.Mathlib.Omega.{arith}
 use mathlib.Core.Bool.{Bool, true}
 use mathlib.Core.List.{List, [], _∷_, _++_}
 use lib.Dec.{ltb, leb}
 use lib.ListN.{length, drop}
 use borrow.Author.Tests.{ltb-false, leb-true, leb-false, not-false, le-ltb, le-leb, lt-leb}
-use Rattle.base.specs.Choice.{pick, both}
+use Rattle.base.specs.Choice.{both}
 use Rattle.base.specs.Limits.{maxDepth, maxMemory}
 use Rattle.base.proofs.ChoiceLaws.{both-first, both-second}
 use Rattle.refusal.proofs.RowLaws.{NoneHolds, none-holds}
 use Rattle.refusal.specs.Row.{outside}
+use Rattle.machine.specs.Machines.{Goes}
+use Rattle.machine.specs.Calls.{total, afterCalls}
+use Rattle.machine.proofs.CallLaws.{calls-state}
 use Rattle.tree.specs.Store.{storeSize}
 use Rattle.tree.specs.Openings.{openingNodes}
 use Rattle.run.specs.Rows.{memoryOver}
 use Rattle.opening.specs.declared.Opening.{Opening}
 use Rattle.opening.specs.Rows.{openingSize, nodesAnew, openRow, reopenRow}
-use Rattle.opening.specs.Steps.{copiedAll, newOpening, started, startedOut, Open, steps, labelsIn, advanced}
+use Rattle.opening.specs.Steps.{copiedAll, newOpening, started, startedOut, Open, openingMachine, steps, advanced}
 use Rattle.run_theory.specs.Reached.{labelsOf}
 use Rattle.run_theory.specs.Openings.{HoldsLabels, Openable, openingAfter, outAfter, newOpen, openAfter}
-use Rattle.run_theory.specs.Calls.{total, afterCalls, labelsOver}
-use Rattle.run_theory.proofs.Calls.{calls-reach, calls-report}
-use Rattle.run_theory.proofs.OpeningRun.{opening-start, opening-from, opening-reached, length-after, opening-done}
+use Rattle.run_theory.proofs.OpeningRun.{opening-start, opening-reached, length-after, opening-done}
 
 -- ---- the rows
 module _ (n m leaf store out : ℕ) where
@@ -103,26 +104,20 @@ module _
       rw (length-after statement n m leaf out (fits .depth .0) memory-le (fits .outFits) k few)
       (reopen-fits (openingAfter statement n m leaf k) (length store) (length out) fits few)
 
-  -- a call labels the smaller of its budget and what remains
-  pub opening-labels :
-      (k b : ℕ) → k ≤ nodesAnew n m → labelsIn store (openAfter statement n m leaf k out) b ≡ min b (nodesAnew n m - k)
-  unfolding labelsIn
-  opening-labels k b few = rw (opening-goes-on k few)
-
-  -- at least one, as long as one remains
-  pub opening-moves-on :
-      (k b : ℕ) → k < nodesAnew n m → 1 ≤ b → 1 ≤ labelsIn store (openAfter statement n m leaf k out) b
-  opening-moves-on k b few some = omega (arith, opening-labels k b (omega arith))
-
   module _ (holds : HoldsLabels statement n m store) where
-    pub opening-advanced :
-        (k b : ℕ) → k ≤ nodesAnew n m
-        → advanced store (openAfter statement n m leaf k out) b ≡ openAfter statement n m leaf (k + min b (nodesAnew n m - k)) out
-    unfolding advanced
-    opening-advanced k b few =
-        rw (opening-labels k b few)
-        (opening-from statement n m leaf store out holds (fits .depth .1) memory-le (fits .position)
-        (min b (nodesAnew n m - k)) k (omega arith))
+    reached :
+        (k : ℕ) → k ≤ nodesAnew n m → steps store k (newOpen statement n m leaf store out) ≡ openAfter statement n m leaf k out
+    reached = opening-reached statement n m leaf store out holds (fits .depth .1) memory-le (fits .position)
+
+    -- what remains falls by one with each label: the laws of calls hold of it
+    pub opening-goes : Goes (openingMachine store) (newOpen statement n m leaf store out) (nodesAnew n m)
+    unfolding openingMachine
+    opening-goes =
+        record {
+          done = λ k few. rw (reached k few) (opening-goes-on k few);
+          left =
+              λ k few. ap (λ (s : Open). nodesAnew (s .opening .depth) (s .opening .memory) - s .opening .made) (reached k few);
+        }
 
     -- any cut of budgets makes their sum of labels, up to all there are
     pub opening-calls :
@@ -130,29 +125,8 @@ module _
         → afterCalls (advanced store) (newOpen statement n m leaf store out) budgets
         ≡ openAfter statement n m leaf (min (total budgets) (nodesAnew n m)) out
     opening-calls budgets =
-        rw (opening-start statement n m leaf store holds (fits .position) out memory-le)
-        (calls-reach (advanced store) (labelsIn store) (λ k. openAfter statement n m leaf k out) (nodesAnew n m)
-        opening-advanced opening-labels budgets 0 (omega arith)
-        ∙ rw (zero-add (total budgets)))
-
-    pub opening-calls-steps :
-        (budgets : List ℕ)
-        → afterCalls (advanced store) (newOpen statement n m leaf store out) budgets
-        ≡ steps store (min (total budgets) (nodesAnew n m)) (newOpen statement n m leaf store out)
-    opening-calls-steps budgets =
-        opening-calls budgets
-        ∙ sym (opening-reached statement n m leaf store out holds (fits .depth .1) memory-le (fits .position)
-        (min (total budgets) (nodesAnew n m)) (omega arith))
-
-    pub opening-calls-labels :
-        (budgets : List ℕ)
-        → labelsOver (advanced store) (labelsIn store) (newOpen statement n m leaf store out) budgets
-        ≡ min (total budgets) (nodesAnew n m)
-    opening-calls-labels budgets =
-        rw (opening-start statement n m leaf store holds (fits .position) out memory-le)
-        (calls-report (advanced store) (labelsIn store) (λ k. openAfter statement n m leaf k out) (nodesAnew n m)
-        opening-advanced opening-labels budgets 0 (omega arith)
-        ∙ omega arith)
+        calls-state (openingMachine store) (newOpen statement n m leaf store out) (nodesAnew n m) opening-goes budgets
+        ∙ reached (min (total budgets) (nodesAnew n m)) (omega arith)
 
     -- budgets that suffice end at the tree's opening of the leaf
     pub opening-carried :

@@ -2,7 +2,6 @@
 -- opening of the leaf.
 use mathlib.Core.Path.{_≡_, refl, sym, ap, _∙_}
 use Prim.Native.Nat.{ℕ, zero, suc, _+_, _-_, _/_, _^_, _≤_, _<_}
-use native.Mathlib.Nat.{zero-add, add-zero}
 use native.Mathlib.Numerals.{add-one}
 use native.Mathlib.Omega.{arith}
 use mathlib.Core.Bool.{Bool, true, false}
@@ -15,6 +14,7 @@ use borrow.Author.Tests.{eqb-true}
 use Rattle.base.specs.Limits.{maxDepth}
 use Rattle.base.specs.Choice.{pick}
 use Rattle.base.specs.Bytes.{joined}
+use Rattle.machine.proofs.StepLaws.{steps-reach}
 use Rattle.tree.specs.Nodes.{Node, node, root, orderBelow, leftSiblings}
 use Rattle.tree.specs.Labels.{Label}
 use Rattle.tree.specs.Walk.{nodesIn}
@@ -26,7 +26,7 @@ use Rattle.tree.proofs.OpeningLaws.{left-siblings-same, tree-leaf, tree-sibling
 use Rattle.label.specs.Rule.{stampRule}
 use Rattle.label.specs.Step.{nextNode, nextLabel, heldWith}
 use Rattle.opening.specs.Rows.{openingSize, nodesAnew}
-use Rattle.opening.specs.Steps.{labelIn, ancestor, beside, placed, copied, copiedAll, front, stepped, steps}
+use Rattle.opening.specs.Steps.{labelIn, ancestor, beside, placed, copied, copiedAll, front, stepped, openingMachine, steps}
 use Rattle.run_theory.specs.Reached.{labelOf, labelsOf, heldBytes}
 use Rattle.run_theory.specs.Openings.{HoldsLabels, openingNode, besides, copiedNodes, anewNodes, outWith, outAfter, newOpen, openAfter}
 use Rattle.run_theory.proofs.Step.{next-label, next-held, held-none}
@@ -108,22 +108,15 @@ module _
       out-step statement n m leaf k out w few refl in
       rw (label, held, put)
 
-  pub opening-from :
-      (j k : ℕ) → k + j ≤ nodesAnew n m
-      → steps store j (openAfter statement n m leaf k out) ≡ openAfter statement n m leaf (k + j) out
-  unfolding steps
-  opening-from zero k small = rw (add-zero k)
-  opening-from (suc j) k small =
-      let e : k + j + 1 ≡ k + suc j = omega arith in
-      rw (opening-from j k (omega arith), ← e) (opening-step (k + j) (omega arith))
-
   -- the opening after k labels
   pub opening-reached :
       (k : ℕ) → k ≤ nodesAnew n m
       → steps store k (newOpen statement n m leaf store out)
       ≡ openAfter statement n m leaf k out
-  opening-reached k small =
-      rw (opening-start statement n m leaf store holds inside out le) (opening-from k 0 (omega arith) ∙ rw (zero-add k))
+  unfolding openingMachine
+  opening-reached =
+      steps-reach (openingMachine store) (λ k. openAfter statement n m leaf k out) (nodesAnew n m) (newOpen statement n m leaf store out)
+      (opening-start statement n m leaf store holds inside out le) opening-step
 
 -- ---- the output
 tree-at-place :

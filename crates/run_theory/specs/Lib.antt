@@ -1,4 +1,3 @@
 pub mod Reached
-pub mod Calls
 pub mod Runs
 pub mod Openings

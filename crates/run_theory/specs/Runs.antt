@@ -2,9 +2,9 @@
 use Prim.Native.Nat.{ℕ, _≤_, min}
 use mathlib.Core.List.{List}
 use Rattle.base.specs.Limits.{maxDepth, maxMemory}
+use Rattle.machine.specs.Calls.{afterCalls, labelsOver}
 use Rattle.tree.specs.Store.{storeSize}
 use Rattle.run.specs.Steps.{newRun, Stamped, labelsIn, advanced}
-use Rattle.run_theory.specs.Calls.{afterCalls, labelsOver}
 use Rattle.run_theory.specs.Reached.{runAfter, storeAfter}
 
 -- n from 1 to 40, m at most min(n, 20), and a store of so many bytes long enough
