@@ -3,7 +3,7 @@
 use mathlib.Core.Path.{_≡_, refl, _∙_}
 use Prim.Native.Nat.{ℕ, zero, suc, _+_, _*_, _/_, _%_, _≤_, _<_}
 use native.Mathlib.Omega.{arith}
-use mathlib.Core.List.{List, [], _∷_, map}
+use mathlib.Core.List.{List, [], _∷_, _++_, map, append-nil}
 use lib.ListN.{length, take, drop, getD}
 use lib.Seq.{take-at, drop-at, take-add, take-all}
 use Rattle.base.specs.Bytes.{joined}
@@ -55,6 +55,10 @@ unfolding inLabels
 labels-back labels each =
     let count : length (joined labels) / 32 ≡ length labels = omega (arith, length-joined 32 labels each) in
     rw count (cut-joined labels each)
+
+pub two-labels : (x y : Label) → length x ≡ 32 → length y ≡ 32 → inLabels (x ++ y) ≡ x ∷ y ∷ []
+unfolding joined
+two-labels x y a b = rw append-nil at (labels-back (x ∷ y ∷ []) (a, (b, tt)))
 
 -- and cut labels laid end to end are the bytes
 joined-cut : (k : ℕ) (bytes : List ℕ) → joined (cutLabels k bytes) ≡ take (32 * k) bytes
