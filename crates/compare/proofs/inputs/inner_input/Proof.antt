@@ -13,10 +13,14 @@ no-more : (input children : List ℕ) → length children ≡ 64 → input ++ ze
 no-more input children e = rw e (append-nil input)
 
 put-input-requires : tie.Need-put-input-requires
-put-input-requires c κs = ?
+put-input-requires c κs =
+    let p = c .before .before .before .pre in
+    ((p .0, p .1, omega (arith, p .2)), (refl, omega (arith, p .2)))
 
 returns : tie.Need-returns
-returns c = ?
+returns c =
+    let s = c .before .before .before .before .before in
+    c .before .put-input .ensures ∙ no-more _ (s .args .children .now) (s .pre .2)
 
 pub inner-input-spec : {M : Type 1} → statement M
 inner-input-spec = tie.close (tie.spec (λ c. search needs) (λ c. search needs) put-input-requires returns)
