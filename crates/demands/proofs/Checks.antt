@@ -15,6 +15,8 @@ use Rattle.refusal.specs.Row.{outside, either}
 use Rattle.refusal.proofs.RowLaws.{some-refused}
 use Rattle.sha256.specs.declared.Hash.{Hash}
 use Rattle.sha256.specs.Portions.{newHash, tooMany, updateRow, updateState, finishRow, finishDigest, digestRow, digestAnswer}
+use Rattle.machine.specs.Machines.{Machine, doneIn, advanced}
+use Rattle.machine.proofs.StepLaws.{done-refused, advanced-refused}
 use Rattle.tree.specs.Walk.{nodesIn}
 use Rattle.tree.specs.Store.{storeSize}
 use Rattle.tree.specs.Openings.{LeafRight, RootRight}
@@ -22,8 +24,8 @@ use Rattle.label.specs.Rule.{stampRule}
 use Rattle.run.specs.declared.Run.{Run}
 use Rattle.run.specs.Rows.{memoryOver, impossible, startRow, continueRow}
 use Rattle.run.specs.Steps as runs
-use Rattle.run.specs.Steps.{Stamped, stamped}
-use Rattle.opening.specs.Steps.{Open}
+use Rattle.run.specs.Steps.{Stamped, stamped, runMachine}
+use Rattle.opening.specs.Steps.{Open, openingMachine}
 use Rattle.opening.specs.Possible.{openOf}
 use Rattle.opening.specs.declared.Opening.{Opening}
 use Rattle.opening.specs.Rows.{openingSize, nodesAnew, openRow, reopenRow}
@@ -37,6 +39,7 @@ use Rattle.chain.specs.PlanRow.{planRow, plannedCount, plannedList}
 use Rattle.writing.specs.declared.Writing.{Writing}
 use Rattle.writing.specs.Rows.{writeRow, rewriteRow}
 use Rattle.writing.specs.Steps as writings
+use Rattle.writing.specs.Steps.{writingMachine}
 use Rattle.demands.specs.Rows.{IsFirst, Outside, Impossible, planningChain, ImpossibleFile}
 use Rattle.run_theory.proofs.Idle.{run-none, run-same, opening-none, opening-same}
 use Rattle.demands.specs.Demand1.{HashingPortion, HashingEnd, HashingWhole, StartingRun, ContinuingRun, StartingOpening, ContinuingOpening, AChallenge, WritingHead, OneOpening, PlanningChain, StartingFile, ContinuingFile}
@@ -82,6 +85,14 @@ unfolding startRow runs.started
 starting-run statement n m store =
     record { answer = is-first (depth n ∷ memory n m ∷ room m store ∷ []); refused = λ e. rw (some-refused _ e) }
 
+-- a refused call makes no step and changes nothing
+refused-same :
+    {S : Type 0} (machine : Machine S) (s : S) (budget : ℕ) → 1 ≤ machine .row s
+    → (doneIn machine s budget ≡ 0) × (advanced machine s budget ≡ s)
+refused-same machine s budget e =
+    let no = some-refused (machine .row s) e in
+    (done-refused machine s budget no, advanced-refused machine s budget no)
+
 -- budget 0, or nothing remains
 run-idle : (s : Stamped) (budget : ℕ) → (budget ≡ 0) ⊎ (2 ^ (s .run .depth + 1) - 1 ≤ s .run .made)
     → (runs.labelsIn s budget ≡ 0) × (runs.advanced s budget ≡ s)
@@ -100,7 +111,7 @@ opening-idle store s budget h =
     (opening-none store s budget none, opening-same store s budget none)
 
 pub continuing-run : (run : Run) (store : List ℕ) (budget : ℕ) → ContinuingRun run store budget
-unfolding continueRow nodesIn runs.labelsIn runs.advanced runs.steps
+unfolding continueRow nodesIn runMachine
 continuing-run run store budget =
     record {
       answer =
@@ -114,7 +125,7 @@ continuing-run run store budget =
           ∷ room (run .memory) (length store)
           ∷ []
           );
-      refused = λ e. let no = some-refused _ e in (rw no, rw no);
+      refused = refused-same runMachine (stamped run store) budget;
       idle = run-idle (stamped run store) budget;
     }
 
@@ -128,7 +139,7 @@ starting-opening statement n m leaf store out =
     }
 
 pub continuing-opening : (o : Opening) (store out : List ℕ) (budget : ℕ) → ContinuingOpening o store out budget
-unfolding reopenRow openings.labelsIn openings.advanced openings.steps
+unfolding reopenRow openingMachine
 continuing-opening o store out budget =
     let all : ℕ = nodesAnew (o .depth) (o .memory) in
     record {
@@ -144,7 +155,7 @@ continuing-opening o store out budget =
           ∷ output (o .depth) (length out)
           ∷ []
           );
-      refused = λ e. let no = some-refused _ e in (rw no, rw no);
+      refused = refused-same (openingMachine store) (openOf o out) budget;
       idle = opening-idle store (openOf o out) budget;
     }
 
@@ -201,7 +212,7 @@ starting-file statement root n m t store file =
     }
 
 pub continuing-file : (w : Writing) (store file : List ℕ) (budget : ℕ) → ContinuingFile w store file budget
-unfolding rewriteRow writings.labelsIn writings.advanced writings.steps
+unfolding rewriteRow writingMachine
 continuing-file w store file budget =
     let o : Opening = w .opening in
     let all : ℕ = nodesAnew (o .depth) (o .memory) in
@@ -228,7 +239,7 @@ continuing-file w store file budget =
           ∷ wholeFile (o .depth) (w .count) (length file)
           ∷ []
           );
-      refused = λ e. let no = some-refused _ e in (rw no, rw no);
+      refused = refused-same (writingMachine store) (record { writing = w; file = file }) budget;
     }
 
 -- ---- planning

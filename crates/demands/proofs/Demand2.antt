@@ -20,7 +20,7 @@ use Rattle.opening.specs.Rows.{nodesAnew}
 use Rattle.opening.specs.Steps as openings
 use Rattle.proof_file.specs.Challenge.{challengeInput, challengeLeaf, challenged}
 use Rattle.proof_file.specs.Layout.{fileSize}
-use Rattle.run_theory.specs.Calls.{total, afterCalls}
+use Rattle.machine.specs.Calls.{total, afterCalls}
 use Rattle.run_theory.specs.Runs.{atStart, called, reachedAt}
 use Rattle.run_theory.specs.Openings.{Openable, newOpen}
 use Rattle.run_theory.proofs.RunLaws.{run-reached, called-cut, finished-store}

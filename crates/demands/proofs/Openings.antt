@@ -1,7 +1,6 @@
 -- An opening is carried to its end whatever the store holds: no step changes its numbers but the count, or the output's length.
-use mathlib.Core.Path.{_≡_, refl, ap, _∙_}
+use mathlib.Core.Path.{_≡_, refl, _∙_}
 use Prim.Native.Nat.{ℕ, zero, suc, _+_, _-_, _*_, _/_, _^_, _≤_, _<_}
-use native.Mathlib.Nat.{add-zero, add-suc}
 use native.Mathlib.Numerals.{add-one}
 use native.Mathlib.Omega.{arith}
 use mathlib.Core.Bool.{Bool, true, false}
@@ -14,6 +13,7 @@ use Rattle.base.specs.Limits.{heldSize}
 use Rattle.base.specs.Choice.{pick}
 use Rattle.base.specs.Bytes.{zeros, written}
 use Rattle.base.proofs.Copying.{length-written}
+use Rattle.machine.specs.Machines as machines
 use Rattle.tree.specs.Nodes.{Node, node, sameNode, InTree}
 use Rattle.tree.specs.Store.{slot, storeSize}
 use Rattle.tree.specs.Walk.{nodesIn}
@@ -23,14 +23,14 @@ use Rattle.label.specs.Step.{nextNode, nextLabel, heldWith}
 use Rattle.label.proofs.RuleLaws.{digest-length}
 use Rattle.label.proofs.OneStep.{next-level}
 use Rattle.opening.specs.Rows.{openingSize, nodesAnew, reopenRow}
-use Rattle.opening.specs.Steps.{labelIn, ancestor, beside, placed, copied, copiedAll, Open, front, stepped, steps, labelsIn, advanced}
+use Rattle.opening.specs.Steps.{labelIn, ancestor, beside, placed, copied, copiedAll, Open, front, stepped, openingMachine, steps}
 use Rattle.opening.specs.Possible.{openingOf, openOf}
 use Rattle.opening.proofs.StepLaws.{anew-few, next-below}
 use Rattle.run_theory.specs.Openings.{Openable}
 use Rattle.run_theory.proofs.Anew.{beside-inside}
 use Rattle.run_theory.proofs.OpeningCalls.{open-fits, reopen-fits, started-fits, startedOut-fits}
 use Rattle.demands.specs.Demand1.{startedOpening, InBounds, OpeningEnds}
-use Rattle.demands.proofs.Carrying.{carried-by}
+use Rattle.demands.proofs.Carrying.{carried-out}
 
 -- ---- lengths
 -- a label put in its place
@@ -113,11 +113,6 @@ opening-more statement n m leaf size store k s le fits few at =
           ∙ at .length;
     }
 
-steps-add : (store : List ℕ) (j k : ℕ) (s : Open) → steps store j (steps store k s) ≡ steps store (k + j) s
-unfolding steps
-steps-add store zero k s = rw (add-zero k)
-steps-add store (suc j) k s = rw (add-suc k j) (ap (stepped store) (steps-add store j k s))
-
 module _
     (statement : List ℕ) (n m leaf : ℕ) (store out : List ℕ) (bounds : InBounds n m (length store)) (inside : leaf < 2 ^ n)
     (fits : 32 * (n + 1) ≤ length out) where
@@ -137,7 +132,7 @@ module _
       }
 
   steps-at : (k : ℕ) → k ≤ nodesAnew n m → OpeningAt statement n m leaf (length out) k (steps store k start)
-  unfolding steps
+  unfolding machines.steps openingMachine
   steps-at zero small = start-at
   steps-at (suc k) small =
       opening-more statement n m leaf (length out) store k (steps store k start) (omega (arith, bounds .memory)) fits small (steps-at k (omega arith))
@@ -155,12 +150,9 @@ module _
   left-at k small = rw (steps-at k small .is)
 
   pub opening-ends : OpeningEnds statement n m leaf store out
-  unfolding labelsIn advanced steps
+  unfolding openingMachine
   opening-ends =
       record {
         starts = open-fits n m leaf (length store) (length out) openable;
-        ends =
-            carried-by (λ s. reopenRow (s .opening) (length store) (length (s .out)))
-            (λ s. nodesAnew (s .opening .depth) (s .opening .memory) - s .opening .made) (steps store) (steps-add store) start (nodesAnew n m)
-            refl goes-on left-at;
+        ends = carried-out (openingMachine store) start (nodesAnew n m) (record { done = goes-on; left = left-at });
       }

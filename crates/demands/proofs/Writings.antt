@@ -13,6 +13,7 @@ use Rattle.base.specs.Limits.{heldSize}
 use Rattle.base.specs.Bytes.{zeros, written}
 use Rattle.base.proofs.ChoiceLaws.{both-false}
 use Rattle.base.proofs.Copying.{length-written}
+use Rattle.machine.specs.Machines as machines
 use Rattle.groups.proofs.Steps.{lt-or-le}
 use Rattle.opening.specs.declared.Opening.{Opening}
 use Rattle.opening.specs.Rows.{openingSize, nodesAnew}
@@ -23,14 +24,14 @@ use Rattle.proof_file.specs.Layout.{head, headSize, openingFrom, fileSize}
 use Rattle.proof_file.proofs.Leaves.{challengeLeaf-small}
 use Rattle.check_theory.proofs.Reading.{length-head}
 use Rattle.writing.specs.Rows.{rewriteRow}
-use Rattle.writing.specs.Steps.{Written, partOf, begun, mayFollow, followed, newWriting, stepped, steps, remaining, labelsIn, advanced}
+use Rattle.writing.specs.Steps.{Written, partOf, begun, mayFollow, followed, newWriting, stepped, remaining, writingMachine, steps}
 use Rattle.writing_theory.specs.Filed.{Writable}
 use Rattle.writing_theory.proofs.Laid.{size-next, size-fits, size-from, part-size}
 use Rattle.writing_theory.proofs.Places.{behind-place}
 use Rattle.writing_theory.proofs.Rows.{write-done, started-done, rewrite-done}
-use Rattle.writing.proofs.StepLaws.{followed-stays, steps-add}
+use Rattle.writing.proofs.StepLaws.{followed-stays}
 use Rattle.demands.specs.Demand1.{startedFile, InBounds, WritingEnds}
-use Rattle.demands.proofs.Carrying.{carried-by}
+use Rattle.demands.proofs.Carrying.{carried-out}
 use Rattle.demands.proofs.Openings.{length-copied-all, OpeningAt, opening-more}
 
 -- a writing by its fields, with its file
@@ -228,7 +229,7 @@ module _
   start-reached = rw (started-done statement root n m t store file writable) new-reached
 
   steps-reached : (k : ℕ) → k ≤ t * nodesAnew n m → Reached statement root n m t (length file) store bounds fits k (steps store k start)
-  unfolding steps
+  unfolding machines.steps writingMachine
   steps-reached zero small = start-reached
   steps-reached (suc k) small =
       reached-more statement root n m t (length file) store bounds fits k (steps store k start) small (steps-reached k (omega arith))
@@ -251,11 +252,9 @@ module _
       ∙ ap (λ (j : ℕ). t * nodesAnew n m - j) (r .sum))
 
   pub writing-ends : WritingEnds statement root n m t store file
-  unfolding labelsIn advanced steps
+  unfolding writingMachine
   writing-ends =
       record {
         starts = write-done n m t (length store) (length file) writable;
-        ends =
-            carried-by (λ s. rewriteRow (s .writing) (length store) (length (s .file))) (λ s. remaining (s .writing)) (steps store)
-            (steps-add store) start (t * nodesAnew n m) refl goes-on left-at;
+        ends = carried-out (writingMachine store) start (t * nodesAnew n m) (record { done = goes-on; left = left-at });
       }

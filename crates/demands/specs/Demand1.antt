@@ -7,6 +7,7 @@ use lib.ListN.{length, getD, drop}
 use Rattle.base.specs.Bytes.{zeros}
 use Rattle.sha256.specs.declared.Hash.{Hash}
 use Rattle.sha256.specs.Portions.{updateRow, updateState, finishRow, finishDigest, finishState, digestRow, digestAnswer}
+use Rattle.machine.specs.Calls.{total, afterCalls, labelsOver}
 use Rattle.groups.specs.Groups.{maxGroups}
 use Rattle.groups.specs.Reading.{Answer, value, refused, readAt}
 use Rattle.groups.specs.Writing.{putRow, putCount, outputAfter}
@@ -19,7 +20,6 @@ use Rattle.opening.specs.Rows.{openRow, reopenRow}
 use Rattle.opening.specs.Steps as openings
 use Rattle.opening.specs.Steps.{Open, noOpening}
 use Rattle.opening.specs.Possible.{openOf}
-use Rattle.run_theory.specs.Calls.{total, afterCalls, labelsOver}
 use Rattle.opening_check.specs.OpeningCheck.{openingRow}
 use Rattle.proof_file.specs.Challenge.{challengeRow, challenged}
 use Rattle.proof_file.specs.Layout.{fileSize, headRow, headWritten}

@@ -20,7 +20,7 @@ use Rattle.proof_file.specs.Challenge.{challengeWord, bigEndianValue, challenge
 use Rattle.proof_file.specs.Layout.{fileSize, file}
 use Rattle.proof_file.specs.FileCheck.{fileCheck}
 use Rattle.run_theory.specs.Reached.{runAfter, storeAfter}
-use Rattle.run_theory.specs.Calls.{total, afterCalls}
+use Rattle.machine.specs.Calls.{total, afterCalls}
 use Rattle.check_theory.specs.IsProof.{IsDepth, IsCount, RightAlone, IsProof}
 use Rattle.check_theory.specs.TreeFile.{treeOpenings}
 use Rattle.writing_theory.specs.Filed.{fileFrom}

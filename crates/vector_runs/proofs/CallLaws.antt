@@ -1,16 +1,14 @@
 -- Calls with one budget: one more, and calls that change nothing.
-use mathlib.Core.Path.{_≡_, refl, sym, ap, _∙_}
+use mathlib.Core.Path.{_≡_, refl, ap, _∙_}
 use mathlib.Core.List.{List}
 use Prim.Native.Nat.{ℕ, zero, suc, _+_, _-_, _%_, _^_, _≤_, _<_}
 use native.Mathlib.Omega.{arith}
 use lib.ListN.{replicate}
-use Rattle.run.specs.Steps.{Stamped, stamped, labelsIn, advanced, steps}
+use Rattle.machine.specs.Calls.{afterCalls, labelsOver}
+use Rattle.machine.proofs.StepLaws.{unchanged}
+use Rattle.run.specs.Steps.{Stamped, runMachine, labelsIn, advanced}
 use Rattle.opening.specs.Steps as opens
-use Rattle.opening.specs.Steps.{Open}
-use Rattle.opening.specs.declared.Opening.{Opening}
-use Rattle.opening.specs.Possible.{openOf}
-use Rattle.run.specs.declared.Run.{Run}
-use Rattle.run_theory.specs.Calls.{afterCalls, labelsOver}
+use Rattle.opening.specs.Steps.{Open, openingMachine}
 
 module _ {S : Type 0} (advance : S → ℕ → S) (labels : S → ℕ → ℕ) (budget : ℕ) where
   pub calls-idle : (s : S) → advance s budget ≡ s → (k : ℕ) → afterCalls advance s (replicate k budget) ≡ s
@@ -50,12 +48,10 @@ module _ {S : Type 0} (advance : S → ℕ → S) (labels : S → ℕ → ℕ) (
 
 -- a call that makes no label changes nothing
 pub run-idle : (s : Stamped) (budget : ℕ) → labelsIn s budget ≡ 0 → advanced s budget ≡ s
-unfolding advanced steps
-run-idle s budget e = rw e
+run-idle = unchanged runMachine
 
 pub opening-idle : (store : List ℕ) (s : Open) (budget : ℕ) → opens.labelsIn store s budget ≡ 0 → opens.advanced store s budget ≡ s
-unfolding opens.advanced opens.steps
-opening-idle store s budget e = rw e
+opening-idle store = unchanged (openingMachine store)
 
 -- labels counted in 64 bits: one call more
 pub counted-more : (labels made rest all next : ℕ) → (labels + (made + rest)) % 2 ^ 64 ≡ all % 2 ^ 64 → next ≡ (labels + made) % 2 ^ 64

@@ -10,13 +10,14 @@ use lib.Dec.{ltb, eqb}
 use lib.ListN.{length}
 use Rattle.base.specs.Choice.{both}
 use Rattle.base.proofs.ChoiceLaws.{both-first, both-second}
+use Rattle.machine.proofs.StepLaws.{no-step, steps-add}
 use Rattle.opening.specs.declared.Opening.{Opening}
 use Rattle.opening.specs.Rows.{nodesAnew}
 use Rattle.writing.specs.declared.Writing.{Writing}
 use Rattle.writing.specs.Possible.{Room, Ready, GoesOn, writingOf, writtenOf, labelled}
-use Rattle.writing.specs.Steps.{Written, begun, mayFollow, followed, steps, remaining}
+use Rattle.writing.specs.Steps.{Written, begun, mayFollow, followed, remaining, writingMachine, steps}
 use Rattle.writing.proofs.BegunLaws.{begun-ready}
-use Rattle.writing.proofs.StepLaws.{followed-stays, steps-add, under-left, steps-labelled, labelled-ready, labelled-remaining}
+use Rattle.writing.proofs.StepLaws.{followed-stays, under-left, steps-labelled, labelled-ready, labelled-remaining}
 
 -- a writing and its file from which what is left to begin gives the same
 pub record Following (store file₀ : List ℕ) (w₀ : Writing) (file : List ℕ) (w : Writing) : Type 0 where
@@ -220,12 +221,12 @@ module _
         ready = on .ready;
         under = on .under;
         few = omega (arith, on .fewer, so-far .few);
-        same = rw (e, f) (steps-add store (left - k) k (writtenOf w file) ∙ rw all (so-far .same));
+        same = rw (e, f) (steps-add (writingMachine store) (left - k) k (writtenOf w file) ∙ rw all (so-far .same));
       }
 
   pub labelling-done :
       left ≡ 0 → (w ≡ steps store labels (writtenOf w₀ file₀) .writing) × (file ≡ steps store labels (writtenOf w₀ file₀) .file)
-  unfolding steps
   labelling-done none =
-      let reached : writtenOf w file ≡ steps store labels (writtenOf w₀ file₀) = rw none at (so-far .same) in
+      let reached : writtenOf w file ≡ steps store labels (writtenOf w₀ file₀) =
+      sym (no-step (writingMachine store) (writtenOf w file)) ∙ rw none at (so-far .same) in
       (ap (λ (s : Written). s .writing) reached, ap (λ (s : Written). s .file) reached)

@@ -9,13 +9,15 @@ use lib.ListN.{length}
 use Rattle.base.specs.Choice.{pick}
 use Rattle.base.specs.Bytes.{written}
 use Rattle.base.proofs.Copying.{length-written}
+use Rattle.machine.specs.Machines as machines
+use Rattle.machine.proofs.StepLaws.{done-some, advanced-by}
 use Rattle.tree.specs.Nodes.{Node, node, sameNode}
 use Rattle.label.specs.Step.{nextNode, nextLabel}
 use Rattle.label.proofs.RuleLaws.{digest-length}
 use Rattle.opening.specs.declared.Opening.{Opening}
 use Rattle.opening.specs.Rows.{openingSize, nodesAnew}
 use Rattle.opening.specs.Possible.{openOf}
-use Rattle.opening.specs.Steps.{Open, ancestor, beside, placed, front, stepped, steps, labelsIn, advanced}
+use Rattle.opening.specs.Steps.{Open, ancestor, beside, placed, front, stepped, openingMachine, steps, labelsIn, advanced}
 use Rattle.opening.proofs.StepLaws.{anew-few, next-below}
 use Rattle.run_theory.specs.Openings.{Openable}
 use Rattle.run_theory.proofs.OpeningCalls.{reopen-fits}
@@ -35,31 +37,27 @@ placed-length n leaf out w label deep fits low whole = go (sameNode w (node n le
     go false false = refl
 
 module _ (store : List ℕ) (s : Open) where
-  pub open-none : steps store 0 s ≡ s
-  unfolding steps
-  open-none = refl
-
   pub open-more : (k : ℕ) → steps store (suc k) s ≡ stepped store (steps store k s)
-  unfolding steps
+  unfolding machines.steps openingMachine
   open-more k = refl
 
   pub depth-kept : (k : ℕ) → steps store k s .opening .depth ≡ s .opening .depth
-  unfolding steps stepped
+  unfolding machines.steps openingMachine stepped
   depth-kept zero = refl
   depth-kept (suc k) = depth-kept k
 
   pub memory-kept : (k : ℕ) → steps store k s .opening .memory ≡ s .opening .memory
-  unfolding steps stepped
+  unfolding machines.steps openingMachine stepped
   memory-kept zero = refl
   memory-kept (suc k) = memory-kept k
 
   pub leaf-kept : (k : ℕ) → steps store k s .opening .leaf ≡ s .opening .leaf
-  unfolding steps stepped
+  unfolding machines.steps openingMachine stepped
   leaf-kept zero = refl
   leaf-kept (suc k) = leaf-kept k
 
   pub made-after : (k : ℕ) → steps store k s .opening .made ≡ s .opening .made + k
-  unfolding steps stepped
+  unfolding machines.steps openingMachine stepped
   made-after zero = sym (add-zero (s .opening .made))
   made-after (suc k) = rw (made-after k) (omega arith)
 
@@ -86,7 +84,7 @@ stepped-length store s few deep fits =
 pub steps-length :
     (store : List ℕ) (s : Open) (k : ℕ) → s .opening .made + k ≤ nodesAnew (s .opening .depth) (s .opening .memory)
     → 1 ≤ s .opening .depth → openingSize (s .opening .depth) ≤ length (s .out) → length (steps store k s .out) ≡ length (s .out)
-unfolding steps
+unfolding machines.steps openingMachine
 steps-length store s zero few deep fits = refl
 steps-length store s (suc k) few deep fits =
     let so-far : length (steps store k s .out) ≡ length (s .out) = steps-length store s k (omega arith) deep fits in
@@ -101,9 +99,9 @@ module _
     (store : List ℕ) (o : Opening) (out : List ℕ) (k : ℕ) (fits : Openable (o .depth) (o .memory) (o .leaf) (length store) (length out))
     (few : o .made + k ≤ nodesAnew (o .depth) (o .memory)) where
   labels-all : labelsIn store (openOf o out) k ≡ k
-  unfolding labelsIn
-  labels-all = rw (reopen-fits o (length store) (length out) fits (omega arith)) (omega arith)
+  unfolding openingMachine
+  labels-all =
+      done-some (openingMachine store) (openOf o out) k (reopen-fits o (length store) (length out) fits (omega arith)) ∙ omega arith
 
   pub advanced-all : advanced store (openOf o out) k ≡ steps store k (openOf o out)
-  unfolding advanced
-  advanced-all = rw labels-all
+  advanced-all = sym (advanced-by (openingMachine store) (openOf o out) k k (sym labels-all))

@@ -1,5 +1,5 @@
 -- What is known of a writing that may be started or continued, and what a call gives by its answer.
-use mathlib.Core.Path.{_≡_, refl}
+use mathlib.Core.Path.{_≡_, refl, sym}
 use mathlib.Core.Bool.{Bool, true, false}
 use mathlib.Core.List.{List}
 use Prim.Native.Nat.{ℕ, _^_, _≤_, _<_, min}
@@ -8,6 +8,8 @@ use lib.Dec.{ltb, leb}
 use lib.ListN.{length}
 use Rattle.base.specs.Limits.{maxDepth, maxMemory, maxChallenges}
 use Rattle.refusal.specs.Row.{outside, either, isDone}
+use Rattle.machine.proofs.StepLaws as machines
+use Rattle.machine.proofs.StepLaws.{done-some, done-refused}
 use Rattle.run.specs.Rows.{memoryOver, impossible}
 use Rattle.run.proofs.RowLaws.{neither}
 use Rattle.opening.specs.declared.Opening.{Opening}
@@ -16,7 +18,7 @@ use Rattle.check_theory.proofs.RowLaws.{bounds}
 use Rattle.writing.specs.declared.Writing.{Writing}
 use Rattle.writing.specs.Rows.{writeRow, rewriteRow}
 use Rattle.writing.specs.Possible.{stateOutside, writtenOf}
-use Rattle.writing.specs.Steps.{mayFollow, newWriting, noWriting, started, steps, remaining, labelsIn, advanced}
+use Rattle.writing.specs.Steps.{mayFollow, newWriting, noWriting, started, remaining, writingMachine, steps, labelsIn, advanced}
 
 -- what the first condition of continuing leaves
 pub record Bounded (w : Writing) : Type 0 where
@@ -67,26 +69,27 @@ module _ (statement root : List ℕ) (n m t : ℕ) (store file : List ℕ) where
 module _ (w : Writing) (store file : List ℕ) (budget : ℕ) where
   pub labels-done :
       rewriteRow w (length store) (length file) ≡ 0 → min budget (remaining w) ≡ labelsIn store (writtenOf w file) budget
-  unfolding labelsIn
-  labels-done e = rw e
+  unfolding writingMachine
+  labels-done e = sym (done-some (writingMachine store) (writtenOf w file) budget e)
 
   pub labels-refused :
       isDone (rewriteRow w (length store) (length file)) ≡ false → 0 ≡ labelsIn store (writtenOf w file) budget
-  unfolding labelsIn
-  labels-refused e = rw e
+  unfolding writingMachine
+  labels-refused e = sym (done-refused (writingMachine store) (writtenOf w file) budget e)
 
   pub advanced-by :
       (k : ℕ) (w′ : Writing) (file′ : List ℕ) → k ≡ labelsIn store (writtenOf w file) budget
       → w′ ≡ steps store k (writtenOf w file) .writing → file′ ≡ steps store k (writtenOf w file) .file
       → (w′ ≡ advanced store (writtenOf w file) budget .writing) × (file′ ≡ advanced store (writtenOf w file) budget .file)
-  unfolding advanced
-  advanced-by k w′ file′ e a b = (rw (← e) a, rw (← e) b)
+  advanced-by k w′ file′ e a b =
+      let f : steps store k (writtenOf w file) ≡ advanced store (writtenOf w file) budget =
+      machines.advanced-by (writingMachine store) (writtenOf w file) budget k e in
+      (rw (← f) a, rw (← f) b)
 
   pub unchanged :
       0 ≡ labelsIn store (writtenOf w file) budget
       → (w ≡ advanced store (writtenOf w file) budget .writing) × (file ≡ advanced store (writtenOf w file) budget .file)
-  unfolding steps
-  unchanged e = advanced-by 0 w file e refl refl
+  unchanged e = let f = machines.unchanged (writingMachine store) (writtenOf w file) budget (sym e) in (rw f, rw f)
 
 -- ---- the first condition of continuing, one law for each return
 module _ (a b c d f : Bool) where

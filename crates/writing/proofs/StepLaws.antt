@@ -4,13 +4,15 @@ use mathlib.Core.Logic.{⊎-elim}
 use mathlib.Core.Bool.{false}
 use mathlib.Core.List.{List}
 use Prim.Native.Nat.{ℕ, zero, suc, _+_, _-_, _≤_, _<_}
-use native.Mathlib.Nat.{add-zero, add-suc, zero-mul}
+use native.Mathlib.Nat.{zero-mul}
 use native.Mathlib.Omega.{arith}
 use borrow.Author.Tests.{eq-eqb, ne-eqb, ltb-false}
 use lib.Dec.{ltb}
 use lib.ListN.{length}
 use Rattle.base.proofs.WrittenLaws.{written-here}
 use Rattle.groups.proofs.Steps.{lt-or-le}
+use Rattle.machine.specs.Machines as machines
+use Rattle.machine.proofs.StepLaws.{no-step}
 use Rattle.opening_check.proofs.Parts.{part-length}
 use Rattle.opening.specs.Rows.{openingSize, nodesAnew}
 use Rattle.opening.specs.Steps as openings
@@ -18,21 +20,15 @@ use Rattle.opening.specs.Possible.{openOf}
 use Rattle.proof_file.specs.Layout.{headSize, openingFrom}
 use Rattle.writing.specs.declared.Writing.{Writing}
 use Rattle.writing.specs.Possible.{Ready, writtenOf, labelled}
-use Rattle.writing.specs.Steps.{Written, partOf, mayFollow, followed, stepped, steps, remaining}
+use Rattle.writing.specs.Steps.{Written, partOf, mayFollow, followed, stepped, remaining, writingMachine, steps}
 use Rattle.writing.proofs.PartLaws.{part-fits, written-same, written-again}
-use Rattle.writing.proofs.OpenLaws.{open-none, open-more, depth-kept, memory-kept, leaf-kept, made-after, anew-kept, steps-length}
+use Rattle.writing.proofs.OpenLaws.{open-more, depth-kept, memory-kept, leaf-kept, made-after, anew-kept, steps-length}
 
 -- nothing follows an opening that is not done, or is the last
 pub followed-stays : (store : List ℕ) (left : ℕ) (s : Written) → mayFollow (s .writing) ≡ false → followed store left s ≡ s
 unfolding followed
 followed-stays store zero s e = refl
 followed-stays store (suc left) s e = rw e
-
--- k labels and then j more
-pub steps-add : (store : List ℕ) (j k : ℕ) (s : Written) → steps store j (steps store k s) ≡ steps store (k + j) s
-unfolding steps
-steps-add store zero k s = rw (add-zero k)
-steps-add store (suc j) k s = rw (add-suc k j) (ap (stepped store) (steps-add store j k s))
 
 module _ (store file : List ℕ) (w : Writing) (ready : Ready w (length store) (length file)) where
   abbrev n : ℕ
@@ -62,7 +58,7 @@ module _ (store file : List ℕ) (w : Writing) (ready : Ready w (length store) (
 
   labelled-none : labelled store 0 (writtenOf w file) ≡ writtenOf w file
   unfolding labelled
-  labelled-none = rw (open-none store start, written-same file from (openingSize n) fits)
+  labelled-none = rw (no-step (openings.openingMachine store) start, written-same file from (openingSize n) fits)
 
   -- one label more, and what it is followed by
   labelled-more :
@@ -94,7 +90,7 @@ module _ (store file : List ℕ) (w : Writing) (ready : Ready w (length store) (
   pub steps-labelled :
       (k : ℕ) → w .opening .made + suc k ≤ anew
       → steps store (suc k) (writtenOf w file) ≡ followed store (w .count) (labelled store (suc k) (writtenOf w file))
-  unfolding steps
+  unfolding machines.steps writingMachine
   steps-labelled zero few =
       ap (stepped store) (sym labelled-none) ∙ labelled-more 0 (omega arith)
   steps-labelled (suc k) few =

@@ -1,6 +1,6 @@
 -- Writing a file: its head, then each opening in its part of the file, one label at a time. When an opening is done the next
 -- one is begun, so that the opening under way has labels left unless the file is done.
-use Prim.Native.Nat.{ℕ, zero, suc, _+_, _-_, _*_, min}
+use Prim.Native.Nat.{ℕ, zero, suc, _+_, _-_, _*_}
 use mathlib.Core.Bool.{Bool}
 use mathlib.Core.List.{List}
 use lib.Dec.{ltb, eqb}
@@ -8,6 +8,8 @@ use lib.ListN.{length, take, drop}
 use Rattle.base.specs.Choice.{pick, both}
 use Rattle.base.specs.Bytes.{zeros, written}
 use Rattle.refusal.specs.Row.{isDone}
+use Rattle.machine.specs.Machines as machines
+use Rattle.machine.specs.Machines.{Machine}
 use Rattle.opening.specs.declared.Opening.{Opening}
 use Rattle.opening.specs.Rows.{openingSize, nodesAnew}
 use Rattle.opening.specs.Steps as openings
@@ -79,21 +81,28 @@ stepped store s =
       file = withPart n (w .count) (w .number) (s .file) (o .out);
     })
 
-unfoldable pub steps : List ℕ → ℕ → Written → Written
-steps store zero s = s
-steps store (suc k) s = stepped store (steps store k s)
-
 -- the labels that remain: of the opening under way, and of those after it
 abbrev pub remaining : Writing → ℕ
 remaining w =
     let anew : ℕ = nodesAnew (w .opening .depth) (w .opening .memory) in
     (w .count - w .number) * anew + (anew - w .opening .made)
 
+-- the writing of a file over its store as a machine: the checks of a call, the labels that remain, and one label
+unfoldable pub writingMachine : List ℕ → Machine Written
+writingMachine store =
+    record {
+      row = λ s. rewriteRow (s .writing) (length store) (length (s .file));
+      remaining = λ s. remaining (s .writing);
+      step = stepped store;
+    }
+
+abbrev pub steps : List ℕ → ℕ → Written → Written
+steps store k s = machines.steps (writingMachine store) k s
+
 -- the smaller of the budget and what remains; a refused call labels none
-unfoldable pub labelsIn : List ℕ → Written → ℕ → ℕ
-labelsIn store s budget =
-    pick (isDone (rewriteRow (s .writing) (length store) (length (s .file)))) (min budget (remaining (s .writing))) 0
+abbrev pub labelsIn : List ℕ → Written → ℕ → ℕ
+labelsIn store s budget = machines.doneIn (writingMachine store) s budget
 
 -- the writing and its file after a call
-unfoldable pub advanced : List ℕ → Written → ℕ → Written
-advanced store s budget = steps store (labelsIn store s budget) s
+abbrev pub advanced : List ℕ → Written → ℕ → Written
+advanced store s budget = machines.advanced (writingMachine store) s budget

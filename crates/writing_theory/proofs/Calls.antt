@@ -1,21 +1,20 @@
 -- Any cut of budgets carries a file to its end, and it is then the tree's at every memory level.
 use mathlib.Core.Path.{_≡_, sym, ap, _∙_}
 use Prim.Native.Nat.{ℕ, _+_, _-_, _*_, _≤_, _<_, min}
-use native.Mathlib.Nat.{zero-add, sub-zero}
 use native.Mathlib.Omega.{arith}
 use mathlib.Core.List.{List, _++_}
 use lib.ListN.{length, take, drop, length-append, length-drop}
+use Rattle.machine.specs.Machines.{Goes}
+use Rattle.machine.specs.Calls.{total, afterCalls}
+use Rattle.machine.proofs.CallLaws.{done-after, progress, advanced-after, calls-end}
 use Rattle.opening.specs.Rows.{openingSize, nodesAnew}
 use Rattle.proof_file.specs.Layout.{fileSize}
 use Rattle.proof_file.specs.FileCheck.{fileCheck}
-use Rattle.run_theory.specs.Calls.{total, afterCalls, labelsOver}
 use Rattle.run_theory.specs.Openings.{HoldsLabels}
-use Rattle.run_theory.proofs.Calls.{calls-reach, calls-report}
 use Rattle.run_theory.proofs.OpeningRun.{length-after}
 use Rattle.check_theory.specs.TreeFile.{treeFile}
 use Rattle.writing.specs.Rows.{rewriteRow}
-use Rattle.writing.specs.Steps.{steps, remaining, labelsIn, advanced}
-use Rattle.writing.proofs.StepLaws.{steps-add}
+use Rattle.writing.specs.Steps.{remaining, writingMachine, steps, labelsIn, advanced}
 use Rattle.writing_theory.specs.Filed.{Writable, newFile, labelsAnew, laidSize, underWay, leafAfter, openingsDone, writtenAt, writtenAfter}
 use Rattle.writing_theory.proofs.Laid.{size-next, size-fits, part-size, leaf-inside, laid-length, front-accepted}
 use Rattle.writing_theory.proofs.Filing.{stays-at, reached-at, file-written}
@@ -96,54 +95,25 @@ module _
       rw (file-reached k small)
       (remaining-at q (k - q * nodesAnew n m) (place k small .inside) (at-place k small) ∙ ap (λ (j : ℕ). labelsAnew n m t - j) whole)
 
+  -- the laws of calls hold of it
+  pub file-goes : Goes (writingMachine store) (newFile statement n m t store file) (labelsAnew n m t)
+  unfolding writingMachine
+  file-goes = record { done = file-goes-on; left = file-remaining }
+
   pub file-labels :
       (k b : ℕ) → k ≤ labelsAnew n m t
       → labelsIn store (steps store k (newFile statement n m t store file)) b ≡ min b (labelsAnew n m t - k)
-  unfolding labelsIn
-  file-labels k b small = rw (file-goes-on k small, file-remaining k small)
+  file-labels = done-after (writingMachine store) (newFile statement n m t store file) (labelsAnew n m t) file-goes
 
   pub file-moves-on :
       (k b : ℕ) → k < labelsAnew n m t → 1 ≤ b → 1 ≤ labelsIn store (steps store k (newFile statement n m t store file)) b
-  file-moves-on k b small some = omega (arith, file-labels k b (omega arith))
+  file-moves-on = progress (writingMachine store) (newFile statement n m t store file) (labelsAnew n m t) file-goes
 
   pub file-advanced :
       (k b : ℕ) → k ≤ labelsAnew n m t
       → advanced store (steps store k (newFile statement n m t store file)) b
       ≡ steps store (k + min b (labelsAnew n m t - k)) (newFile statement n m t store file)
-  unfolding advanced
-  file-advanced k b small =
-      rw (file-labels k b small)
-      (steps-add store (min b (labelsAnew n m t - k)) k (newFile statement n m t store file))
-
-  -- a finished file changes no more
-  pub file-stands :
-      (b : ℕ)
-      → advanced store (steps store (labelsAnew n m t) (newFile statement n m t store file)) b
-      ≡ steps store (labelsAnew n m t) (newFile statement n m t store file)
-  file-stands b =
-      let none : labelsAnew n m t + min b (labelsAnew n m t - labelsAnew n m t) ≡ labelsAnew n m t = omega arith in
-      file-advanced (labelsAnew n m t) b (omega arith) ∙ ap (λ (j : ℕ). steps store j (newFile statement n m t store file)) none
-
-  -- ---- any cut of budgets makes their sum of labels, up to all there are
-  pub file-calls :
-      (budgets : List ℕ)
-      → afterCalls (advanced store) (newFile statement n m t store file) budgets
-      ≡ steps store (min (total budgets) (labelsAnew n m t)) (newFile statement n m t store file)
-  unfolding steps
-  file-calls budgets =
-      calls-reach (advanced store) (labelsIn store) (λ k. steps store k (newFile statement n m t store file)) (labelsAnew n m t)
-      file-advanced file-labels budgets 0 (omega arith)
-      ∙ rw (zero-add (total budgets))
-
-  pub file-calls-labels :
-      (budgets : List ℕ)
-      → labelsOver (advanced store) (labelsIn store) (newFile statement n m t store file) budgets
-      ≡ min (total budgets) (labelsAnew n m t)
-  unfolding steps
-  file-calls-labels budgets =
-      calls-report (advanced store) (labelsIn store) (λ k. steps store k (newFile statement n m t store file)) (labelsAnew n m t)
-      file-advanced file-labels budgets 0 (omega arith)
-      ∙ rw (sub-zero (labelsAnew n m t))
+  file-advanced = advanced-after (writingMachine store) (newFile statement n m t store file) (labelsAnew n m t) file-goes
 
   -- budgets that suffice end at the tree's file, which is accepted
   pub file-carried :
@@ -151,8 +121,8 @@ module _
       → afterCalls (advanced store) (newFile statement n m t store file) budgets .file
       ≡ treeFile statement n t ++ drop (fileSize n t) file
   file-carried budgets enough =
-      let all : min (total budgets) (labelsAnew n m t) ≡ labelsAnew n m t = omega arith in
-      rw (file-calls budgets, all) (file-written statement n m t store file size holds fits)
+      rw (calls-end (writingMachine store) (newFile statement n m t store file) (labelsAnew n m t) file-goes budgets enough)
+      (file-written statement n m t store file size holds fits)
 
   pub file-carried-accepted :
       (budgets : List ℕ) → labelsAnew n m t ≤ total budgets

@@ -14,6 +14,7 @@ use borrow.Author.Tests.{eq-eqb, ne-eqb, lt-ltb, le-ltb}
 use Rattle.base.proofs.ChoiceLaws.{both-false}
 use Rattle.base.proofs.WrittenLaws.{written-over}
 use Rattle.groups.proofs.Steps.{lt-or-le}
+use Rattle.machine.specs.Machines as machines
 use Rattle.opening.specs.Rows.{openingSize, nodesAnew}
 use Rattle.opening.specs.Steps.{Open, copiedAll}
 use Rattle.proof_file.specs.Layout.{fileSize}
@@ -22,7 +23,7 @@ use Rattle.run_theory.specs.Openings.{HoldsLabels, newOpen, openAfter, outAfter
 use Rattle.run_theory.proofs.OpeningRun.{opening-start, opening-step, length-after, opening-done}
 use Rattle.run_theory.proofs.OpeningCalls.{none-anew}
 use Rattle.check_theory.specs.TreeFile.{rootOf, treeFile}
-use Rattle.writing.specs.Steps.{begun, mayFollow, followed, stepped, newWriting, steps}
+use Rattle.writing.specs.Steps.{begun, mayFollow, followed, stepped, newWriting, writingMachine, steps}
 use Rattle.writing.proofs.StepLaws.{followed-stays}
 use Rattle.writing_theory.specs.Filed.{laid, laidSize, underWay, leafAfter, writtenAt, Writable, newFile, labelsAnew}
 use Rattle.writing_theory.proofs.Laid.{size-from, laid-length, laid-next, size-all, laid-all, laid-head, leaf-inside, part-size, part-split, front-accepted}
@@ -168,7 +169,7 @@ module _
       (q r : ℕ) → q < t → suc r < nodesAnew n m + (q + 2 - t)
       → steps store (q * nodesAnew n m + r) (newFile statement n m t store file) ≡ writtenAt statement n m t file q r
       → steps store (q * nodesAnew n m + suc r) (newFile statement n m t store file) ≡ writtenAt statement n m t file q (suc r)
-  unfolding steps
+  unfolding machines.steps writingMachine
   one-more q r few small e =
       rw (add-suc (q * nodesAnew n m) r, e) (opening-stepped q r few (omega arith) ∙ follows-none t q (r + 1) (omega arith) ∙ rw (add-one r))
 
@@ -182,14 +183,14 @@ module _
   -- from opening to opening
   first-begun :
       0 < nodesAnew n m → steps store (0 * nodesAnew n m) (newFile statement n m t store file) ≡ writtenAt statement n m t file 0 0
-  unfolding steps
+  unfolding machines.steps writingMachine
   first-begun some = rw (zero-mul (nodesAnew n m)) (new-begun ∙ follows-none t 0 0 (omega arith))
 
   next-begun :
       (q : ℕ) → 0 < nodesAnew n m → suc q < t
       → steps store (q * nodesAnew n m) (newFile statement n m t store file) ≡ writtenAt statement n m t file q 0
       → steps store (suc q * nodesAnew n m) (newFile statement n m t store file) ≡ writtenAt statement n m t file (suc q) 0
-  unfolding steps
+  unfolding machines.steps writingMachine
   next-begun q some few e =
       let last : ℕ = nodesAnew n m - 1 in
       let more : suc q * nodesAnew n m ≡ suc (q * nodesAnew n m + last) = omega (arith, suc-mul q (nodesAnew n m)) in
@@ -207,7 +208,7 @@ module _
   begins-any :
       (q : ℕ) → q < t → 0 < nodesAnew n m + (q + 2 - t)
       → steps store (q * nodesAnew n m) (newFile statement n m t store file) ≡ writtenAt statement n m t file q 0
-  unfolding steps
+  unfolding machines.steps writingMachine
   begins-any q few some =
       ⊎-elim
       (λ more. begins q more few)
@@ -251,7 +252,7 @@ pub file-copied :
     (statement : List ℕ) (n t : ℕ) (store file : List ℕ) → length statement ≡ 32 → HoldsLabels statement n n store
     → Writable n n t (length store) (length file)
     → newFile statement n n t store file .file ≡ treeFile statement n t ++ drop (fileSize n t) file
-unfolding steps
+unfolding machines.steps writingMachine
 file-copied statement n t store file size holds fits =
     let none : labelsAnew n n t ≡ 0 = rw (none-anew n) (mul-zero t) in
     rw none at (file-written statement n n t store file size holds fits)

@@ -8,13 +8,13 @@ use lib.ListN.{length, take, drop}
 use lib.Seq.{take-at}
 use Rattle.base.specs.Limits.{heldSize}
 use Rattle.base.specs.Bytes.{zeros}
+use Rattle.machine.specs.Calls.{total, afterCalls}
 use Rattle.tree.specs.Nodes.{root}
 use Rattle.tree.specs.Walk.{nodesIn}
 use Rattle.run.specs.Steps as runs
 use Rattle.run.specs.Steps.{Stamped}
 use Rattle.proof_file.specs.Layout.{fileSize}
 use Rattle.proof_file.specs.FileCheck.{fileCheck}
-use Rattle.run_theory.specs.Calls.{total, afterCalls}
 use Rattle.run_theory.specs.Runs.{Startable, atStart, called}
 use Rattle.run_theory.specs.Openings.{HoldsLabels}
 use Rattle.run_theory.proofs.Step.{label-size}

@@ -6,13 +6,13 @@ use lib.ListN.{take, drop}
 use Rattle.base.specs.Choice.{pick}
 use Rattle.base.specs.Bytes.{joined}
 use Rattle.base.specs.Limits.{maxMemory}
+use Rattle.machine.specs.Calls.{afterCalls}
 use Rattle.tree.specs.Store.{storeSize}
 use Rattle.run.specs.Steps.{Stamped}
 use Rattle.opening.specs.Rows.{openingSize, nodesAnew}
 use Rattle.opening.specs.Steps.{Open}
 use Rattle.proof_file.specs.Challenge.{challengeLeaf}
 use Rattle.proof_file.specs.Layout.{head, headSize, fileSize}
-use Rattle.run_theory.specs.Calls.{afterCalls}
 use Rattle.run_theory.specs.Openings.{openAfter}
 use Rattle.check_theory.specs.IsProof.{IsDepth, IsCount}
 use Rattle.check_theory.specs.TreeFile.{rootOf, treeOpenings}

@@ -4,6 +4,7 @@ use borrow.Author.Needs.{needs}
 use native.Mathlib.Omega.{arith}
 use lib.ListN.{length}
 use Prim.Native.Nat.{_-_, _≤_}
+use Rattle.machine.specs.Machines as machines
 use Rattle.tree.specs.Walk.{nodesIn}
 use Rattle.run.specs.Steps.{stamped, steps}
 use Rattle.run.proofs.StepLaws.{small-nodes}
@@ -23,7 +24,7 @@ nodes-requires : tie.Need-nodes-requires Inv-loop μ-loop
 nodes-requires c κs = c .before .pre .0 .shallow
 
 loop-holds : tie.Need-loop-holds Inv-loop μ-loop
-unfolding steps
+unfolding machines.steps
 loop-holds c = (omega arith, refl, refl, refl)
 
 add-made : tie.Need-add-made Inv-loop μ-loop

@@ -5,6 +5,7 @@ use borrow.Author.Needs.{needs}
 use native.Mathlib.Omega.{arith}
 use lib.ListN.{length}
 use Prim.Native.Nat.{_-_, _≤_}
+use Rattle.machine.specs.Machines as machines
 use Rattle.writing_theory.specs.Filed.{labelsAnew}
 use Rattle.writing.specs.Possible.{writtenOf}
 use Rattle.writing.specs.Steps.{steps}
@@ -36,7 +37,7 @@ mul-labels c =
     omega (arith, few, all)
 
 loop-holds : tie.Need-loop-holds Inv-loop μ-loop
-unfolding steps
+unfolding machines.steps
 loop-holds c = (omega arith, refl, refl, refl)
 
 add-made : tie.Need-add-made Inv-loop μ-loop

@@ -4,7 +4,7 @@ use Prim.Native.Nat.{_-_}
 use borrow.Author.Needs.{needs}
 use lib.ListN.{length, replicate}
 use Rattle.run.specs.Steps.{Stamped, stamped, labelsIn, advanced}
-use Rattle.run_theory.specs.Calls.{afterCalls}
+use Rattle.machine.specs.Calls.{afterCalls}
 use Rattle.vector_runs.proofs.CallLaws.{calls-idle, calls-more, calls-none, run-idle}
 use Rattle.vector_runs.proofs.carried.run_to_end.Statement.{statement}
 use Rattle.vector_runs.proofs.carried.run_to_end.Tie as tie

@@ -1,5 +1,5 @@
 -- `writing::labels::labels_left` meets its contract: the labels of 200 openings fit.
-use Prim.Native.Nat.{_-_, _*_, _^_, _≤_, _<_}
+use Prim.Native.Nat.{_+_, _-_, _*_, _^_, _≤_, _<_}
 use native.Mathlib.Nat.{mul-le-mul-right}
 use native.Mathlib.Omega.{arith}
 use Rattle.base.specs.Limits.{maxDepth, maxChallenges}
