@@ -1,6 +1,7 @@
 // Chains: planned and drawn, and the comparison of openings.
 ghost use mathlib.Core.Path.{_≡_};
 ghost use lib.ListN.{length};
+ghost use Rattle.base.specs.Limits.{edition};
 ghost use Rattle.base.specs.Bytes.{zeros};
 ghost use Rattle.chain.specs.PlanRow.{planRow, plannedCount, plannedList};
 ghost use Rattle.compare.specs.Comparison.{compareRow, compared, firstInput, secondInput};
@@ -86,11 +87,11 @@ pub extern "C" fn mastdock_compare(
     openings: &[u8],
 ) -> Compared
     ensures { λ r. ⌜ r .refusal ≡ compareRow depth (now (leaves .entry)) (length (now (openings .entry))) ⌝ }
-    ensures { λ r. ⌜ r .clash .i ≡ firstOf (compared (now (statement .entry)) depth (now (leaves .entry)) (now (openings .entry))) ⌝ }
-    ensures { λ r. ⌜ r .clash .j ≡ secondOf (compared (now (statement .entry)) depth (now (leaves .entry)) (now (openings .entry))) ⌝ }
-    ensures { λ r. ⌜ r .clash .level ≡ levelOf (compared (now (statement .entry)) depth (now (leaves .entry)) (now (openings .entry))) ⌝ }
-    ensures { λ r. ⌜ r .clash .first ≡ firstInput (now (statement .entry)) depth (now (leaves .entry)) (now (openings .entry)) (compared (now (statement .entry)) depth (now (leaves .entry)) (now (openings .entry))) ⌝ }
-    ensures { λ r. ⌜ r .clash .second ≡ secondInput (now (statement .entry)) depth (now (leaves .entry)) (now (openings .entry)) (compared (now (statement .entry)) depth (now (leaves .entry)) (now (openings .entry))) ⌝ }
+    ensures { λ r. ⌜ r .clash .i ≡ firstOf (compared edition (now (statement .entry)) depth (now (leaves .entry)) (now (openings .entry))) ⌝ }
+    ensures { λ r. ⌜ r .clash .j ≡ secondOf (compared edition (now (statement .entry)) depth (now (leaves .entry)) (now (openings .entry))) ⌝ }
+    ensures { λ r. ⌜ r .clash .level ≡ levelOf (compared edition (now (statement .entry)) depth (now (leaves .entry)) (now (openings .entry))) ⌝ }
+    ensures { λ r. ⌜ r .clash .first ≡ firstInput edition (now (statement .entry)) depth (now (leaves .entry)) (now (openings .entry)) (compared edition (now (statement .entry)) depth (now (leaves .entry)) (now (openings .entry))) ⌝ }
+    ensures { λ r. ⌜ r .clash .second ≡ secondInput edition (now (statement .entry)) depth (now (leaves .entry)) (now (openings .entry)) (compared edition (now (statement .entry)) depth (now (leaves .entry)) (now (openings .entry))) ⌝ }
     ensures { λ r. ⌜ r .clash .zero ≡ zeros 6 ⌝ }
 {
     let c = compare::compare(*statement, depth, leaves, openings);

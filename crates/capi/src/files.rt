@@ -1,6 +1,7 @@
 // Challenges, the head, and the checks of openings and files.
 ghost use mathlib.Core.Path.{_≡_};
 ghost use lib.ListN.{length};
+ghost use Rattle.base.specs.Limits.{edition};
 ghost use Rattle.opening_check.specs.OpeningCheck.{openingRow};
 ghost use Rattle.proof_file.specs.Challenge.{challengeRow, challenged};
 ghost use Rattle.proof_file.specs.Layout.{headRow, headWritten};
@@ -25,7 +26,7 @@ pub extern "C" fn mastdock_challenge(
     i: u64,
 ) -> Challenged
     ensures { λ r. ⌜ r .refusal ≡ challengeRow depth i ⌝ }
-    ensures { λ r. ⌜ r .leaf ≡ challenged depth (now (statement .entry)) (now (root .entry)) i ⌝ }
+    ensures { λ r. ⌜ r .leaf ≡ challenged edition depth (now (statement .entry)) (now (root .entry)) i ⌝ }
 {
     let c = proof_file::challenge(depth, *statement, *root, i);
     let outcome = c.outcome;
@@ -46,7 +47,7 @@ pub extern "C" fn mastdock_write_head(
     file: &mut [u8],
 ) -> u64
     ensures { λ r. ⌜ r ≡ headRow depth count (length (now (file .entry))) ⌝ }
-    ensures { λ _. ⌜ now (file .exit) ≡ headWritten (now (statement .entry)) (now (root .entry)) depth count (now (file .entry)) ⌝ }
+    ensures { λ _. ⌜ now (file .exit) ≡ headWritten edition (now (statement .entry)) (now (root .entry)) depth count (now (file .entry)) ⌝ }
 {
     let outcome = proof_file::write_head(*statement, *root, depth, count, file);
     outcome_number(outcome)
@@ -106,7 +107,7 @@ pub extern "C" fn mastdock_check_opening(
     leaf: u64,
     opening: &[u8],
 ) -> u64
-    ensures { λ r. ⌜ r ≡ openingRow (now (statement .entry)) depth leaf (now (root .entry)) (now (opening .entry)) ⌝ }
+    ensures { λ r. ⌜ r ≡ openingRow edition (now (statement .entry)) depth leaf (now (root .entry)) (now (opening .entry)) ⌝ }
 {
     let outcome = opening_check::check_opening(*statement, depth, leaf, *root, opening);
     outcome_number(outcome)

@@ -2,6 +2,7 @@
 use Prim.Native.Nat.{ℕ}
 use mathlib.Core.List.{List}
 use lib.ListN.{length}
+use Rattle.base.specs.Limits.{edition}
 use Rattle.base.specs.Bytes.{zeros}
 use Rattle.sha256.specs.declared.Hash.{Hash}
 use Rattle.sha256.specs.Portions.{updateRow, updateState, finishRow, finishDigest, digestRow, digestAnswer}
@@ -89,7 +90,7 @@ openingAdvance opening budget store out =
 
 abbrev pub challenge : List ℕ → List ℕ → ℕ → ℕ → Challenged
 challenge statement root depth i =
-    record { refusal = challengeRow depth i; leaf = challenged depth statement root i }
+    record { refusal = challengeRow depth i; leaf = challenged edition depth statement root i }
 
 abbrev pub readHead : List ℕ → HeadRead
 readHead file =
@@ -122,11 +123,11 @@ abbrev pub compareFrom : Pair → List ℕ → ℕ → List ℕ → List ℕ →
 compareFrom pair statement depth leaves openings =
     record {
       refusal = compareRow depth leaves (length openings);
-      clash = clashOf pair (firstInput statement depth leaves openings pair) (secondInput statement depth leaves openings pair);
+      clash = clashOf pair (firstInput edition statement depth leaves openings pair) (secondInput edition statement depth leaves openings pair);
     }
 
 abbrev pub compare : List ℕ → ℕ → List ℕ → List ℕ → Compared
-compare statement depth leaves openings = compareFrom (compared statement depth leaves openings) statement depth leaves openings
+compare statement depth leaves openings = compareFrom (compared edition statement depth leaves openings) statement depth leaves openings
 
 abbrev pub drawFrom : DrawingAnswer → List ℕ → List ℕ → ℕ → ℕ → List ℕ → Drawn
 drawFrom drawing file statement depth count list =

@@ -2,6 +2,7 @@
 // there that says less, an answer with a field that none decides, or parameters in another order are refused here.
 ghost use mathlib.Core.Path.{_≡_};
 ghost use lib.ListN.{length};
+ghost use Rattle.base.specs.Limits.{edition};
 ghost use Rattle.sha256.specs.Portions.{newHash};
 ghost use Rattle.run.specs.Steps as runs;
 ghost use Rattle.opening.specs.Possible.{openOf};
@@ -111,7 +112,7 @@ pub fn write_head(
     file: &mut [u8],
 ) -> u64
     ensures { λ r. ⌜ r ≡ headRow depth count (length (now (file .entry))) ⌝ }
-    ensures { λ _. ⌜ now (file .exit) ≡ headWritten (now (statement .entry)) (now (root .entry)) depth count (now (file .entry)) ⌝ }
+    ensures { λ _. ⌜ now (file .exit) ≡ headWritten edition (now (statement .entry)) (now (root .entry)) depth count (now (file .entry)) ⌝ }
 {
     capi::mastdock_write_head(statement, root, depth, count, file)
 }
@@ -135,7 +136,7 @@ pub fn check_opening(
     leaf: u64,
     opening: &[u8],
 ) -> u64
-    ensures { λ r. ⌜ r ≡ openingRow (now (statement .entry)) depth leaf (now (root .entry)) (now (opening .entry)) ⌝ }
+    ensures { λ r. ⌜ r ≡ openingRow edition (now (statement .entry)) depth leaf (now (root .entry)) (now (opening .entry)) ⌝ }
 {
     capi::mastdock_check_opening(statement, root, depth, leaf, opening)
 }

@@ -6,11 +6,12 @@ use mathlib.Core.List.{List}
 use lib.ListN.{length}
 use borrow.Author.Tests.{le-ltb, eq-eqb}
 use Rattle.base.specs.Bytes.{joined}
+use Rattle.base.specs.Limits as limits
 use Rattle.base.proofs.ListsLaws.{test-same, tells-bytes}
 use Rattle.tree.specs.Disagreement.{Given32}
 use Rattle.tree.specs.Openings.{openingSize}
 use Rattle.proof_file.specs.Challenge.{challengeLeaf}
-use Rattle.proof_file.specs.Layout.{headNumbers, fileSize, file}
+use Rattle.proof_file.specs.Layout.{headNumbers, file}
 use Rattle.proof_file.specs.Head.{numbers, headOf, lengthFrom, statementAt, rootAt, openingAt}
 use Rattle.opening_check.specs.OpeningCheck.{givenBy}
 use Rattle.proof_file.specs.FileCheck.{openingsFrom, fileRest, fileCheck}
@@ -23,7 +24,7 @@ use Rattle.check_theory.proofs.Openings.{rowOf, rows-accepted}
 
 rest-accepted :
     (bytes statement : List ℕ) (n t at : ℕ) → length bytes ≡ lengthFrom n t at → statementAt bytes at ≡ statement
-    → openingsFrom bytes n at 1 t ≡ 0 → fileRest bytes statement n t (numbers n t at) ≡ 0
+    → openingsFrom limits.edition bytes n at 1 t ≡ 0 → fileRest bytes statement n t (numbers n t at) ≡ 0
 rest-accepted bytes statement n t at size same openings =
     rw (
       le-ltb (length bytes) (lengthFrom n t at) (omega arith),
@@ -35,55 +36,58 @@ rest-accepted bytes statement n t at size same openings =
     openings
 
 -- what reading a proof gives: its head's numbers, statement, root and openings, with 32 bytes a label, and right
-module _ (bytes statement : List ℕ) (n t : ℕ) (p : IsProof bytes statement n t) where
-  pub file-head : headOf bytes ≡ numbers n t (length (headNumbers n t))
+module _ (edition : ℕ) (bytes statement : List ℕ) (n t : ℕ) (p : IsProof edition bytes statement n t) where
+  pub file-statement : statementAt bytes (length (headNumbers edition n t)) ≡ statement
   unfolding file
-  file-head = rw (p .isFile) (head-back statement (p .root) n t (p .depth) (p .count) (joined (p .openings)))
+  file-statement = rw (p .isFile) (statement-back edition statement (p .root) n t (p .statementSize) (p .rootSize) (joined (p .openings)))
 
-  pub file-statement : statementAt bytes (length (headNumbers n t)) ≡ statement
+  pub file-root : rootAt bytes (length (headNumbers edition n t)) ≡ p .root
   unfolding file
-  file-statement = rw (p .isFile) (statement-back statement (p .root) n t (p .statementSize) (p .rootSize) (joined (p .openings)))
+  file-root = rw (p .isFile) (root-back edition statement (p .root) n t (p .statementSize) (p .rootSize) (joined (p .openings)))
 
-  pub file-root : rootAt bytes (length (headNumbers n t)) ≡ p .root
-  unfolding file
-  file-root = rw (p .isFile) (root-back statement (p .root) n t (p .statementSize) (p .rootSize) (joined (p .openings)))
-
-  pub file-opening : (i : ℕ) → 1 ≤ i → i ≤ t → openingAt bytes n (length (headNumbers n t)) i ≡ nth (p .openings) i
+  pub file-opening : (i : ℕ) → 1 ≤ i → i ≤ t → openingAt bytes n (length (headNumbers edition n t)) i ≡ nth (p .openings) i
   file-opening i positive small =
       rw (p .isFile)
-      (opening-back statement (p .root) n t (p .statementSize) (p .rootSize) (p .openings) (p .openingCount) (p .openingSizes)
+      (opening-back edition statement (p .root) n t (p .statementSize) (p .rootSize) (p .openings) (p .openingCount) (p .openingSizes)
       i positive small)
 
-  pub file-size : length bytes ≡ lengthFrom n t (length (headNumbers n t))
-  unfolding fileSize
-  file-size = rw (p .isFile) (length-file statement (p .root) n t (p .statementSize) (p .rootSize) (p .openings) (p .openingCount) (p .openingSizes))
+  pub file-size : length bytes ≡ lengthFrom n t (length (headNumbers edition n t))
+  file-size = rw (p .isFile) (length-file edition statement (p .root) n t (p .statementSize) (p .rootSize) (p .openings) (p .openingCount) (p .openingSizes))
 
-  pub file-sized : (i : ℕ) → 1 ≤ i → i ≤ t → Given32 n (givenBy (openingAt bytes n (length (headNumbers n t)) i))
+  pub file-sized : (i : ℕ) → 1 ≤ i → i ≤ t → Given32 n (givenBy (openingAt bytes n (length (headNumbers edition n t)) i))
   file-sized i positive small =
       let size : length (nth (p .openings) i) ≡ openingSize n =
       each-at (openingSize n) (p .openings) (p .openingSizes) (i - 1) (omega (arith, p .openingCount)) in
-      given-sized n (openingAt bytes n (length (headNumbers n t)) i) (rw (file-opening i positive small) size)
+      given-sized n (openingAt bytes n (length (headNumbers edition n t)) i) (rw (file-opening i positive small) size)
 
   pub file-right :
       (i : ℕ) → 1 ≤ i → i ≤ t
-      → OpeningRight statement n (challengeLeaf n statement (p .root) i) (p .root) (openingAt bytes n (length (headNumbers n t)) i)
+      → OpeningRight edition statement n (challengeLeaf edition n statement (p .root) i) (p .root) (openingAt bytes n (length (headNumbers edition n t)) i)
   file-right i positive small = rw (file-opening i positive small) (p .allRight i positive small)
 
-  file-row : (i : ℕ) → 1 ≤ i → i < 1 + t → rowOf bytes n (length (headNumbers n t)) i ≡ 0
+  file-row : (i : ℕ) → 1 ≤ i → i < 1 + t → rowOf edition bytes n (length (headNumbers edition n t)) i ≡ 0
   file-row i positive small =
       rw (file-statement, file-root)
       (right-done
+      edition
       statement
       n
-      (challengeLeaf n statement (p .root) i)
+      (challengeLeaf edition n statement (p .root) i)
       (p .root)
-      (openingAt bytes n (length (headNumbers n t)) i)
+      (openingAt bytes n (length (headNumbers edition n t)) i)
       (file-right i positive (omega arith)))
+
+-- the edition that is checked
+module _ (bytes statement : List ℕ) (n t : ℕ) (p : IsProof limits.edition bytes statement n t) where
+  pub file-head : headOf bytes ≡ numbers n t (length (headNumbers limits.edition n t))
+  unfolding file
+  file-head = rw (p .isFile) (head-back statement (p .root) n t (p .depth) (p .count) (joined (p .openings)))
 
   -- 'and always if they do and the rest is as document 01 says'
   pub proof-accepted : fileCheck bytes statement n t ≡ 0
   unfolding fileCheck
   proof-accepted =
       rw file-head
-      (rest-accepted bytes statement n t (length (headNumbers n t)) file-size file-statement
-      (rows-accepted bytes n (length (headNumbers n t)) 1 t file-row))
+      (rest-accepted bytes statement n t (length (headNumbers limits.edition n t)) (file-size limits.edition bytes statement n t p)
+      (file-statement limits.edition bytes statement n t p)
+      (rows-accepted limits.edition bytes n (length (headNumbers limits.edition n t)) 1 t (file-row limits.edition bytes statement n t p)))

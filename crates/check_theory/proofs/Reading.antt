@@ -1,28 +1,30 @@
 -- What was written is read back: the head's numbers, statement, root and openings. No two heads have the same bytes.
 use mathlib.Core.Path.{_≡_, refl, sym, ap, _∙_}
-use Prim.Native.Nat.{ℕ, _+_, _-_, _*_, _≤_}
+use Prim.Native.Nat.{ℕ, _+_, _-_, _*_, _≤_, _<_}
 use native.Mathlib.Nat.{zero-add, add-assoc, mul-comm}
 use native.Mathlib.Omega.{arith}
 use mathlib.Core.List.{List, [], _++_, append-assoc}
 use lib.ListN.{length, length-append}
 use lib.Seq.{take-at, drop-at, drop-append-add}
 use Rattle.base.specs.Bytes.{joined}
-use Rattle.base.specs.Limits.{maxDepth, maxChallenges, edition}
+use Rattle.base.specs.Limits.{maxDepth, maxChallenges}
+use Rattle.base.specs.Limits as limits
 use Rattle.base.specs.Lists.{EachOf}
 use Rattle.base.proofs.BytesLaws.{length-joined, joined-at}
 use Rattle.groups.specs.Groups.{groups}
 use Rattle.groups.specs.Reading.{value, readAt}
 use Rattle.groups.proofs.ReadBack.{read-written}
 use Rattle.tree.specs.Openings.{openingSize}
-use Rattle.proof_file.specs.Layout.{numberGroups, headNumbers, head, fileSize, file}
-use Rattle.proof_file.specs.Head.{numbers, headOf, statementAt, rootAt, openingAt}
+use Rattle.proof_file.specs.Layout.{numberGroups, headNumbers, head, fileSize, file, headSize}
+use Rattle.proof_file.specs.Head.{numbers, headOf, statementAt, rootAt, openingAt, lengthFrom}
+use Rattle.proof_file.proofs.WritingLaws.{size-numbers}
 use Rattle.check_theory.specs.IsProof.{IsDepth, IsCount, nth}
 use Rattle.check_theory.specs.Heads.{IsHead, SameHead}
 use Rattle.check_theory.proofs.RowLaws.{within}
 
 -- ---- the numbers
 module _ (n t : ℕ) (depth : IsDepth n) (count : IsCount t) (rest : List ℕ) where
-  edition-back : readAt (headNumbers n t ++ rest) 0 numberGroups ≡ value edition (length (groups numberGroups edition))
+  edition-back : readAt (headNumbers limits.edition n t ++ rest) 0 numberGroups ≡ value limits.edition (length (groups numberGroups limits.edition))
   unfolding headNumbers
   edition-back =
       simp append-assoc
@@ -30,62 +32,69 @@ module _ (n t : ℕ) (depth : IsDepth n) (count : IsCount t) (rest : List ℕ) w
       (read-written 2 2 1 [] (groups 2 n ++ groups 2 t ++ rest) (omega arith) (omega arith) (omega arith) (omega arith)))
 
   depth-back :
-      readAt (headNumbers n t ++ rest) (length (groups numberGroups edition)) numberGroups ≡
-      value n (length (groups numberGroups edition) + length (groups numberGroups n))
+      readAt (headNumbers limits.edition n t ++ rest) (length (groups numberGroups limits.edition)) numberGroups ≡
+      value n (length (groups numberGroups limits.edition) + length (groups numberGroups n))
   unfolding headNumbers
   depth-back =
       simp append-assoc
       (simp append-assoc at (read-written 2 2 n (groups 2 1) (groups 2 t ++ rest) (omega arith) (omega arith) (omega arith) (omega arith)))
 
   count-back :
-      readAt (headNumbers n t ++ rest) (length (groups numberGroups edition) + length (groups numberGroups n)) numberGroups ≡
-      value t (length (headNumbers n t))
+      readAt (headNumbers limits.edition n t ++ rest) (length (groups numberGroups limits.edition) + length (groups numberGroups n)) numberGroups ≡
+      value t (length (headNumbers limits.edition n t))
   unfolding headNumbers
   count-back =
       simp (append-assoc, length-append)
       (simp (append-assoc, length-append, add-assoc) at
       (read-written 2 2 t (groups 2 1 ++ groups 2 n) rest (omega arith) (omega arith) (omega arith) (omega arith)))
 
-  numbers-back : headOf (headNumbers n t ++ rest) ≡ numbers n t (length (headNumbers n t))
+  numbers-back : headOf (headNumbers limits.edition n t ++ rest) ≡ numbers n t (length (headNumbers limits.edition n t))
   unfolding headOf
   numbers-back = rw (edition-back, depth-back, within 1 maxDepth n depth, count-back, within 1 maxChallenges t count)
 
 -- with the place after them, whatever follows
 pub head-back :
     (statement root : List ℕ) (n t : ℕ) → IsDepth n → IsCount t → (rest : List ℕ)
-    → headOf (head statement root n t ++ rest) ≡ numbers n t (length (headNumbers n t))
+    → headOf (head limits.edition statement root n t ++ rest) ≡ numbers n t (length (headNumbers limits.edition n t))
 unfolding head
 head-back statement root n t depth count rest = simp append-assoc (numbers-back n t depth count (statement ++ (root ++ rest)))
 
 -- ---- statement, root and openings
-module _ (statement root : List ℕ) (n t : ℕ) (statementSize : length statement ≡ 32) (rootSize : length root ≡ 32) where
-  pub length-head : length (head statement root n t) ≡ length (headNumbers n t) + 64
+module _ (edition : ℕ) (statement root : List ℕ) (n t : ℕ) (statementSize : length statement ≡ 32) (rootSize : length root ≡ 32) where
+  head-length : length (head edition statement root n t) ≡ length (headNumbers edition n t) + 64
   unfolding head
-  length-head = simp length-append (omega arith)
+  head-length = simp length-append (omega arith)
+
+  pub length-head : edition < 128 → length (head edition statement root n t) ≡ headSize n t
+  length-head small = head-length ∙ size-numbers edition n t small
 
   module _ (rest : List ℕ) where
-    pub statement-back : statementAt (head statement root n t ++ rest) (length (headNumbers n t)) ≡ statement
+    pub statement-back : statementAt (head edition statement root n t ++ rest) (length (headNumbers edition n t)) ≡ statement
     unfolding head
     statement-back =
         simp append-assoc
-        (rw (drop-at (headNumbers n t) (statement ++ (root ++ rest)) _ refl) (take-at statement (root ++ rest) 32 statementSize))
+        (rw (drop-at (headNumbers edition n t) (statement ++ (root ++ rest)) _ refl) (take-at statement (root ++ rest) 32 statementSize))
 
-    pub root-back : rootAt (head statement root n t ++ rest) (length (headNumbers n t)) ≡ root
+    pub root-back : rootAt (head edition statement root n t ++ rest) (length (headNumbers edition n t)) ≡ root
     unfolding head
     root-back =
         simp append-assoc
-        (rw (drop-append-add (headNumbers n t) (statement ++ (root ++ rest)) 32, drop-at statement (root ++ rest) 32 statementSize)
+        (rw (drop-append-add (headNumbers edition n t) (statement ++ (root ++ rest)) 32, drop-at statement (root ++ rest) 32 statementSize)
         (take-at root rest 32 rootSize))
 
   module _ (openings : List (List ℕ)) (openingCount : length openings ≡ t) (sizes : EachOf (openingSize n) openings) where
-    pub length-file : length (file statement root n t openings) ≡ fileSize n t
-    unfolding file fileSize
-    length-file = rw (length-append, length-head, length-joined (openingSize n) openings sizes, openingCount, mul-comm (openingSize n) t)
+    pub length-file : length (file edition statement root n t openings) ≡ lengthFrom n t (length (headNumbers edition n t))
+    unfolding file
+    length-file = rw (length-append, head-length, length-joined (openingSize n) openings sizes, openingCount, mul-comm (openingSize n) t)
 
-    pub opening-back : (i : ℕ) → 1 ≤ i → i ≤ t → openingAt (file statement root n t openings) n (length (headNumbers n t)) i ≡ nth openings i
+    pub file-size-is : edition < 128 → length (file edition statement root n t openings) ≡ fileSize n t
+    unfolding fileSize
+    file-size-is small = length-file ∙ ap (λ (k : ℕ). k + t * openingSize n) (size-numbers edition n t small)
+
+    pub opening-back : (i : ℕ) → 1 ≤ i → i ≤ t → openingAt (file edition statement root n t openings) n (length (headNumbers edition n t)) i ≡ nth openings i
     unfolding file
     opening-back i positive small =
-        rw (← length-head, drop-append-add (head statement root n t) (joined openings) ((i - 1) * openingSize n), mul-comm (i - 1) (openingSize n))
+        rw (← head-length, drop-append-add (head edition statement root n t) (joined openings) ((i - 1) * openingSize n), mul-comm (i - 1) (openingSize n))
         (joined-at (openingSize n) openings sizes (i - 1) (omega arith))
 
 -- ---- no two heads have the same bytes
@@ -99,24 +108,24 @@ module _
   where
     -- whatever follows them
     pub same-heads :
-        (rest rest′ : List ℕ) → head statement root n t ++ rest ≡ head statement′ root′ n′ t′ ++ rest′
+        (rest rest′ : List ℕ) → head limits.edition statement root n t ++ rest ≡ head limits.edition statement′ root′ n′ t′ ++ rest′
         → SameHead statement root n t statement′ root′ n′ t′
     same-heads rest rest′ e =
-        let same-numbers : numbers n t (length (headNumbers n t)) ≡ numbers n′ t′ (length (headNumbers n′ t′)) =
+        let same-numbers : numbers n t (length (headNumbers limits.edition n t)) ≡ numbers n′ t′ (length (headNumbers limits.edition n′ t′)) =
         sym (head-back statement root n t (h .depth) (h .count) rest)
         ∙ ap headOf e
         ∙ head-back statement′ root′ n′ t′ (h′ .depth) (h′ .count) rest′ in
-        let place : length (headNumbers n t) ≡ length (headNumbers n′ t′) = cc in
+        let place : length (headNumbers limits.edition n t) ≡ length (headNumbers limits.edition n′ t′) = cc in
         record {
           statements =
-              sym (statement-back statement root n t (h .statementSize) (h .rootSize) rest)
-              ∙ rw (e, place) (statement-back statement′ root′ n′ t′ (h′ .statementSize) (h′ .rootSize) rest′);
+              sym (statement-back limits.edition statement root n t (h .statementSize) (h .rootSize) rest)
+              ∙ rw (e, place) (statement-back limits.edition statement′ root′ n′ t′ (h′ .statementSize) (h′ .rootSize) rest′);
           roots =
-              sym (root-back statement root n t (h .statementSize) (h .rootSize) rest)
-              ∙ rw (e, place) (root-back statement′ root′ n′ t′ (h′ .statementSize) (h′ .rootSize) rest′);
+              sym (root-back limits.edition statement root n t (h .statementSize) (h .rootSize) rest)
+              ∙ rw (e, place) (root-back limits.edition statement′ root′ n′ t′ (h′ .statementSize) (h′ .rootSize) rest′);
           depths = cc;
           counts = cc;
         }
 
-    pub one-head : head statement root n t ≡ head statement′ root′ n′ t′ → SameHead statement root n t statement′ root′ n′ t′
+    pub one-head : head limits.edition statement root n t ≡ head limits.edition statement′ root′ n′ t′ → SameHead statement root n t statement′ root′ n′ t′
     one-head e = same-heads [] [] (ap (λ (l : List ℕ). l ++ []) e)

@@ -72,31 +72,31 @@ module _ (x y : List ℕ) where
   passes-same : not (sameBytes x y) ≡ false → x ≡ y
   passes-same e = tells-bytes .equal x y (not-false (sameBytes x y) e)
 
-module _ (statement : List ℕ) (n leaf : ℕ) (root bytes : List ℕ) where
-  leaf-passes : LeafRight (stampRule statement) n leaf (givenBy bytes) → leafWrong (stampRule statement) n leaf bytes ≡ false
+module _ (edition : ℕ) (statement : List ℕ) (n leaf : ℕ) (root bytes : List ℕ) where
+  leaf-passes : LeafRight (stampRule edition n statement) n leaf (givenBy bytes) → leafWrong (stampRule edition n statement) n leaf bytes ≡ false
   leaf-passes = same-passes _ _
 
-  root-passes : RootRight (stampRule statement) n leaf (givenBy bytes) root → rootWrong (stampRule statement) n leaf bytes root ≡ false
+  root-passes : RootRight (stampRule edition n statement) n leaf (givenBy bytes) root → rootWrong (stampRule edition n statement) n leaf bytes root ≡ false
   root-passes = same-passes _ _
 
   passes-right :
-      leafWrong (stampRule statement) n leaf bytes ≡ false → rootWrong (stampRule statement) n leaf bytes root ≡ false
-      → OpeningRight statement n leaf root bytes
+      leafWrong (stampRule edition n statement) n leaf bytes ≡ false → rootWrong (stampRule edition n statement) n leaf bytes root ≡ false
+      → OpeningRight edition statement n leaf root bytes
   passes-right a b = record { leafRight = passes-same _ _ a; rootRight = passes-same _ _ b }
 
-  pub right-done : OpeningRight statement n leaf root bytes → rightRow statement n leaf root bytes ≡ 0
+  pub right-done : OpeningRight edition statement n leaf root bytes → rightRow edition statement n leaf root bytes ≡ 0
   unfolding rightRow
   right-done right = rw (leaf-passes (right .leafRight), root-passes (right .rootRight))
 
-  pub done-right : rightRow statement n leaf root bytes ≡ 0 → OpeningRight statement n leaf root bytes
+  pub done-right : rightRow edition statement n leaf root bytes ≡ 0 → OpeningRight edition statement n leaf root bytes
   unfolding rightRow
   done-right e =
       let row : List (Bool × ℕ) =
-      (leafWrong (stampRule statement) n leaf bytes, 14) ∷ (rootWrong (stampRule statement) n leaf bytes root, 15) ∷ [] in
+      (leafWrong (stampRule edition n statement) n leaf bytes, 14) ∷ (rootWrong (stampRule edition n statement) n leaf bytes root, 15) ∷ [] in
       let none : NoneHolds row = none-holds row refl e in
       passes-right (none .0) (none .1 .0)
 
-  pub opening-done : RightAlone statement n leaf root bytes → openingRow statement n leaf root bytes ≡ 0
+  pub opening-done : RightAlone edition statement n leaf root bytes → openingRow edition statement n leaf root bytes ≡ 0
   unfolding openingRow
   opening-done alone =
       rw (
@@ -108,7 +108,7 @@ module _ (statement : List ℕ) (n leaf : ℕ) (root bytes : List ℕ) where
         root-passes (alone .right .rootRight),
       )
 
-  pub done-opening : openingRow statement n leaf root bytes ≡ 0 → RightAlone statement n leaf root bytes
+  pub done-opening : openingRow edition statement n leaf root bytes ≡ 0 → RightAlone edition statement n leaf root bytes
   unfolding openingRow
   done-opening e =
       let row : List (Bool × ℕ) =
@@ -116,8 +116,8 @@ module _ (statement : List ℕ) (n leaf : ℕ) (root bytes : List ℕ) where
       ∷ (leb (2 ^ n) leaf, 6)
       ∷ (ltb (length bytes) (openingSize n), 10)
       ∷ (ltb (openingSize n) (length bytes), 13)
-      ∷ (leafWrong (stampRule statement) n leaf bytes, 14)
-      ∷ (rootWrong (stampRule statement) n leaf bytes root, 15)
+      ∷ (leafWrong (stampRule edition n statement) n leaf bytes, 14)
+      ∷ (rootWrong (stampRule edition n statement) n leaf bytes root, 15)
       ∷ [] in
       let none : NoneHolds row = none-holds row refl e in
       let enough : openingSize n ≤ length bytes = ltb-false (length bytes) (openingSize n) (none .1 .1 .0) in

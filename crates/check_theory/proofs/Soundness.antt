@@ -9,7 +9,8 @@ use lib.ListN.{length, drop, getD, length-append, length-drop, take-append-drop}
 use lib.Seq.{drop-drop, length-take-le}
 use borrow.Author.Tests.{ltb-false, eqb-true, not-false}
 use Rattle.base.specs.Choice.{both}
-use Rattle.base.specs.Limits.{maxDepth, maxChallenges, edition}
+use Rattle.base.specs.Limits.{maxDepth, maxChallenges}
+use Rattle.base.specs.Limits as limits
 use Rattle.base.specs.Lists.{EachOf, sameBytes}
 use Rattle.base.proofs.ChoiceLaws.{both-first, both-second}
 use Rattle.base.proofs.ListsLaws.{tells-bytes}
@@ -32,10 +33,10 @@ use Rattle.check_theory.proofs.Openings.{rowOf, accepted-rows}
 
 -- ---- the head
 numbers-of :
-    (bytes : List ℕ) (n t a b c : ℕ) → IsDepth n → IsCount t
-    → Shortest bytes 0 numberGroups edition a → Shortest bytes a numberGroups n b → Shortest bytes b numberGroups t c → NumbersRead bytes n t c
+    (edition : ℕ) (bytes : List ℕ) (n t a b c : ℕ) → IsDepth n → IsCount t
+    → Shortest bytes 0 numberGroups edition a → Shortest bytes a numberGroups n b → Shortest bytes b numberGroups t c → NumbersRead edition bytes n t c
 unfolding headNumbers
-numbers-of bytes n t a b c depth count s₁ s₂ s₃ =
+numbers-of edition bytes n t a b c depth count s₁ s₂ s₃ =
     record {
       depth = depth;
       count = count;
@@ -46,21 +47,21 @@ numbers-of bytes n t a b c depth count s₁ s₂ s₃ =
           ∙ ap (λ (l : List ℕ). groups numberGroups edition ++ l) (s₂ .form ∙ ap (λ (l : List ℕ). groups numberGroups n ++ l) (s₃ .form)));
     }
 
-same-read : (bytes : List ℕ) (n t at n′ t′ at′ : ℕ) → n ≡ n′ → t ≡ t′ → at ≡ at′ → NumbersRead bytes n t at → NumbersRead bytes n′ t′ at′
-same-read bytes n t at n′ t′ at′ p q r read = rw (p, q, r) at read
+same-read : (edition : ℕ) (bytes : List ℕ) (n t at n′ t′ at′ : ℕ) → n ≡ n′ → t ≡ t′ → at ≡ at′ → NumbersRead edition bytes n t at → NumbersRead edition bytes n′ t′ at′
+same-read edition bytes n t at n′ t′ at′ p q r read = rw (p, q, r) at read
 
 -- what is read as a head's numbers is their shortest form
 pub numbers-read :
-    (bytes : List ℕ) (n t at : ℕ) → ((j : ℕ) → getD bytes j 0 < 256) → headOf bytes ≡ numbers n t at → NumbersRead bytes n t at
+    (bytes : List ℕ) (n t at : ℕ) → ((j : ℕ) → getD bytes j 0 < 256) → headOf bytes ≡ numbers n t at → NumbersRead limits.edition bytes n t at
 unfolding headOf
 numbers-read bytes n t at small e =
-    let p₁ = passed (readAt bytes 0 numberGroups) (λ e. not (eqb e edition)) 12 _ n t at e in
+    let p₁ = passed (readAt bytes 0 numberGroups) (λ e. not (eqb e limits.edition)) 12 _ n t at e in
     let p₂ = passed (readAt bytes (p₁ .end) numberGroups) (outside 1 maxDepth) 1 _ n t at (p₁ .after) in
     let p₃ = passed (readAt bytes (p₂ .end) numberGroups) (outside 1 maxChallenges) 8 _ n t at (p₂ .after) in
-    let one : p₁ .x ≡ edition = eqb-true (p₁ .x) edition (not-false (eqb (p₁ .x) edition) (p₁ .good)) in
+    let one : p₁ .x ≡ limits.edition = eqb-true (p₁ .x) limits.edition (not-false (eqb (p₁ .x) limits.edition) (p₁ .good)) in
     let last = p₃ .after in
-    same-read bytes (p₂ .x) (p₃ .x) (p₃ .end) n t at (cc) (cc) (cc)
-    (numbers-of bytes (p₂ .x) (p₃ .x) (p₁ .end) (p₂ .end) (p₃ .end)
+    same-read limits.edition bytes (p₂ .x) (p₃ .x) (p₃ .end) n t at (cc) (cc) (cc)
+    (numbers-of limits.edition bytes (p₂ .x) (p₃ .x) (p₁ .end) (p₂ .end) (p₃ .end)
     (bounds 1 maxDepth (p₂ .x) (p₂ .good))
     (bounds 1 maxChallenges (p₃ .x) (p₃ .good))
     (rw one at (only-shortest bytes 0 numberGroups (p₁ .x) (p₁ .end) small (p₁ .read)))
@@ -69,7 +70,7 @@ numbers-read bytes n t at small e =
 
 -- ---- the openings
 -- bytes of a file's length behind a head's numbers are a file
-module _ (bytes : List ℕ) (n t at : ℕ) (read : NumbersRead bytes n t at) (size : length bytes ≡ lengthFrom n t at) where
+module _ (edition : ℕ) (bytes : List ℕ) (n t at : ℕ) (read : NumbersRead edition bytes n t at) (size : length bytes ≡ lengthFrom n t at) where
   openingsIn : List (List ℕ)
   openingsIn = cut (openingSize n) t (drop (at + 64) bytes)
 
@@ -83,11 +84,11 @@ module _ (bytes : List ℕ) (n t at : ℕ) (read : NumbersRead bytes n t at) (si
       sym (take-append-drop 32 (drop (at + 32) bytes)) ∙ ap (λ (l : List ℕ). rootAt bytes at ++ l) (drop-drop 32 (at + 32) bytes ∙ rw all) in
       sym (take-append-drop 32 (drop at bytes)) ∙ ap (λ (l : List ℕ). statementAt bytes at ++ l) (drop-drop 32 at bytes ∙ root)
 
-  file-of : bytes ≡ file (statementAt bytes at) (rootAt bytes at) n t openingsIn
+  file-of : bytes ≡ file edition (statementAt bytes at) (rootAt bytes at) n t openingsIn
   unfolding file head openingsIn
   file-of =
       read .form
-      ∙ ap (λ (l : List ℕ). headNumbers n t ++ l) split-head
+      ∙ ap (λ (l : List ℕ). headNumbers edition n t ++ l) split-head
       ∙ rw (joined-cut (openingSize n) t (drop (at + 64) bytes) behind-size) (simp append-assoc)
 
   statement-size : length (statementAt bytes at) ≡ 32
@@ -107,19 +108,19 @@ module _ (bytes : List ℕ) (n t at : ℕ) (read : NumbersRead bytes n t at) (si
   opening-at : (i : ℕ) → 1 ≤ i → i ≤ t → openingAt bytes n at i ≡ nth openingsIn i
   opening-at i positive small =
       let there =
-      opening-back (statementAt bytes at) (rootAt bytes at) n t statement-size root-size openingsIn opening-count
+      opening-back edition (statementAt bytes at) (rootAt bytes at) n t statement-size root-size openingsIn opening-count
       opening-sizes i positive small in
       rw (← file-of, ← read .ends) at there
 
   right-at :
-      (i : ℕ) → 1 ≤ i → i ≤ t → rowOf bytes n at i ≡ 0
-      → OpeningRight (statementAt bytes at) n (challengeLeaf n (statementAt bytes at) (rootAt bytes at) i) (rootAt bytes at) (nth openingsIn i)
+      (i : ℕ) → 1 ≤ i → i ≤ t → rowOf edition bytes n at i ≡ 0
+      → OpeningRight edition (statementAt bytes at) n (challengeLeaf edition n (statementAt bytes at) (rootAt bytes at) i) (rootAt bytes at) (nth openingsIn i)
   right-at i positive small e =
       rw (← opening-at i positive small)
-      (done-right (statementAt bytes at) n (challengeLeaf n (statementAt bytes at) (rootAt bytes at) i) (rootAt bytes at) (openingAt bytes n at i) e)
+      (done-right edition (statementAt bytes at) n (challengeLeaf edition n (statementAt bytes at) (rootAt bytes at) i) (rootAt bytes at) (openingAt bytes n at i) e)
 
   -- and if its openings pass, a proof of the statement in it
-  proof-of : openingsFrom bytes n at 1 t ≡ 0 → IsProof bytes (statementAt bytes at) n t
+  proof-of : openingsFrom edition bytes n at 1 t ≡ 0 → IsProof edition bytes (statementAt bytes at) n t
   proof-of e =
       record {
         depth = read .depth;
@@ -131,7 +132,7 @@ module _ (bytes : List ℕ) (n t at : ℕ) (read : NumbersRead bytes n t at) (si
         openingCount = opening-count;
         openingSizes = opening-sizes;
         isFile = file-of;
-        allRight = λ i positive small. right-at i positive small (accepted-rows bytes n at 1 t e i positive (omega arith));
+        allRight = λ i positive small. right-at i positive small (accepted-rows edition bytes n at 1 t e i positive (omega arith));
       }
 
 -- ---- the file
@@ -140,7 +141,7 @@ not-accepted number some e = omega arith
 
 module _ (bytes statement : List ℕ) (n t : ℕ) (small : (j : ℕ) → getD bytes j 0 < 256) where
   from-numbers :
-      (n′ t′ at : ℕ) → headOf bytes ≡ numbers n′ t′ at → fileRest bytes statement n t (numbers n′ t′ at) ≡ 0 → IsProof bytes statement n t
+      (n′ t′ at : ℕ) → headOf bytes ≡ numbers n′ t′ at → fileRest bytes statement n t (numbers n′ t′ at) ≡ 0 → IsProof limits.edition bytes statement n t
   from-numbers n′ t′ at h e =
       let p₁ = second-picked (ltb (length bytes) (lengthFrom n′ t′ at)) (foundIn 0 10) _ 0 (not-accepted 10 (omega arith)) e in
       let p₂ = second-picked (ltb (lengthFrom n′ t′ at) (length bytes)) (foundIn 0 13) _ 0 (not-accepted 13 (omega arith)) (p₁ .1) in
@@ -149,9 +150,9 @@ module _ (bytes statement : List ℕ) (n t : ℕ) (small : (j : ℕ) → getD by
       let no-more : length bytes ≤ lengthFrom n′ t′ at = ltb-false (lengthFrom n′ t′ at) (length bytes) (p₂ .0) in
       let w : wanted (statementAt bytes at) n′ t′ statement n t ≡ true = not-false (wanted (statementAt bytes at) n′ t′ statement n t) (p₃ .0) in
       as-wanted (statementAt bytes at) n′ t′ w
-      (proof-of bytes n′ t′ at (numbers-read bytes n′ t′ at small h) (omega arith) (p₃ .1))
+      (proof-of limits.edition bytes n′ t′ at (numbers-read bytes n′ t′ at small h) (omega arith) (p₃ .1))
     where
-      as-wanted : (s : List ℕ) (n′ t′ : ℕ) → wanted s n′ t′ statement n t ≡ true → IsProof bytes s n′ t′ → IsProof bytes statement n t
+      as-wanted : (s : List ℕ) (n′ t′ : ℕ) → wanted s n′ t′ statement n t ≡ true → IsProof limits.edition bytes s n′ t′ → IsProof limits.edition bytes statement n t
       as-wanted s n′ t′ w p =
           let same : sameBytes s statement ≡ true = both-first (sameBytes s statement) (both (eqb n′ n) (eqb t′ t)) w in
           let numbers : both (eqb n′ n) (eqb t′ t) ≡ true = both-second (sameBytes s statement) (both (eqb n′ n) (eqb t′ t)) w in
@@ -160,11 +161,11 @@ module _ (bytes statement : List ℕ) (n t : ℕ) (small : (j : ℕ) → getD by
           let e₃ : t′ ≡ t = eqb-true t′ t (both-second (eqb n′ n) (eqb t′ t) numbers) in
           rw (e₁, e₂, e₃) at p
 
-  from-head : (h : HeadAnswer) → headOf bytes ≡ h → fileRest bytes statement n t h ≡ 0 → IsProof bytes statement n t
+  from-head : (h : HeadAnswer) → headOf bytes ≡ h → fileRest bytes statement n t h ≡ 0 → IsProof limits.edition bytes statement n t
   from-head (numbers n′ t′ at) h e = from-numbers n′ t′ at h e
   from-head (notRead r) h e = absurd (not-accepted r (head-number bytes r h) e)
 
   -- 'a file is accepted only if all its openings obey the paper'
-  pub accepted-proof : fileCheck bytes statement n t ≡ 0 → IsProof bytes statement n t
+  pub accepted-proof : fileCheck bytes statement n t ≡ 0 → IsProof limits.edition bytes statement n t
   unfolding fileCheck
   accepted-proof e = from-head (headOf bytes) refl e

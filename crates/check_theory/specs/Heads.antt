@@ -19,8 +19,8 @@ pub record SameHead (statement root : List ℕ) (n t : ℕ) (statement′ root�
   pub counts : t ≡ t′
 
 -- the bytes begin with the numbers of a head, which end at a place
-pub record NumbersRead (bytes : List ℕ) (n t at : ℕ) : Type 0 where
+pub record NumbersRead (edition : ℕ) (bytes : List ℕ) (n t at : ℕ) : Type 0 where
   pub depth : IsDepth n
   pub count : IsCount t
-  pub ends : at ≡ length (headNumbers n t)
-  pub form : bytes ≡ headNumbers n t ++ drop at bytes
+  pub ends : at ≡ length (headNumbers edition n t)
+  pub form : bytes ≡ headNumbers edition n t ++ drop at bytes

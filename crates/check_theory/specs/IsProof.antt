@@ -18,24 +18,24 @@ IsDepth n = (1 ≤ n) × (n ≤ maxDepth)
 abbrev pub IsCount : ℕ → Type 0
 IsCount t = (1 ≤ t) × (t ≤ maxChallenges)
 
--- an opening's bytes give labels that are right at a leaf
-abbrev pub OpeningRight : List ℕ → ℕ → ℕ → List ℕ → List ℕ → Type 0
-OpeningRight statement n leaf root bytes = Right (stampRule statement) n leaf (givenBy bytes) root
+-- an opening's bytes give labels that are right at a leaf, by an edition's rule
+abbrev pub OpeningRight : ℕ → List ℕ → ℕ → ℕ → List ℕ → List ℕ → Type 0
+OpeningRight edition statement n leaf root bytes = Right (stampRule edition n statement) n leaf (givenBy bytes) root
 
 -- an opening checked alone is accepted
-pub record RightAlone (statement : List ℕ) (n leaf : ℕ) (root bytes : List ℕ) : Type 0 where
+pub record RightAlone (edition : ℕ) (statement : List ℕ) (n leaf : ℕ) (root bytes : List ℕ) : Type 0 where
   pub depth : IsDepth n
   pub position : leaf < 2 ^ n
   pub size : length bytes ≡ openingSize n
-  pub right : OpeningRight statement n leaf root bytes
+  pub right : OpeningRight edition statement n leaf root bytes
 
 -- opening i, from 1
 abbrev pub nth : List (List ℕ) → ℕ → List ℕ
 nth openings i = getD openings (i - 1) []
 
--- A proof of depth n with t challenges for a statement: the bytes are the file over a root and t openings, of which each is
+-- A proof of an edition, of depth n with t challenges for a statement: the bytes are the file over a root and t openings, of which each is
 -- right at the leaf that its challenge picks.
-pub record IsProof (bytes statement : List ℕ) (n t : ℕ) : Type 0 where
+pub record IsProof (edition : ℕ) (bytes statement : List ℕ) (n t : ℕ) : Type 0 where
   pub depth : IsDepth n
   pub count : IsCount t
   pub root : List ℕ
@@ -44,5 +44,7 @@ pub record IsProof (bytes statement : List ℕ) (n t : ℕ) : Type 0 where
   pub rootSize : length root ≡ 32
   pub openingCount : length openings ≡ t
   pub openingSizes : EachOf (openingSize n) openings
-  pub isFile : bytes ≡ file statement root n t openings
-  pub allRight : (i : ℕ) → 1 ≤ i → i ≤ t → OpeningRight statement n (challengeLeaf n statement root i) root (nth openings i)
+  pub isFile : bytes ≡ file edition statement root n t openings
+  pub allRight :
+      (i : ℕ) → 1 ≤ i → i ≤ t
+      → OpeningRight edition statement n (challengeLeaf edition n statement root i) root (nth openings i)

@@ -9,22 +9,22 @@ use Rattle.label.specs.Rule.{stampRule}
 use Rattle.proof_file.specs.Challenge.{challengeLeaf}
 use Rattle.proof_file.specs.Layout.{file}
 
--- the root's label
-abbrev pub rootOf : List ℕ → ℕ → Label
-rootOf statement n = label (stampRule statement) n root
+-- the root's label, in an edition's tree
+abbrev pub rootOf : ℕ → List ℕ → ℕ → Label
+rootOf edition statement n = label (stampRule edition n statement) n root
 
 -- a leaf's opening, as bytes
-abbrev pub openingOf : List ℕ → ℕ → ℕ → List ℕ
-openingOf statement n leaf = joined (map (label (stampRule statement) n) (openingNodes n leaf))
+abbrev pub openingOf : ℕ → List ℕ → ℕ → ℕ → List ℕ
+openingOf edition statement n leaf = joined (map (label (stampRule edition n statement) n) (openingNodes n leaf))
 
 -- the opening of challenge i, from 1
-abbrev pub challengedOpening : List ℕ → ℕ → ℕ → List ℕ
-challengedOpening statement n i = openingOf statement n (challengeLeaf n statement (rootOf statement n) i)
+abbrev pub challengedOpening : ℕ → List ℕ → ℕ → ℕ → List ℕ
+challengedOpening edition statement n i = openingOf edition statement n (challengeLeaf edition n statement (rootOf edition statement n) i)
 
 -- the openings of challenges 1 to t
-unfoldable pub treeOpenings : List ℕ → ℕ → ℕ → List (List ℕ)
-treeOpenings statement n zero = []
-treeOpenings statement n (suc t) = treeOpenings statement n t ++ challengedOpening statement n (suc t) ∷ []
+unfoldable pub treeOpenings : ℕ → List ℕ → ℕ → ℕ → List (List ℕ)
+treeOpenings edition statement n zero = []
+treeOpenings edition statement n (suc t) = treeOpenings edition statement n t ++ challengedOpening edition statement n (suc t) ∷ []
 
-unfoldable pub treeFile : List ℕ → ℕ → ℕ → List ℕ
-treeFile statement n t = file statement (rootOf statement n) n t (treeOpenings statement n t)
+unfoldable pub treeFile : ℕ → List ℕ → ℕ → ℕ → List ℕ
+treeFile edition statement n t = file edition statement (rootOf edition statement n) n t (treeOpenings edition statement n t)

@@ -75,12 +75,12 @@ module _ (n : ℕ) (leaves openings : List ℕ) (done : compareRow n leaves (len
       }
 
 -- what is compared
-pub compared-done : (statement : List ℕ) (n : ℕ) (leaves openings : List ℕ) → compareRow n leaves (length openings) ≡ 0
-    → compared statement n leaves openings ≡ firstDisagreement statement n leaves openings
+pub compared-done : (edition : ℕ) (statement : List ℕ) (n : ℕ) (leaves openings : List ℕ) → compareRow n leaves (length openings) ≡ 0
+    → compared edition statement n leaves openings ≡ firstDisagreement edition statement n leaves openings
 unfolding compared
-compared-done statement n leaves openings e = rw e
+compared-done edition statement n leaves openings e = rw e
 
-pub compared-refused : (statement : List ℕ) (n : ℕ) (leaves openings : List ℕ) → isDone (compareRow n leaves (length openings)) ≡ false
-    → compared statement n leaves openings ≡ Agree
+pub compared-refused : (edition : ℕ) (statement : List ℕ) (n : ℕ) (leaves openings : List ℕ) → isDone (compareRow n leaves (length openings)) ≡ false
+    → compared edition statement n leaves openings ≡ Agree
 unfolding compared
-compared-refused statement n leaves openings e = rw e
+compared-refused edition statement n leaves openings e = rw e

@@ -14,14 +14,14 @@ use borrow.Rule.Slice.PartMut.{putMid}
 use Rattle.base.specs.Choice.{odd}
 use Rattle.base.specs.Bytes.{joined, written}
 use Rattle.base.specs.Limits.{maxDepth, maxChallenges}
+use Rattle.base.specs.Lists.{EachOf}
 use Rattle.base.proofs.ChoiceLaws.{is-odd, is-even}
-use Rattle.base.proofs.WrittenLaws.{drop-written, written-here, written-apart}
-use Rattle.base.proofs.WrittenLaws.{written-append}
-use Rattle.sha256.specs.Digest.{digest}
+use Rattle.base.proofs.WrittenLaws.{drop-written, written-here, written-apart, written-append}
 use Rattle.tree.specs.Nodes.{Node}
-use Rattle.tree.specs.Labels.{Label, Rule, labelBy, inputHead, documentInput}
+use Rattle.tree.specs.Labels.{Label, Rule, labelBy, inLabels}
 use Rattle.tree.specs.Openings.{Given, childLabels, computed, openingSize}
 use Rattle.tree.specs.Disagreement.{childrenKnown}
+use Rattle.tree.proofs.Ordered.{labels-back}
 use Rattle.tree.proofs.Clash.{children-known}
 use Rattle.label.specs.Rule.{stampRule}
 use Rattle.opening_check.specs.OpeningCheck.{givenBy}
@@ -77,25 +77,33 @@ unfolding joined
 children-length true child beside c b = simp (length-append, c, b)
 children-length false child beside c b = simp (length-append, c, b)
 
+children-each : (b : Bool) (child beside : Label) → length child ≡ 32 → length beside ≡ 32 → EachOf 32 (childLabels b child beside)
+children-each true child beside c b = (b, (c, tt))
+children-each false child beside c b = (c, (b, tt))
+
 -- the label over the two that were written
-pub label-over : (statement row after : List ℕ) (v : Node) (at : ℕ) (b : Bool) (child beside : Label) → length child ≡ 32 → length beside ≡ 32
+pub label-over : (r : Rule) (row after : List ℕ) (v : Node) (at : ℕ) (b : Bool) (child beside : Label) → length child ≡ 32 → length beside ≡ 32
     → at + 64 ≤ length row → after ≡ written row at (joined (childLabels b child beside))
-    → digest (inputHead statement v ++ [] ++ take (at + 64 - at) (drop at after)) ≡ labelBy (stampRule statement) v (childLabels b child beside)
-unfolding documentInput
-label-over statement row after v at b child beside c s fits e =
+    → labelBy r v (inLabels (take (at + 64 - at) (drop at after))) ≡ labelBy r v (childLabels b child beside)
+label-over r row after v at b child beside c s fits e =
     let size : length (joined (childLabels b child beside)) ≡ 64 = children-length b child beside c s in
-    rw (append-nil, part-size after at 64, e, written-here row (joined (childLabels b child beside)) at (rw size fits) 64 size)
+    rw (
+      part-size after at 64,
+      e,
+      written-here row (joined (childLabels b child beside)) at (rw size fits) 64 size,
+      labels-back (childLabels b child beside) (children-each b child beside c s),
+    )
 
 -- ---- an opening's row
 pub row-more :
-    (statement bytes first row after : List ℕ) (n leaf h : ℕ) (child : Label) → h < n → n ≤ maxDepth → length bytes ≡ openingSize n
-    → length row ≡ rowSize → length child ≡ 32 → child ≡ computed (stampRule statement) n leaf (givenBy bytes) h
-    → RowOf (stampRule statement) n leaf (givenBy bytes) h first row
+    (edition : ℕ) (statement bytes first row after : List ℕ) (n leaf h : ℕ) (child : Label) → h < n → n ≤ maxDepth → length bytes ≡ openingSize n
+    → length row ≡ rowSize → length child ≡ 32 → child ≡ computed (stampRule edition n statement) n leaf (givenBy bytes) h
+    → RowOf (stampRule edition n statement) n leaf (givenBy bytes) h first row
     → after ≡ written row (64 * h) (joined (childLabels (odd (leaf / 2 ^ h)) child
     (take (32 * (h + 1) + 32 - 32 * (h + 1)) (drop (32 * (h + 1)) bytes))))
-    → RowOf (stampRule statement) n leaf (givenBy bytes) (h + 1) first after
-row-more statement bytes first row after n leaf h child small most size wide c known before e =
-    let r : Rule = stampRule statement in
+    → RowOf (stampRule edition n statement) n leaf (givenBy bytes) (h + 1) first after
+row-more edition statement bytes first row after n leaf h child small most size wide c known before e =
+    let r : Rule = stampRule edition n statement in
     let given : Given = givenBy bytes in
     let beside : List ℕ = take (32 * (h + 1) + 32 - 32 * (h + 1)) (drop (32 * (h + 1)) bytes) in
     let same : beside ≡ given (suc h) = part-size bytes (32 * (h + 1)) 32 ∙ rw (add-one h) in
@@ -124,20 +132,20 @@ pub opening-fits : (n i t : ℕ) → i < t → i * openingSize n + openingSize n
 opening-fits n i t h = rw (← suc-mul i (openingSize n)) (mul-le-mul-right {m = suc i} {n = t} (openingSize n) h)
 
 pub table-more :
-    (statement : List ℕ) (n : ℕ) (leaves openings first table row after : List ℕ) (i : ℕ) → i < maxChallenges → length table ≡ tableSize → length row ≡ rowSize
-    → TableOf statement n leaves openings i first table
-    → RowOf (stampRule statement) n (getD leaves i 0)
+    (edition : ℕ) (statement : List ℕ) (n : ℕ) (leaves openings first table row after : List ℕ) (i : ℕ) → i < maxChallenges → length table ≡ tableSize → length row ≡ rowSize
+    → TableOf edition statement n leaves openings i first table
+    → RowOf (stampRule edition n statement) n (getD leaves i 0)
     (givenBy (take (i * openingSize n + openingSize n - i * openingSize n) (drop (i * openingSize n) openings))) n
     (take (rowSize * i + rowSize - rowSize * i) (drop (rowSize * i) table)) row
     → after ≡ written table (rowSize * i) row
-    → TableOf statement n leaves openings (i + 1) first after
-table-more statement n leaves openings first table row after i small wide long before here e =
+    → TableOf edition statement n leaves openings (i + 1) first after
+table-more edition statement n leaves openings first table row after i small wide long before here e =
     record {
       rows =
           rw e
           (parts-more rowSize
           (λ (k : ℕ) (part : List ℕ).
-          RowOf (stampRule statement) n (getD leaves k 0) (givenBy (take (openingSize n) (drop (k * openingSize n) openings))) n
+          RowOf (stampRule edition n statement) n (getD leaves k 0) (givenBy (take (openingSize n) (drop (k * openingSize n) openings))) n
           (partOf rowSize first k) part)
           table row i (omega arith) long (before .rows)
           (rw (part-size openings (i * openingSize n) (openingSize n), part-size table (rowSize * i) rowSize, before .kept) at here));

@@ -1,7 +1,7 @@
 -- What the table tells: its test is the definition's, and so is the first pair; the inputs are the openings'.
 use mathlib.Core.Path.{_≡_, refl, sym, ap, _∙_}
 use mathlib.Core.Bool.{Bool, true, false, not}
-use mathlib.Core.List.{List, _++_}
+use mathlib.Core.List.{List}
 use Prim.Native.Nat.{ℕ, suc, _+_, _-_, _*_, _≤_, _<_}
 use native.Mathlib.Omega.{arith}
 use borrow.Author.Tests.{lt-ltb}
@@ -12,13 +12,15 @@ use Rattle.base.specs.Bytes.{joined, zeros}
 use Rattle.base.specs.Lists.{EachOf, sameBytes}
 use Rattle.base.proofs.BytesLaws.{joined-injective}
 use Rattle.base.proofs.ListsLaws.{tells-bytes, test-false}
-use Rattle.tree.specs.Labels.{Label, Rule, inputHead, documentInput}
+use Rattle.tree.specs.Labels.{Label, Rule, documentInput, inLabels}
 use Rattle.tree.specs.Disagreement.{Given32, wayNode, shared, childrenKnown}
+use Rattle.tree.proofs.Ordered.{labels-back}
 use Rattle.tree.proofs.Clash.{children-count, children-sized, input-children, labels-agree, labels-disagree, unshared-agrees}
 use Rattle.tree.specs.Openings.{openingSize}
 use Rattle.label.specs.Rule.{stampRule}
 use Rattle.label.proofs.RuleLaws.{stamp-hash}
 use Rattle.base.proofs.Parts.{part-length}
+use Rattle.opening_check.proofs.OneOpening.{given-labels}
 use Rattle.compare.specs.declared.Pair.{Pair}
 use Rattle.compare.specs.declared.Pair.the-variants.{Agree, Disagree}
 use Rattle.compare.specs.FirstPair.{firstPair}
@@ -37,10 +39,10 @@ part-inside size from most bytes h k =
     ∙ ap (take size) (sym (drop-append-le from (take most bytes) (drop most bytes) (omega arith)))
     ∙ ap (λ (l : List ℕ). take size (drop from l)) (take-append-drop most bytes)
 
-module _ (statement : List ℕ) (n : ℕ) (leaves openings first table : List ℕ) (sized : Sized n leaves openings) (wide : length table ≡ tableSize)
-    (full : TableOf statement n leaves openings (length leaves) first table) where
+module _ (edition : ℕ) (statement : List ℕ) (n : ℕ) (leaves openings first table : List ℕ) (sized : Sized n leaves openings) (wide : length table ≡ tableSize)
+    (full : TableOf edition statement n leaves openings (length leaves) first table) where
   abbrev r : Rule
-  r = stampRule statement
+  r = stampRule edition n statement
 
   abbrev known : ℕ → ℕ → List Label
   known i l = childrenKnown r n (leafOf leaves i) (givenOf n openings i) l
@@ -59,16 +61,16 @@ module _ (statement : List ℕ) (n : ℕ) (leaves openings first table : List �
       ∙ rw level at here
 
   given-sized : (i : ℕ) → 1 ≤ i → i ≤ length leaves → Given32 n (givenOf n openings i)
-  given-sized i a b p small =
+  given-sized i a b =
       let opening : List ℕ = take (openingSize n) (drop ((i - 1) * openingSize n) openings) in
       let size : length opening ≡ openingSize n =
       part-length openings ((i - 1) * openingSize n) (openingSize n)
       (omega (arith, opening-fits n (i - 1) (length leaves) (omega arith), sized .whole)) in
-      part-length opening (32 * p) 32 (omega arith)
+      given-labels n opening (omega arith)
 
   known-sized : (i l : ℕ) → 1 ≤ i → i ≤ length leaves → l < n → EachOf 32 (known i l)
   known-sized i l a b h =
-      children-sized r n (leafOf leaves i) (givenOf n openings i) (stamp-hash statement) (given-sized i a b) l h
+      children-sized r n (leafOf leaves i) (givenOf n openings i) (stamp-hash edition n statement) (given-sized i a b) l h
 
   module _ (i j l : ℕ) (a : 1 ≤ i) (b : i ≤ length leaves) (c : 1 ≤ j) (d : j ≤ length leaves) (h : l < n) where
     cells-same : sameBytes (cell n table i l) (cell n table j l) ≡ true → known i l ≡ known j l
@@ -101,7 +103,7 @@ module _ (statement : List ℕ) (n : ℕ) (leaves openings first table : List �
         rw (lt-ltb l n h, e)
         (sym (unshared-agrees r n (leafOf leaves i) (givenOf n openings i) (leafOf leaves j) (givenOf n openings j) l e))
 
-  pub pair-known : firstPair (tableDisagreement n leaves table) n (length leaves) ≡ firstDisagreement statement n leaves openings
+  pub pair-known : firstPair (tableDisagreement n leaves table) n (length leaves) ≡ firstDisagreement edition statement n leaves openings
   unfolding firstDisagreement
   pair-known =
       pair-same
@@ -113,29 +115,28 @@ module _ (statement : List ℕ) (n : ℕ) (leaves openings first table : List �
       by-shared i j l a (omega arith) (omega arith) c h (shared n (leafOf leaves i) (leafOf leaves j) l) refl)
 
   pub input-known : (i l : ℕ) → 1 ≤ i → i ≤ length leaves → l < n
-      → inputHead statement (wayNode n (leafOf leaves i) l) ++ cell n table i l ≡ inputOf statement n leaves openings i l
-  unfolding documentInput
+      → documentInput edition n statement (wayNode n (leafOf leaves i) l) (inLabels (cell n table i l)) ≡ inputOf edition statement n leaves openings i l
   input-known i l a b h =
-      rw (cell-known i l a b h) (sym (input-children r n (leafOf leaves i) (givenOf n openings i) l h))
+      rw (cell-known i l a b h, labels-back (known i l) (known-sized i l a b h)) (sym (input-children r n (leafOf leaves i) (givenOf n openings i) l h))
 
   -- what is answered when the table shows no pair, and when it shows one
   abbrev pub Answers : Pair → List ℕ → List ℕ → Type 0
   Answers pair first second =
-      (pair ≡ firstDisagreement statement n leaves openings)
-      × ((first ≡ firstInput statement n leaves openings (firstDisagreement statement n leaves openings))
-      × (second ≡ secondInput statement n leaves openings (firstDisagreement statement n leaves openings)))
+      (pair ≡ firstDisagreement edition statement n leaves openings)
+      × ((first ≡ firstInput edition statement n leaves openings (firstDisagreement edition statement n leaves openings))
+      × (second ≡ secondInput edition statement n leaves openings (firstDisagreement edition statement n leaves openings)))
 
   pub agree-answers : firstPair (tableDisagreement n leaves table) n (length leaves) ≡ Agree → Answers Agree (zeros 105) (zeros 105)
   agree-answers p =
-      let e : firstDisagreement statement n leaves openings ≡ Agree = sym pair-known ∙ p in
+      let e : firstDisagreement edition statement n leaves openings ≡ Agree = sym pair-known ∙ p in
       (sym e, (rw e, rw e))
 
   pub disagree-answers : (i j l : ℕ) (first second : List ℕ) → firstPair (tableDisagreement n leaves table) n (length leaves) ≡ Disagree i j l
-      → first ≡ inputHead statement (wayNode n (leafOf leaves i) l) ++ cell n table i l
-      → second ≡ inputHead statement (wayNode n (leafOf leaves j) l) ++ cell n table j l
+      → first ≡ documentInput edition n statement (wayNode n (leafOf leaves i) l) (inLabels (cell n table i l))
+      → second ≡ documentInput edition n statement (wayNode n (leafOf leaves j) l) (inLabels (cell n table j l))
       → Answers (Disagree i j l) first second
   disagree-answers i j l first second p f g =
-      let e : firstDisagreement statement n leaves openings ≡ Disagree i j l = sym pair-known ∙ p in
+      let e : firstDisagreement edition statement n leaves openings ≡ Disagree i j l = sym pair-known ∙ p in
       let lies = pair-lies (tableDisagreement n leaves table) i j l n (length leaves) p in (
         sym e,
         (

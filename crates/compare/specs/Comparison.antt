@@ -31,22 +31,23 @@ abbrev pub disagreement : Rule → ℕ → List ℕ → List ℕ → ℕ → ℕ
 disagreement r n leaves openings i j l =
     disagreeAt r n (leafOf leaves i) (givenOf n openings i) (leafOf leaves j) (givenOf n openings j) l
 
-unfoldable pub firstDisagreement : List ℕ → ℕ → List ℕ → List ℕ → Pair
-firstDisagreement statement n leaves openings = firstPair (disagreement (stampRule statement) n leaves openings) n (length leaves)
+-- by an edition's rule
+unfoldable pub firstDisagreement : ℕ → List ℕ → ℕ → List ℕ → List ℕ → Pair
+firstDisagreement edition statement n leaves openings = firstPair (disagreement (stampRule edition n statement) n leaves openings) n (length leaves)
 
 -- the hash input of opening i at the node of level l on its way
-abbrev pub inputOf : List ℕ → ℕ → List ℕ → List ℕ → ℕ → ℕ → List ℕ
-inputOf statement n leaves openings i l =
-    inputAt (stampRule statement) n (leafOf leaves i) (givenOf n openings i) (wayNode n (leafOf leaves i) l)
+abbrev pub inputOf : ℕ → List ℕ → ℕ → List ℕ → List ℕ → ℕ → ℕ → List ℕ
+inputOf edition statement n leaves openings i l =
+    inputAt (stampRule edition n statement) n (leafOf leaves i) (givenOf n openings i) (wayNode n (leafOf leaves i) l)
 
 -- 'both 105-byte inputs'
-abbrev pub firstInput : List ℕ → ℕ → List ℕ → List ℕ → Pair → List ℕ
-firstInput statement n leaves openings Agree = zeros 105
-firstInput statement n leaves openings (Disagree i j l) = inputOf statement n leaves openings i l
+abbrev pub firstInput : ℕ → List ℕ → ℕ → List ℕ → List ℕ → Pair → List ℕ
+firstInput edition statement n leaves openings Agree = zeros 105
+firstInput edition statement n leaves openings (Disagree i j l) = inputOf edition statement n leaves openings i l
 
-abbrev pub secondInput : List ℕ → ℕ → List ℕ → List ℕ → Pair → List ℕ
-secondInput statement n leaves openings Agree = zeros 105
-secondInput statement n leaves openings (Disagree i j l) = inputOf statement n leaves openings j l
+abbrev pub secondInput : ℕ → List ℕ → ℕ → List ℕ → List ℕ → Pair → List ℕ
+secondInput edition statement n leaves openings Agree = zeros 105
+secondInput edition statement n leaves openings (Disagree i j l) = inputOf edition statement n leaves openings j l
 
 -- The comparison's checks, of which document 01 has no row: those of planning (1, 8, 6), then 10: bytes too few; 13: too many.
 unfoldable pub compareRow : ℕ → List ℕ → ℕ → ℕ
@@ -61,6 +62,6 @@ compareRow n leaves size =
     )
 
 -- what is answered: no pair where it is refused
-unfoldable pub compared : List ℕ → ℕ → List ℕ → List ℕ → Pair
-compared statement n leaves openings =
-    pick (isDone (compareRow n leaves (length openings))) (firstDisagreement statement n leaves openings) Agree
+unfoldable pub compared : ℕ → List ℕ → ℕ → List ℕ → List ℕ → Pair
+compared edition statement n leaves openings =
+    pick (isDone (compareRow n leaves (length openings))) (firstDisagreement edition statement n leaves openings) Agree

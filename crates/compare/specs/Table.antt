@@ -40,11 +40,11 @@ pub record RowOf (r : Rule) (n leaf : ℕ) (given : Given) (k : ℕ) (before row
   pub kept : drop (64 * k) row ≡ drop (64 * k) before
 
 -- the table, of which the rows of k openings are filled, and behind them what stood there before
-pub record TableOf (statement : List ℕ) (n : ℕ) (leaves openings : List ℕ) (k : ℕ) (before table : List ℕ) : Type 0 where
+pub record TableOf (edition : ℕ) (statement : List ℕ) (n : ℕ) (leaves openings : List ℕ) (k : ℕ) (before table : List ℕ) : Type 0 where
   pub rows :
       (i : ℕ) → i < k →
       RowOf
-      (stampRule statement)
+      (stampRule edition n statement)
       n
       (getD leaves i 0)
       (givenBy (take (openingSize n) (drop (i * openingSize n) openings)))

@@ -48,25 +48,36 @@ fn put_children(row: &mut [u8], at: usize, position: u64, child: [u8; 32], besid
 fn fill_node(
     row: &mut [u8],
     at: usize,
+    edition: u64,
+    n: u64,
     statement: [u8; 32],
     level: u64,
     position: u64,
     child: [u8; 32],
     beside: &[u8],
 ) -> [u8; 32]
-    requires { ⌜ (level < 256) × (at + 64 ≤ length (now row)) × (length (now beside) ≡ 32) ⌝ }
+    requires { ⌜ (level ≤ n) × (n ≤ maxDepth) × (at + 64 ≤ length (now row)) × (length (now beside) ≡ 32) ⌝ }
     ensures { λ r. ⌜ now (row .exit) ≡ written (now (row .entry)) at (joined (childLabels (odd position) child (now (beside .entry)))) ⌝ }
-    ensures { λ r. ⌜ r ≡ labelBy (stampRule statement) (node level (position / 2)) (childLabels (odd position) child (now (beside .entry))) ⌝ }
+    ensures { λ r. ⌜ r ≡ labelBy (stampRule edition n statement) (node level (position / 2)) (childLabels (odd position) child (now (beside .entry))) ⌝ }
 {
     put_children(row, at, position, child, beside);
     let end = at + 64;
-    label(statement, level, position / 2, 2, b"", &row[at..end])
+    label(
+        edition,
+        n,
+        statement,
+        level,
+        position / 2,
+        2,
+        b"",
+        &row[at..end],
+    )
 }
 
 // Fills an opening's row, walking its way upward once. What lies behind the way's nodes stays.
-fn fill_row(row: &mut [u8], statement: [u8; 32], n: u64, leaf: u64, bytes: &[u8])
+fn fill_row(row: &mut [u8], edition: u64, statement: [u8; 32], n: u64, leaf: u64, bytes: &[u8])
     requires { ⌜ (n ≤ maxDepth) × (length (now bytes) ≡ openingSize n) × (length (now row) ≡ rowSize) ⌝ }
-    ensures { λ _. ⌜ RowOf (stampRule statement) n leaf (givenBy (now (bytes .entry))) n (now (row .entry)) (now (row .exit)) ⌝ }
+    ensures { λ _. ⌜ RowOf (stampRule edition n statement) n leaf (givenBy (now (bytes .entry))) n (now (row .entry)) (now (row .exit)) ⌝ }
 {
     let mut child = label_at(bytes, 0);
     let mut height: u64 = 0;
@@ -76,6 +87,8 @@ fn fill_row(row: &mut [u8], statement: [u8; 32], n: u64, leaf: u64, bytes: &[u8]
         let above = fill_node(
             row,
             64 * height as usize,
+            edition,
+            n,
             statement,
             n - (height + 1),
             leaf >> height,
@@ -88,9 +101,16 @@ fn fill_row(row: &mut [u8], statement: [u8; 32], n: u64, leaf: u64, bytes: &[u8]
 }
 
 // Fills the rows of all openings. What lies behind them stays.
-pub fn fill_table(table: &mut [u8], statement: [u8; 32], n: u64, leaves: &[u64], openings: &[u8])
+pub fn fill_table(
+    table: &mut [u8],
+    edition: u64,
+    statement: [u8; 32],
+    n: u64,
+    leaves: &[u64],
+    openings: &[u8],
+)
     requires { ⌜ Sized n (now leaves) (now openings) × (length (now table) ≡ tableSize) ⌝ }
-    ensures { λ _. ⌜ TableOf statement n (now (leaves .entry)) (now (openings .entry)) (length (now (leaves .entry))) (now (table .entry)) (now (table .exit)) ⌝ }
+    ensures { λ _. ⌜ TableOf edition statement n (now (leaves .entry)) (now (openings .entry)) (length (now (leaves .entry))) (now (table .entry)) (now (table .exit)) ⌝ }
 {
     let size = 32 * (n + 1) as usize;
     let mut i: usize = 0;
@@ -101,6 +121,7 @@ pub fn fill_table(table: &mut [u8], statement: [u8; 32], n: u64, leaves: &[u64],
         let to = from + size;
         fill_row(
             &mut table[at..end],
+            edition,
             statement,
             n,
             leaves[i],

@@ -1,6 +1,7 @@
 // The comparison: the checks, then the table, then the first pair.
 ghost use mathlib.Core.Path.{_≡_};
 ghost use lib.ListN.{length};
+ghost use Rattle.base.specs.Limits.{edition};
 ghost use Rattle.refusal.specs.Number.{outcomeNumber};
 ghost use Rattle.compare.specs.Comparison.{compareRow, compared, firstDisagreement, firstInput, secondInput};
 use crate::Compared;
@@ -9,6 +10,7 @@ use crate::inputs::input_at;
 use crate::pairs::first_pair;
 use crate::table::empty_table;
 use crate::table::fill_table;
+use base::EDITION;
 use chain::check_leaves;
 use refusal::Outcome;
 use refusal::Refusal;
@@ -33,15 +35,21 @@ fn check(depth: u64, leaves: &[u64], size: usize) -> Outcome
 }
 
 // The comparison of openings that passed the checks.
-fn compare_all(statement: [u8; 32], depth: u64, leaves: &[u64], openings: &[u8]) -> Compared
+fn compare_all(
+    edition: u64,
+    statement: [u8; 32],
+    depth: u64,
+    leaves: &[u64],
+    openings: &[u8],
+) -> Compared
     requires { ⌜ compareRow depth (now leaves) (length (now openings)) ≡ 0 ⌝ }
     ensures { λ r. ⌜ outcomeNumber (r .outcome) ≡ 0 ⌝ }
-    ensures { λ r. ⌜ r .pair ≡ firstDisagreement statement depth (now (leaves .entry)) (now (openings .entry)) ⌝ }
-    ensures { λ r. ⌜ r .first ≡ firstInput statement depth (now (leaves .entry)) (now (openings .entry)) (firstDisagreement statement depth (now (leaves .entry)) (now (openings .entry))) ⌝ }
-    ensures { λ r. ⌜ r .second ≡ secondInput statement depth (now (leaves .entry)) (now (openings .entry)) (firstDisagreement statement depth (now (leaves .entry)) (now (openings .entry))) ⌝ }
+    ensures { λ r. ⌜ r .pair ≡ firstDisagreement edition statement depth (now (leaves .entry)) (now (openings .entry)) ⌝ }
+    ensures { λ r. ⌜ r .first ≡ firstInput edition statement depth (now (leaves .entry)) (now (openings .entry)) (firstDisagreement edition statement depth (now (leaves .entry)) (now (openings .entry))) ⌝ }
+    ensures { λ r. ⌜ r .second ≡ secondInput edition statement depth (now (leaves .entry)) (now (openings .entry)) (firstDisagreement edition statement depth (now (leaves .entry)) (now (openings .entry))) ⌝ }
 {
     let mut table = empty_table();
-    fill_table(&mut table, statement, depth, leaves, openings);
+    fill_table(&mut table, edition, statement, depth, leaves, openings);
     let pair = first_pair(depth, leaves, &table);
     match pair {
         Pair::Agree => {
@@ -55,8 +63,8 @@ fn compare_all(statement: [u8; 32], depth: u64, leaves: &[u64], openings: &[u8])
             }
         }
         Pair::Disagree(i, j, level) => {
-            let first = input_at(statement, depth, leaves, &table, i, level);
-            let second = input_at(statement, depth, leaves, &table, j, level);
+            let first = input_at(edition, statement, depth, leaves, &table, i, level);
+            let second = input_at(edition, statement, depth, leaves, &table, j, level);
             Compared {
                 outcome: Outcome::Done,
                 pair: Pair::Disagree(i, j, level),
@@ -70,9 +78,9 @@ fn compare_all(statement: [u8; 32], depth: u64, leaves: &[u64], openings: &[u8])
 // Compares openings, given one after the other, with their leaves. They need not be right.
 pub fn compare(statement: [u8; 32], depth: u64, leaves: &[u64], openings: &[u8]) -> Compared
     ensures { λ r. ⌜ outcomeNumber (r .outcome) ≡ compareRow depth (now (leaves .entry)) (length (now (openings .entry))) ⌝ }
-    ensures { λ r. ⌜ r .pair ≡ compared statement depth (now (leaves .entry)) (now (openings .entry)) ⌝ }
-    ensures { λ r. ⌜ r .first ≡ firstInput statement depth (now (leaves .entry)) (now (openings .entry)) (compared statement depth (now (leaves .entry)) (now (openings .entry))) ⌝ }
-    ensures { λ r. ⌜ r .second ≡ secondInput statement depth (now (leaves .entry)) (now (openings .entry)) (compared statement depth (now (leaves .entry)) (now (openings .entry))) ⌝ }
+    ensures { λ r. ⌜ r .pair ≡ compared edition statement depth (now (leaves .entry)) (now (openings .entry)) ⌝ }
+    ensures { λ r. ⌜ r .first ≡ firstInput edition statement depth (now (leaves .entry)) (now (openings .entry)) (compared edition statement depth (now (leaves .entry)) (now (openings .entry))) ⌝ }
+    ensures { λ r. ⌜ r .second ≡ secondInput edition statement depth (now (leaves .entry)) (now (openings .entry)) (compared edition statement depth (now (leaves .entry)) (now (openings .entry))) ⌝ }
 {
     let checked = check(depth, leaves, openings.len());
     match checked {
@@ -86,6 +94,6 @@ pub fn compare(statement: [u8; 32], depth: u64, leaves: &[u64], openings: &[u8])
                 second,
             }
         }
-        Outcome::Done => compare_all(statement, depth, leaves, openings),
+        Outcome::Done => compare_all(EDITION, statement, depth, leaves, openings),
     }
 }

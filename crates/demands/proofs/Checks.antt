@@ -10,7 +10,7 @@ use lib.ListN.{length, getD}
 use borrow.Author.Tests.{leb-true, leb-false}
 use Rattle.base.specs.Choice.{pick, both, every}
 use Rattle.base.specs.Bytes.{zeros}
-use Rattle.base.specs.Limits.{maxHashed}
+use Rattle.base.specs.Limits.{maxHashed, edition}
 use Rattle.refusal.specs.Row.{outside, either, memoryOver}
 use Rattle.refusal.proofs.RowLaws.{some-refused}
 use Rattle.sha256.specs.declared.Hash.{Hash}
@@ -178,14 +178,14 @@ one-opening statement n leaf root bytes =
       number = 13;
     }
     ∷ record {
-      test = leafWrong (stampRule statement) n leaf bytes;
-      condition = LeafRight (stampRule statement) n leaf (givenBy bytes) → ⊥;
+      test = leafWrong (stampRule edition n statement) n leaf bytes;
+      condition = LeafRight (stampRule edition n statement) n leaf (givenBy bytes) → ⊥;
       decides = decides-differ _ _;
       number = 14;
     }
     ∷ record {
-      test = rootWrong (stampRule statement) n leaf bytes root;
-      condition = RootRight (stampRule statement) n leaf (givenBy bytes) root → ⊥;
+      test = rootWrong (stampRule edition n statement) n leaf bytes root;
+      condition = RootRight (stampRule edition n statement) n leaf (givenBy bytes) root → ⊥;
       decides = decides-differ _ _;
       number = 15;
     }

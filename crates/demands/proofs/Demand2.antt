@@ -6,12 +6,12 @@ use mathlib.Core.List.{List, _++_, flatten}
 use lib.ListN.{length, drop}
 use lib.Seq.{take-at, drop-at}
 use borrow.Author.Tests.{lt-leb}
-use Rattle.base.specs.Limits.{maxHashed}
+use Rattle.base.specs.Limits.{edition, maxHashed}
 use Rattle.sha256.specs.Digest.{digest}
 use Rattle.sha256.specs.Portions.{digestRow, digestAnswer}
 use Rattle.sha256.proofs.Portions.{in-portions}
 use Rattle.tree.specs.Walk.{nodesIn}
-use Rattle.tree.specs.Labels.{inputHead, documentInput}
+use Rattle.tree.specs.Labels.{ordered, tag, inputHead, documentInput}
 use Rattle.tree.proofs.Labelling.{label-labels, labelling-unique}
 use Rattle.label.specs.Rule.{stampRule}
 use Rattle.run.specs.Steps as runs
@@ -52,11 +52,11 @@ statement-is report small =
 
 -- ---- labels
 labels-are : (statement : List ℕ) (n : ℕ) → LabelsAre statement n
-unfolding documentInput inputHead
+unfolding documentInput inputHead ordered tag
 labels-are statement n =
     record {
-      equation = label-labels (stampRule statement) n;
-      only = λ labelOf meets. labelling-unique (stampRule statement) n labelOf meets;
+      equation = label-labels (stampRule edition n statement) n;
+      only = λ labelOf meets. labelling-unique (stampRule edition n statement) n labelOf meets;
     }
 
 module _ (statement : List ℕ) (n m : ℕ) (store : List ℕ) (bounds : InBounds n m (length store)) where
@@ -66,7 +66,7 @@ module _ (statement : List ℕ) (n m : ℕ) (store : List ℕ) (bounds : InBound
   run-steps : (budgets : List ℕ) → runFrom statement n m store budgets ≡ runs.steps (min (total budgets) (nodesIn n)) (atStart statement n m store)
   run-steps budgets = run-called budgets ∙ called-cut statement n m store (startable n m (length store) bounds) budgets
 
-  run-at : (budgets : List ℕ) → runFrom statement n m store budgets ≡ reachedAt statement n m store (min (total budgets) (nodesIn n))
+  run-at : (budgets : List ℕ) → runFrom statement n m store budgets ≡ reachedAt edition statement n m store (min (total budgets) (nodesIn n))
   run-at budgets = run-steps budgets ∙ run-reached statement n m store (bounds .depth .1) (min (total budgets) (nodesIn n)) (omega arith)
 
   -- a finished run
@@ -93,7 +93,7 @@ challenge-is : (n : ℕ) (statement root : List ℕ) (i : ℕ) → IsDepth n →
 unfolding challenged challengeLeaf challengeInput
 challenge-is n statement root i depth count =
     let done = challenge-done n i depth count in
-    record { leaf = rw done; inside = rw done (challengeLeaf-small n statement root i (omega (arith, depth .1))) }
+    record { leaf = rw done; inside = rw done (challengeLeaf-small edition n statement root i (omega (arith, depth .1))) }
 
 -- ---- openings
 opening-started :
@@ -103,14 +103,14 @@ opening-started statement n m leaf store out fits =
     rw (started-fits statement n m leaf (length store) (length out) fits, startedOut-fits n m leaf store out fits)
 
 module _ (statement : List ℕ) (n leaf : ℕ) (out : List ℕ) (inside : leaf < 2 ^ n) where
-  tree-opening : OpeningIs statement n leaf out (openingOf statement n leaf ++ drop (32 * (n + 1)) out)
+  tree-opening : OpeningIs statement n leaf out (openingOf edition statement n leaf ++ drop (32 * (n + 1)) out)
   tree-opening =
-      let bytes : List ℕ = openingOf statement n leaf in
-      let front = take-at bytes (drop (32 * (n + 1)) out) (32 * (n + 1)) (opening-size statement n leaf) in
+      let bytes : List ℕ = openingOf edition statement n leaf in
+      let front = take-at bytes (drop (32 * (n + 1)) out) (32 * (n + 1)) (opening-size edition statement n leaf) in
       record {
         labels = front;
-        behind = drop-at bytes (drop (32 * (n + 1)) out) (32 * (n + 1)) (opening-size statement n leaf);
-        right = rw front (opening-right statement n leaf inside);
+        behind = drop-at bytes (drop (32 * (n + 1)) out) (32 * (n + 1)) (opening-size edition statement n leaf);
+        right = rw front (opening-right edition statement n leaf inside);
       }
 
   module _ (m : ℕ) (store labelling budgets : List ℕ) (bounds : InBounds n m (length store)) (fits : 32 * (n + 1) ≤ length out) where
@@ -118,7 +118,7 @@ module _ (statement : List ℕ) (n leaf : ℕ) (out : List ℕ) (inside : leaf <
     opening-finished :
         nodesAnew n m ≤ total budgets
         → openingFrom (runs.steps (nodesIn n) (atStart statement n m store)) statement n m leaf out budgets
-        ≡ openingOf statement n leaf ++ drop (32 * (n + 1)) out
+        ≡ openingOf edition statement n leaf ++ drop (32 * (n + 1)) out
     opening-finished enough =
         let s = startable n m (length store) bounds in
         let after : List ℕ = runs.steps (nodesIn n) (atStart statement n m store) .store in
@@ -148,17 +148,17 @@ module _
       ≡ fileFrom (called (atStart statement n m store) labelling) statement n m t file budgets
   filed-called = ap (λ (s : Stamped). fileFrom s statement n m t file budgets) (run-called statement n m store bounds labelling)
 
-  filed-tree : filedFrom statement n m t store file labelling budgets ≡ treeFile statement n t ++ drop (fileSize n t) file
+  filed-tree : filedFrom statement n m t store file labelling budgets ≡ treeFile edition statement n t ++ drop (fileSize n t) file
   filed-tree =
       filed-called ∙ run-to-file statement n m store (startable n m (length store) bounds) t file size count fits labelling budgets all enough
 
   file-is : FileIs statement n t file (filedFrom statement n m t store file labelling budgets)
   unfolding treeFile
   file-is =
-      let whole : length (treeFile statement n t) ≡ fileSize n t = length-treeFile statement n t size in
+      let whole : length (treeFile edition statement n t) ≡ fileSize n t = length-treeFile edition statement n t (omega arith) size in
       record {
-        same = rw filed-tree (take-at (treeFile statement n t) (drop (fileSize n t) file) (fileSize n t) whole);
-        behind = rw filed-tree (drop-at (treeFile statement n t) (drop (fileSize n t) file) (fileSize n t) whole);
+        same = rw filed-tree (take-at (treeFile edition statement n t) (drop (fileSize n t) file) (fileSize n t) whole);
+        behind = rw filed-tree (drop-at (treeFile edition statement n t) (drop (fileSize n t) file) (fileSize n t) whole);
         accepted =
             rw filed-called
             (run-to-file-accepted statement n m store (startable n m (length store) bounds) t file size count fits labelling budgets all enough);
@@ -175,7 +175,7 @@ demand2 =
       openings =
           λ statement n m leaf store out labelling budgets bounds inside fits all enough.
           opening-is statement n leaf out inside m store labelling budgets bounds fits all enough;
-      verdict = λ statement n leaf root bytes. (done-opening statement n leaf root bytes, opening-done statement n leaf root bytes);
+      verdict = λ statement n leaf root bytes. (done-opening edition statement n leaf root bytes, opening-done edition statement n leaf root bytes);
       file =
           λ statement n m t store file labelling budgets size bounds count fits all enough.
           file-is statement n m t store file labelling budgets size bounds count fits all enough;

@@ -8,6 +8,7 @@ use mathlib.Core.List.{List, [], _∷_, _++_}
 use lib.Dec.{ltb, eqb}
 use lib.ListN.{length}
 use borrow.Author.Tests.{lt-ltb, le-ltb, lt-leb, eqb-true, eq-eqb, ne-eqb}
+use Rattle.base.specs.Limits.{edition}
 use Rattle.base.specs.Choice.{pick, both}
 use Rattle.base.specs.Lists.{sameBytes}
 use Rattle.base.proofs.ChoiceLaws.{both-first, both-second, both-false, true-false}
@@ -199,11 +200,11 @@ opened-step true b P Q i row next p q rest = inl (p .yes refl, refl)
 opened-step false true P Q i row next p q rest = inr (p .no refl, inl (q .yes refl, refl))
 opened-step false false P Q i row next p q rest = inr (p .no refl, inr (q .no refl, rest))
 
-openings-first : (bytes : List ℕ) (n at i left : ℕ) → IsFirst (fileOpenings bytes n at i left) (openingsFrom bytes n at i left)
+openings-first : (bytes : List ℕ) (n at i left : ℕ) → IsFirst (fileOpenings bytes n at i left) (openingsFrom edition bytes n at i left)
 unfolding fileOpenings openingsFrom rightRow
 openings-first bytes n at i zero = refl
 openings-first bytes n at i (suc left) =
-    opened-step _ _ _ _ i (fileOpenings bytes n at (i + 1) left) (openingsFrom bytes n at (i + 1) left)
+    opened-step _ _ _ _ i (fileOpenings bytes n at (i + 1) left) (openingsFrom edition bytes n at (i + 1) left)
     (decides-differ _ _) (decides-differ _ _) (openings-first bytes n at (i + 1) left)
 
 abbrev AsWanted : List ℕ → ℕ → ℕ → List ℕ → ℕ → ℕ → Type 0
@@ -279,7 +280,7 @@ module _ (bytes statement : List ℕ) (n t : ℕ) where
       ∷ []
       )
       (fileOpenings bytes n′ at 1 t′)
-      (openingsFrom bytes n′ at 1 t′)
+      (openingsFrom edition bytes n′ at 1 t′)
       (openings-first bytes n′ at 1 t′)
 
   pub a-file : AFile bytes statement n t

@@ -9,7 +9,7 @@ use lib.Dec.{eqb}
 use lib.ListN.{length, drop, length-drop}
 use lib.Seq.{length-take-le}
 use borrow.Author.Tests.{eqb-true}
-use Rattle.base.specs.Limits.{heldSize}
+use Rattle.base.specs.Limits.{edition, heldSize}
 use Rattle.base.specs.Choice.{pick}
 use Rattle.base.specs.Bytes.{zeros, written}
 use Rattle.base.proofs.Copying.{length-written}
@@ -48,7 +48,7 @@ length-placed n leaf out w label low high fits size =
     go false true = length-written out (32 * (n - w .level + 1)) label (omega arith)
     go false false = refl
 
-pub next-size : (statement : List ℕ) (h : ℕ) (v : Node) (aboves held : List ℕ) (k : ℕ) → length (nextLabel statement h v aboves held k) ≡ 32
+pub next-size : (statement : List ℕ) (h : ℕ) (v : Node) (aboves held : List ℕ) (k : ℕ) → length (nextLabel edition statement h v aboves held k) ≡ 32
 unfolding nextLabel
 next-size statement h v aboves held k = digest-length _
 
@@ -100,7 +100,7 @@ opening-more statement n m leaf size store k s le fits few at =
     let h : ℕ = n - m in
     let v : Node = ancestor n leaf m in
     let w : Node = nextNode h v k in
-    let label : Label = nextLabel statement h v (front n m leaf store) (at .held) k in
+    let label : Label = nextLabel edition statement h v (front n m leaf store) (at .held) k in
     let small : k + 1 < nodesIn h = anew-few n m k few in
     let lower : m < w .level = next-below h k v w small refl in
     let inside : (m ≤ w .level) × (w .level ≤ m + h) = next-level h m (leaf / 2 ^ (n - m)) k (w .level) (w .position) (omega arith) refl in

@@ -9,7 +9,7 @@ use mathlib.Core.List.{List}
 use lib.Dec.{eqb}
 use lib.ListN.{length}
 use borrow.Author.Tests.{eq-eqb, ne-eqb, lt-ltb, le-ltb}
-use Rattle.base.specs.Limits.{heldSize}
+use Rattle.base.specs.Limits.{edition, heldSize}
 use Rattle.base.specs.Bytes.{zeros, written}
 use Rattle.base.proofs.ChoiceLaws.{both-false}
 use Rattle.base.proofs.Copying.{length-written}
@@ -69,9 +69,9 @@ module _ (statement root : List ℕ) (n m t size : ℕ) (store : List ℕ) (boun
       → WritingAt statement root n m t size q 0 (begun statement root n m t store (q + 1) file)
   unfolding begun
   begun-at q file few long =
-      let leaf : ℕ = challengeLeaf n statement root (q + 1) in
+      let leaf : ℕ = challengeLeaf edition n statement root (q + 1) in
       let part : List ℕ = partOf n t (q + 1) file in
-      let inside : leaf < 2 ^ n = challengeLeaf-small n statement root (q + 1) (omega (arith, bounds .depth .1)) in
+      let inside : leaf < 2 ^ n = challengeLeaf-small edition n statement root (q + 1) (omega (arith, bounds .depth .1)) in
       let before : length part ≡ openingSize n = part-length n t q file few (omega arith) in
       let after : length (openings.copiedAll n m leaf store part) ≡ openingSize n =
       length-copied-all n m leaf store (bounds .depth .0) (omega (arith, bounds .memory)) inside (bounds .room) part (omega arith) ∙ before in
@@ -214,17 +214,17 @@ module _
   abbrev start : Written
   start = startedFile statement root n m t store file
 
-  head-fits : length (written file 0 (head statement root n t)) ≡ length file
+  head-fits : length (written file 0 (head edition statement root n t)) ≡ length file
   unfolding fileSize
-  head-fits = length-written file 0 (head statement root n t) (rw (length-head statement root n t statementSize rootSize) (omega arith))
+  head-fits = length-written file 0 (head edition statement root n t) (rw (length-head edition statement root n t statementSize rootSize (omega arith)) (omega arith))
 
   new-reached : Reached statement root n m t (length file) store bounds fits 0 (newWriting statement root n m t store file)
   unfolding newWriting
   new-reached =
       follows statement root n m t (length file) store bounds fits t 0 0 0
-      (begun statement root n m t store 1 (written file 0 (head statement root n t))) (omega (arith, count .0)) (omega arith)
+      (begun statement root n m t store 1 (written file 0 (head edition statement root n t))) (omega (arith, count .0)) (omega arith)
       (omega arith) (omega arith)
-      (begun-at statement root n m t (length file) store bounds fits 0 (written file 0 (head statement root n t)) (omega (arith, count .0)) head-fits)
+      (begun-at statement root n m t (length file) store bounds fits 0 (written file 0 (head edition statement root n t)) (omega (arith, count .0)) head-fits)
 
   start-reached : Reached statement root n m t (length file) store bounds fits 0 start
   start-reached = rw (started-done statement root n m t store file writable) new-reached

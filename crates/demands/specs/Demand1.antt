@@ -4,6 +4,7 @@ use mathlib.Core.Logic.{_⊎_}
 use Prim.Native.Nat.{ℕ, _+_, _-_, _*_, _^_, _≤_, _<_, min}
 use mathlib.Core.List.{List, _++_}
 use lib.ListN.{length, getD, drop}
+use Rattle.base.specs.Limits.{edition}
 use Rattle.base.specs.Bytes.{zeros}
 use Rattle.sha256.specs.declared.Hash.{Hash}
 use Rattle.sha256.specs.Portions.{updateRow, updateState, finishRow, finishDigest, finishState, digestRow, digestAnswer}
@@ -138,16 +139,16 @@ pub record ContinuingOpening (o : Opening) (store out : List ℕ) (budget : ℕ)
 
 pub record AChallenge (n : ℕ) (statement root : List ℕ) (i : ℕ) : Type 0 where
   pub answer : IsFirst (aChallenge n i) (challengeRow n i)
-  pub refused : 1 ≤ challengeRow n i → challenged n statement root i ≡ 0
+  pub refused : 1 ≤ challengeRow n i → challenged edition n statement root i ≡ 0
 
 pub record WritingHead (statement root : List ℕ) (n t : ℕ) (out : List ℕ) : Type 0 where
   pub answer : IsFirst (writingHead n t (length out)) (headRow n t (length out))
-  pub refused : 1 ≤ headRow n t (length out) → headWritten statement root n t out ≡ out
+  pub refused : 1 ≤ headRow n t (length out) → headWritten edition statement root n t out ≡ out
 
 -- checking lends nothing to write to
 abbrev pub OneOpening : List ℕ → ℕ → ℕ → List ℕ → List ℕ → Type 0
 OneOpening statement n leaf root bytes =
-    IsFirst (oneOpening statement n leaf root bytes) (openingRow statement n leaf root bytes)
+    IsFirst (oneOpening statement n leaf root bytes) (openingRow edition statement n leaf root bytes)
 
 -- a head's refusal, 0 if its numbers are read
 abbrev pub headNumber : HeadAnswer → ℕ
@@ -195,7 +196,7 @@ pub record PlanningProgram (input : List ℕ) : Type 0 where
 -- comparing lends nothing to write to
 pub record Comparing (statement : List ℕ) (n : ℕ) (leaves openings : List ℕ) : Type 0 where
   pub answer : IsFirst (comparing n leaves (length openings)) (compareRow n leaves (length openings))
-  pub refused : 1 ≤ compareRow n leaves (length openings) → compared statement n leaves openings ≡ Agree
+  pub refused : 1 ≤ compareRow n leaves (length openings) → compared edition statement n leaves openings ≡ Agree
 
 pub record WritingNumber (out : List ℕ) (at x : ℕ) : Type 0 where
   pub answer : IsFirst (writingNumber out at x) (putRow out at x)

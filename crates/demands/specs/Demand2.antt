@@ -4,6 +4,7 @@ use mathlib.Core.Logic.{_↔_}
 use Prim.Native.Nat.{ℕ, _+_, _-_, _*_, _/_, _^_, _≤_, _<_, min}
 use mathlib.Core.List.{List, _∷_, _++_, map, flatten}
 use lib.ListN.{length, take, drop, getD}
+use Rattle.base.specs.Limits.{edition}
 use Rattle.base.specs.Bytes.{bigEndian, joined}
 use Rattle.sha256.specs.Digest.{digest}
 use Rattle.sha256.specs.Portions.{newHash, updatedAll, AllDone, finishRow, finishDigest, digestRow, digestAnswer}
@@ -41,10 +42,10 @@ hashOf statement n labelOf v = digest (statement ++ v .level ∷ bigEndian 8 (v 
 
 -- the paper's Definition 1 as an equation, which the labels meet and nothing else
 pub record LabelsAre (statement : List ℕ) (n : ℕ) : Type 0 where
-  pub equation : (v : Node) → InTree n v → label (stampRule statement) n v ≡ hashOf statement n (label (stampRule statement) n) v
+  pub equation : (v : Node) → InTree n v → label (stampRule edition n statement) n v ≡ hashOf statement n (label (stampRule edition n statement) n) v
   pub only :
       (labelOf : Node → Label) → ((v : Node) → InTree n v → labelOf v ≡ hashOf statement n labelOf v)
-      → (v : Node) → InTree n v → labelOf v ≡ label (stampRule statement) n v
+      → (v : Node) → InTree n v → labelOf v ≡ label (stampRule edition n statement) n v
 
 -- a run and its store after calls with any budgets
 abbrev pub runFrom : List ℕ → ℕ → ℕ → List ℕ → List ℕ → Stamped
@@ -53,19 +54,19 @@ runFrom statement n m store budgets = afterCalls runs.advanced (startedRun state
 -- It has made the labels of the first k nodes in labelling order, holds those that are held, and those of levels 0 to m are stored;
 -- when all are made the store has each in its slot.
 pub record RunLabels (statement : List ℕ) (n m : ℕ) (store budgets : List ℕ) : Type 0 where
-  pub run : runFrom statement n m store budgets .run ≡ runAfter statement n m (min (total budgets) (2 ^ (n + 1) - 1))
-  pub stored : runFrom statement n m store budgets .store ≡ storeAfter statement n m (min (total budgets) (2 ^ (n + 1) - 1)) store
+  pub run : runFrom statement n m store budgets .run ≡ runAfter edition statement n m (min (total budgets) (2 ^ (n + 1) - 1))
+  pub stored : runFrom statement n m store budgets .store ≡ storeAfter edition statement n m (min (total budgets) (2 ^ (n + 1) - 1)) store
   pub slots :
       2 ^ (n + 1) - 1 ≤ total budgets → (v : Node) → InTree n v → v .level ≤ m
-      → take 32 (drop (slot v) (runFrom statement n m store budgets .store)) ≡ label (stampRule statement) n v
+      → take 32 (drop (slot v) (runFrom statement n m store budgets .store)) ≡ label (stampRule edition n statement) n v
 
 -- 'SHA-256 of the statement, then the nine ASCII bytes `challenge`, then the root, then i in 4 bytes big-endian. The first n bits of
 -- the result are the leaf's position.'
 pub record ChallengeIs (n : ℕ) (statement root : List ℕ) (i : ℕ) : Type 0 where
   pub leaf :
-      challenged n statement root i ≡
+      challenged edition n statement root i ≡
       bigEndianValue (digest (statement ++ challengeWord ++ root ++ bigEndian 4 i)) / 2 ^ (256 - n)
-  pub inside : challenged n statement root i < 2 ^ n
+  pub inside : challenged edition n statement root i < 2 ^ n
 
 -- an opening's output after calls with any budgets, over the store of a run
 abbrev pub openingFrom : Stamped → List ℕ → ℕ → ℕ → ℕ → List ℕ → List ℕ → List ℕ
@@ -74,9 +75,9 @@ openingFrom s statement n m leaf out budgets =
 
 -- 'An opening is the leaf's label, then its path's siblings from level n to level 1'; no other byte is written; it is right
 pub record OpeningIs (statement : List ℕ) (n leaf : ℕ) (out after : List ℕ) : Type 0 where
-  pub labels : take (32 * (n + 1)) after ≡ joined (map (label (stampRule statement) n) (openingNodes n leaf))
+  pub labels : take (32 * (n + 1)) after ≡ joined (map (label (stampRule edition n statement) n) (openingNodes n leaf))
   pub behind : drop (32 * (n + 1)) after ≡ drop (32 * (n + 1)) out
-  pub right : Right (stampRule statement) n leaf (givenBy (take (32 * (n + 1)) after)) (label (stampRule statement) n root)
+  pub right : Right (stampRule edition n statement) n leaf (givenBy (take (32 * (n + 1)) after)) (label (stampRule edition n statement) n root)
 
 -- ---- 'The file from a finished run and its untouched store is the same for every memory level and is accepted'
 -- the file after labelling and writing, each in calls with any budgets
@@ -85,7 +86,7 @@ filedFrom statement n m t store file labelling budgets = fileFrom (runFrom state
 
 -- the tree's root and its openings of the challenged leaves, laid out as document 01 says; no other byte is written
 pub record FileIs (statement : List ℕ) (n t : ℕ) (bytes after : List ℕ) : Type 0 where
-  pub same : take (fileSize n t) after ≡ file statement (label (stampRule statement) n root) n t (treeOpenings statement n t)
+  pub same : take (fileSize n t) after ≡ file edition statement (label (stampRule edition n statement) n root) n t (treeOpenings edition statement n t)
   pub behind : drop (fileSize n t) after ≡ drop (fileSize n t) bytes
   pub accepted : fileCheck (take (fileSize n t) after) statement n t ≡ 0
 
@@ -101,8 +102,8 @@ pub record Demand2 : Type 0 where
       → 2 ^ (n + 1) - 1 ≤ total labelling → 2 ^ (n - m + 1) - 2 ≤ total budgets
       → OpeningIs statement n leaf out (openingFrom (runFrom statement n m store labelling) statement n m leaf out budgets)
   pub verdict :
-      (statement : List ℕ) (n leaf : ℕ) (root bytes : List ℕ) → openingRow statement n leaf root bytes ≡ 0
-      ↔ RightAlone statement n leaf root bytes
+      (statement : List ℕ) (n leaf : ℕ) (root bytes : List ℕ) → openingRow edition statement n leaf root bytes ≡ 0
+      ↔ RightAlone edition statement n leaf root bytes
   pub file :
       (statement : List ℕ) (n m t : ℕ) (store file labelling budgets : List ℕ) → length statement ≡ 32
       → InBounds n m (length store) → IsCount t → fileSize n t ≤ length file
@@ -117,4 +118,4 @@ pub record Demand2 : Type 0 where
   -- 'a file is accepted only if all its openings obey the paper, and always if they do and the rest is as document 01 says'
   pub accepted :
       (bytes statement : List ℕ) (n t : ℕ) → ((j : ℕ) → getD bytes j 0 < 256)
-      → fileCheck bytes statement n t ≡ 0 ↔ IsProof bytes statement n t
+      → fileCheck bytes statement n t ≡ 0 ↔ IsProof edition bytes statement n t

@@ -5,6 +5,7 @@ use Prim.Native.Nat.{ℕ, zero, suc, _+_, _-_, _*_, _%_, _^_, _≤_, _<_, min}
 use mathlib.Core.List.{List, [], _∷_, _++_}
 use lib.Dec.{ltb}
 use lib.ListN.{length, getD, drop}
+use Rattle.base.specs.Limits.{edition}
 use Rattle.base.specs.Choice.{pick}
 use Rattle.tree.specs.Openings.{LeafRight, RootRight}
 use Rattle.label.specs.Rule.{stampRule}
@@ -85,8 +86,8 @@ oneOpening statement n leaf root bytes =
     ∷ (2 ^ n ≤ leaf, 6)
     ∷ (length bytes < 32 * (n + 1), 10)
     ∷ (32 * (n + 1) < length bytes, 13)
-    ∷ (LeafRight (stampRule statement) n leaf (givenBy bytes) → ⊥, 14)
-    ∷ (RootRight (stampRule statement) n leaf (givenBy bytes) root → ⊥, 15)
+    ∷ (LeafRight (stampRule edition n statement) n leaf (givenBy bytes) → ⊥, 14)
+    ∷ (RootRight (stampRule edition n statement) n leaf (givenBy bytes) root → ⊥, 15)
     ∷ []
 
 -- ---- File
@@ -139,9 +140,9 @@ abbrev pub fileOpening : List ℕ → ℕ → ℕ → ℕ → Row
 fileOpening bytes n at i =
     let statement : List ℕ = statementAt bytes at in
     let root : List ℕ = rootAt bytes at in
-    let leaf : ℕ = challengeLeaf n statement root i in
-    (LeafRight (stampRule statement) n leaf (givenBy (openingAt bytes n at i)) → ⊥, 14)
-    ∷ (RootRight (stampRule statement) n leaf (givenBy (openingAt bytes n at i)) root → ⊥, 15)
+    let leaf : ℕ = challengeLeaf edition n statement root i in
+    (LeafRight (stampRule edition n statement) n leaf (givenBy (openingAt bytes n at i)) → ⊥, 14)
+    ∷ (RootRight (stampRule edition n statement) n leaf (givenBy (openingAt bytes n at i)) root → ⊥, 15)
     ∷ []
 
 -- 'the refusal number with the opening it was found in, from 1, or 0 outside openings', as one number: 256 × refusal + opening

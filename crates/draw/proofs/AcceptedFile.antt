@@ -8,7 +8,7 @@ use lib.ListN.{length, getD, take, drop, length-drop}
 use lib.Seq.{take-all}
 use Rattle.base.specs.Choice.{every}
 use Rattle.base.specs.Bytes.{zeros}
-use Rattle.base.specs.Limits.{maxDepth, maxChallenges}
+use Rattle.base.specs.Limits.{edition, maxDepth, maxChallenges}
 use Rattle.refusal.specs.declared.Refusal.{Refusal}
 use Rattle.refusal.specs.declared.Check.{Check}
 use Rattle.refusal.specs.declared.Check.the-variants.{Rejected}
@@ -56,7 +56,7 @@ file-refused bytes statement n t list checked r i e told =
     (rw (code, no), (rw (code, no), (rw (code, no), rw (code, no))))
 
 module _ (bytes statement : List ℕ) (n t : ℕ) (small : (j : ℕ) → getD bytes j 0 < 256) (ok : fileCheck bytes statement n t ≡ 0) where
-  isProof : IsProof bytes statement n t
+  isProof : IsProof edition bytes statement n t
   isProof = accepted-proof bytes statement n t small ok
 
   pub depth-known : IsDepth n
@@ -65,14 +65,14 @@ module _ (bytes statement : List ℕ) (n t : ℕ) (small : (j : ℕ) → getD by
   pub count-known : IsCount t
   count-known = isProof .count
 
-  end-known : numbersEnd (headOf bytes) ≡ length (headNumbers n t)
+  end-known : numbersEnd (headOf bytes) ≡ length (headNumbers edition n t)
   end-known = ap numbersEnd (file-head bytes statement n t isProof)
 
   pub size-known : (at : ℕ) → at ≡ numbersEnd (headOf bytes) → length bytes ≡ lengthFrom n t at
-  size-known at e = rw (e, end-known) (file-size bytes statement n t isProof)
+  size-known at e = rw (e, end-known) (file-size edition bytes statement n t isProof)
 
   pub leaves-known : (at : ℕ) (root leaves : List ℕ) → at ≡ numbersEnd (headOf bytes) → root ≡ rootAt bytes at
-      → leaves ≡ leavesFrom n statement root 1 t → leaves ≡ leavesOf bytes statement n t
+      → leaves ≡ leavesFrom edition n statement root 1 t → leaves ≡ leavesOf bytes statement n t
   unfolding leavesOf
   leaves-known at root leaves e f g = g ∙ rw (f, e)
 
@@ -85,11 +85,11 @@ module _ (bytes statement : List ℕ) (n t : ℕ) (small : (j : ℕ) → getD by
 
   leaves-count : length (leavesOf bytes statement n t) ≡ t
   unfolding leavesOf
-  leaves-count = length-leaves n statement (rootAt bytes (numbersEnd (headOf bytes))) 1 t
+  leaves-count = length-leaves edition n statement (rootAt bytes (numbersEnd (headOf bytes))) 1 t
 
   all-leaves : every (isLeaf n) (leavesOf bytes statement n t) ≡ true
   unfolding leavesOf
-  all-leaves = leaves-inside n statement (rootAt bytes (numbersEnd (headOf bytes))) (depth-known .1) 1 t
+  all-leaves = leaves-inside edition n statement (rootAt bytes (numbersEnd (headOf bytes))) (depth-known .1) 1 t
 
   leaves-row : leavesRow n (leavesOf bytes statement n t) ≡ 0
   leaves-row =
@@ -106,10 +106,10 @@ module _ (bytes statement : List ℕ) (n t : ℕ) (small : (j : ℕ) → getD by
       let all : length bytes ≡ lengthFrom n t (numbersEnd (headOf bytes)) = size-known (numbersEnd (headOf bytes)) refl in
       rw (leaves-count, length-drop) (omega arith)
 
-  pair-known : compared statement n (leavesOf bytes statement n t) (openingsOf bytes) ≡ pairOf bytes statement n t
+  pair-known : compared edition statement n (leavesOf bytes statement n t) (openingsOf bytes) ≡ pairOf bytes statement n t
   unfolding pairOf
   pair-known =
-      compared-done statement n (leavesOf bytes statement n t) (openingsOf bytes)
+      compared-done edition statement n (leavesOf bytes statement n t) (openingsOf bytes)
       (sym
       (size-right n (leavesOf bytes statement n t) (length (openingsOf bytes)) leaves-row (omega (arith, openings-length))
       (omega (arith, openings-length))))
@@ -128,9 +128,9 @@ module _ (bytes statement : List ℕ) (n t : ℕ) (small : (j : ℕ) → getD by
 
   -- what the comparison and the chain give is what is drawn
   pub all-drawn : (leaves openings list after first second : List ℕ) (pair : Pair) (drawing : DrawingAnswer) → leaves ≡ leavesOf bytes statement n t
-      → openings ≡ openingsOf bytes → pair ≡ compared statement n leaves openings
-      → first ≡ firstInput statement n leaves openings (compared statement n leaves openings)
-      → second ≡ secondInput statement n leaves openings (compared statement n leaves openings) → DrawnFrom pair n leaves list drawing after
+      → openings ≡ openingsOf bytes → pair ≡ compared edition statement n leaves openings
+      → first ≡ firstInput edition statement n leaves openings (compared edition statement n leaves openings)
+      → second ≡ secondInput edition statement n leaves openings (compared edition statement n leaves openings) → DrawnFrom pair n leaves list drawing after
       → Answers bytes statement n t list drawing after first second
   unfolding drawnList firstDrawn secondDrawn
   all-drawn leaves openings list after first second pair drawing el eo p f g d =

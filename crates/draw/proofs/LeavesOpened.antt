@@ -25,40 +25,40 @@ use Rattle.draw.specs.Drawing.{leavesFrom, numbersEnd}
 pub end-known : (head told : HeadNumbers) (read : HeadAnswer) → headAnswer head ≡ read → head ≡ told → numbersEnd (headAnswer told) ≡ numbersEnd read
 end-known head told read e f = ap numbersEnd (rw f at e)
 
-module _ (n : ℕ) (statement root : List ℕ) where
-  pub length-leaves : (i left : ℕ) → length (leavesFrom n statement root i left) ≡ left
+module _ (edition n : ℕ) (statement root : List ℕ) where
+  pub length-leaves : (i left : ℕ) → length (leavesFrom edition n statement root i left) ≡ left
   unfolding leavesFrom
   length-leaves i zero = refl
   length-leaves i (suc left) = ap suc (length-leaves (i + 1) left)
 
-  pub leaves-inside : n ≤ maxDepth → (i left : ℕ) → every (isLeaf n) (leavesFrom n statement root i left) ≡ true
+  pub leaves-inside : n ≤ maxDepth → (i left : ℕ) → every (isLeaf n) (leavesFrom edition n statement root i left) ≡ true
   unfolding leavesFrom isLeaf
   leaves-inside small i zero = unfold every in refl
   leaves-inside small i (suc left) =
-      every-both (isLeaf n) (challengeLeaf n statement root i) (leavesFrom n statement root (i + 1) left)
-      (lt-ltb (challengeLeaf n statement root i) (2 ^ n) (challengeLeaf-small n statement root i (omega arith)))
+      every-both (isLeaf n) (challengeLeaf edition n statement root i) (leavesFrom edition n statement root (i + 1) left)
+      (lt-ltb (challengeLeaf edition n statement root i) (2 ^ n) (challengeLeaf-small edition n statement root i (omega arith)))
       (leaves-inside small (i + 1) left)
 
   -- the loop that writes them
   module _ (count : ℕ) where
-    pub leaves-none : leavesFrom n statement root 1 (count - 0) ≡ leavesFrom n statement root 1 count
+    pub leaves-none : leavesFrom edition n statement root 1 (count - 0) ≡ leavesFrom edition n statement root 1 count
     leaves-none = let all : count - 0 ≡ count = omega arith in rw all
 
     pub leaves-more :
         (leaves : List ℕ) (i leaf : ℕ) → IsDepth n → count ≤ maxChallenges → length leaves ≡ maxChallenges → i < count
-        → leaf ≡ challenged n statement root (i + 1)
-        → take i leaves ++ leavesFrom n statement root (i + 1) (count - i) ≡ leavesFrom n statement root 1 count
-        → take (i + 1) (set leaves i leaf) ++ leavesFrom n statement root (i + 1 + 1) (count - (i + 1)) ≡ leavesFrom n statement root 1 count
+        → leaf ≡ challenged edition n statement root (i + 1)
+        → take i leaves ++ leavesFrom edition n statement root (i + 1) (count - i) ≡ leavesFrom edition n statement root 1 count
+        → take (i + 1) (set leaves i leaf) ++ leavesFrom edition n statement root (i + 1 + 1) (count - (i + 1)) ≡ leavesFrom edition n statement root 1 count
     unfolding leavesFrom challenged
     leaves-more leaves i leaf depth few wide h e before =
         let more : count - i ≡ suc (count - (i + 1)) = omega arith in
-        let here : leaf ≡ challengeLeaf n statement root (i + 1) = rw (challenge-done n (i + 1) depth (omega arith, omega arith)) at e in
+        let here : leaf ≡ challengeLeaf edition n statement root (i + 1) = rw (challenge-done n (i + 1) depth (omega arith, omega arith)) at e in
         let first : take (i + 1) (set leaves i leaf) ≡ take i leaves ++ (leaf ∷ []) = rw (add-one i) (take-suc-set leaves i leaf (omega arith)) in
         rw (first, append-snoc, here) (rw more at before)
 
     pub leaves-all : (leaves : List ℕ) (i : ℕ) → i ≤ count → count ≤ i
-        → take i leaves ++ leavesFrom n statement root (i + 1) (count - i) ≡ leavesFrom n statement root 1 count
-        → take count leaves ≡ leavesFrom n statement root 1 count
+        → take i leaves ++ leavesFrom edition n statement root (i + 1) (count - i) ≡ leavesFrom edition n statement root 1 count
+        → take count leaves ≡ leavesFrom edition n statement root 1 count
     unfolding leavesFrom
     leaves-all leaves i h k e =
         let none : count - i ≡ 0 = omega arith in

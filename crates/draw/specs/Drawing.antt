@@ -5,6 +5,7 @@ use lib.Dec.{ltb}
 use lib.ListN.{length, drop}
 use Rattle.base.specs.Choice.{pick}
 use Rattle.base.specs.Bytes.{zeros, written}
+use Rattle.base.specs.Limits as limits
 use Rattle.refusal.specs.Number.{numberOf}
 use Rattle.refusal.specs.Row.{isDone}
 use Rattle.chain_theory.specs.Ways.{chain, chainCodes}
@@ -30,9 +31,9 @@ drawingAnswer (Chain count) = drawnChain count
 drawingAnswer (Clash i j l) = drawnClash i j l
 
 -- the leaves of `left` challenges from i on
-unfoldable pub leavesFrom : ℕ → List ℕ → List ℕ → ℕ → ℕ → List ℕ
-leavesFrom n statement root i zero = []
-leavesFrom n statement root i (suc left) = challengeLeaf n statement root i ∷ leavesFrom n statement root (i + 1) left
+unfoldable pub leavesFrom : ℕ → ℕ → List ℕ → List ℕ → ℕ → ℕ → List ℕ
+leavesFrom edition n statement root i zero = []
+leavesFrom edition n statement root i (suc left) = challengeLeaf edition n statement root i ∷ leavesFrom edition n statement root (i + 1) left
 
 -- where the head's numbers end
 abbrev pub numbersEnd : HeadAnswer → ℕ
@@ -41,7 +42,7 @@ numbersEnd (notRead r) = 0
 
 -- 'The leaves opened are those of its challenges 1 to t.'
 unfoldable pub leavesOf : List ℕ → List ℕ → ℕ → ℕ → List ℕ
-leavesOf bytes statement n t = leavesFrom n statement (rootAt bytes (numbersEnd (headOf bytes))) 1 t
+leavesOf bytes statement n t = leavesFrom limits.edition n statement (rootAt bytes (numbersEnd (headOf bytes))) 1 t
 
 -- the openings, which follow the head
 unfoldable pub openingsOf : List ℕ → List ℕ
@@ -49,7 +50,7 @@ openingsOf bytes = drop (numbersEnd (headOf bytes) + 64) bytes
 
 -- the first pair of a proof's openings that disagrees
 unfoldable pub pairOf : List ℕ → List ℕ → ℕ → ℕ → Pair
-pairOf bytes statement n t = firstDisagreement statement n (leavesOf bytes statement n t) (openingsOf bytes)
+pairOf bytes statement n t = firstDisagreement limits.edition statement n (leavesOf bytes statement n t) (openingsOf bytes)
 
 -- where no pair disagrees; 16: the list has fewer places than the count
 abbrev pub drawnFrom : Pair → ℕ → ℕ → DrawingAnswer
@@ -84,8 +85,10 @@ clashPair (notDrawn code) = Agree
 
 unfoldable pub firstDrawn : List ℕ → List ℕ → ℕ → ℕ → ℕ → List ℕ
 firstDrawn bytes statement n t list =
-    firstInput statement n (leavesOf bytes statement n t) (openingsOf bytes) (clashPair (drawingOf bytes statement n t list))
+    firstInput limits.edition statement n (leavesOf bytes statement n t) (openingsOf bytes)
+    (clashPair (drawingOf bytes statement n t list))
 
 unfoldable pub secondDrawn : List ℕ → List ℕ → ℕ → ℕ → ℕ → List ℕ
 secondDrawn bytes statement n t list =
-    secondInput statement n (leavesOf bytes statement n t) (openingsOf bytes) (clashPair (drawingOf bytes statement n t list))
+    secondInput limits.edition statement n (leavesOf bytes statement n t) (openingsOf bytes)
+    (clashPair (drawingOf bytes statement n t list))

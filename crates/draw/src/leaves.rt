@@ -2,7 +2,7 @@
 ghost use mathlib.Core.Path.{_≡_};
 ghost use Prim.Native.Nat.{_-_, _≤_};
 ghost use lib.ListN.{take, drop};
-ghost use Rattle.base.specs.Limits.{maxDepth, maxChallenges};
+ghost use Rattle.base.specs.Limits.{edition, maxDepth, maxChallenges};
 ghost use Rattle.base.specs.Bytes.{zeros};
 ghost use Rattle.proof_file.specs.Head.{headOf};
 ghost use Rattle.draw.specs.Drawing.{leavesFrom, numbersEnd};
@@ -30,7 +30,7 @@ pub fn challenge_leaves(
     count: u64,
 ) -> [u64; MAX_LEAVES]
     requires { ⌜ (1 ≤ depth) × (depth ≤ maxDepth) × (count ≤ maxChallenges) ⌝ }
-    ensures { λ r. ⌜ take count r ≡ leavesFrom depth statement root 1 count ⌝ }
+    ensures { λ r. ⌜ take count r ≡ leavesFrom edition depth statement root 1 count ⌝ }
     ensures { λ r. ⌜ drop count r ≡ zeros (maxChallenges - count) ⌝ }
 {
     let mut leaves = [0u64; MAX_LEAVES];

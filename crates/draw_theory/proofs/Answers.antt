@@ -9,7 +9,7 @@ use lib.Dec.{ltb}
 use lib.ListN.{length}
 use borrow.Author.Tests.{ltb-true, ltb-false, lt-ltb, le-ltb}
 use Rattle.base.specs.Choice.{pick}
-use Rattle.base.specs.Limits.{maxDepth, maxChallenges}
+use Rattle.base.specs.Limits.{edition, maxDepth, maxChallenges}
 use Rattle.refusal.proofs.RowLaws.{some-refused}
 use Rattle.groups.proofs.Steps.{lt-or-le}
 use Rattle.chain.specs.PlanRow.{planRow, plannedCount, plannedList}
@@ -130,7 +130,7 @@ module _ (bytes statement : List ℕ) (n t : ℕ) where
     given-short a b short = rw (a, b, lt-ltb list (length (drawnNodes bytes statement n t)) short)
 
   -- ---- planning from the leaves
-  module _ (p : IsProof bytes statement n t) where
+  module _ (p : IsProof edition bytes statement n t) where
     leaves-count : (1 ≤ length (leavesOf bytes statement n t)) × (length (leavesOf bytes statement n t) ≤ maxChallenges)
     leaves-count = rw (leaves-length bytes statement n t) (p .count)
 

@@ -8,7 +8,7 @@ use mathlib.Core.List.{List, [], _∷_, map}
 use lib.ListN.{length, getD, take, drop, length-map}
 use lib.Pow.{shr-lt, pow-mono}
 use lib.Seq.{take-at, drop-at}
-use Rattle.base.specs.Limits.{maxDepth}
+use Rattle.base.specs.Limits.{edition, maxDepth}
 use Rattle.base.specs.Choice.{both, passing}
 use Rattle.base.specs.Bytes.{written}
 use Rattle.base.proofs.ChoiceLaws.{both-first, both-true}
@@ -98,7 +98,7 @@ sorted-some xs h = long (sorted xs) (nonEmpty-sorted xs ∙ filled xs h)
     long [] e = absurd (let no : _≡_ {A = ℕ} 0 1 = cc in omega arith)
     long (y ∷ ys) e = omega arith
 
-module _ (bytes statement : List ℕ) (n t : ℕ) (p : IsProof bytes statement n t) where
+module _ (bytes statement : List ℕ) (n t : ℕ) (p : IsProof edition bytes statement n t) where
   -- k is at least 1
   pub leaves-some : 1 ≤ leavesOpened (leavesOf bytes statement n t)
   leaves-some =

@@ -7,9 +7,11 @@ use mathlib.Core.List.{List, map}
 use lib.ListN.{length, getD, take, drop}
 use Rattle.base.specs.Choice.{pick, passing}
 use Rattle.base.specs.Bytes.{zeros}
+use Rattle.base.specs.Limits as limits
 use Rattle.refusal.specs.Row.{isDone}
 use Rattle.sha256.specs.Digest.{digest}
 use Rattle.tree.specs.Nodes.{Node, root, onWay, labellingOrder, parents}
+use Rattle.tree.specs.Labels.{ordered}
 use Rattle.tree.specs.Held.{among}
 use Rattle.tree.specs.Openings.{Given, inputAt}
 use Rattle.tree.specs.Disagreement.{wayNode, disagreeAt}
@@ -34,7 +36,7 @@ proofRoot bytes = rootAt bytes (numbersEnd (headOf bytes))
 
 -- the leaf of challenge i, from 1
 unfoldable pub openedLeaf : List ℕ → List ℕ → ℕ → ℕ → ℕ
-openedLeaf bytes statement n i = challengeLeaf n statement (proofRoot bytes) i
+openedLeaf bytes statement n i = challengeLeaf limits.edition n statement (proofRoot bytes) i
 
 -- the labels that opening i gives
 unfoldable pub openedGiven : List ℕ → ℕ → ℕ → Given
@@ -49,7 +51,7 @@ pub record Passes (bytes statement : List ℕ) (n t i : ℕ) (v : Node) : Type 0
 -- 'At each node on its leaf's way to the root an opening gives one hash input'
 unfoldable pub openedInput : List ℕ → List ℕ → ℕ → ℕ → Node → List ℕ
 openedInput bytes statement n i v =
-    inputAt (stampRule statement) n (openedLeaf bytes statement n i) (openedGiven bytes n i) v
+    inputAt (stampRule limits.edition n statement) n (openedLeaf bytes statement n i) (openedGiven bytes n i) v
 
 -- 'The node's hash is SHA-256 of that input'
 abbrev pub openedHash : List ℕ → List ℕ → ℕ → ℕ → Node → List ℕ
@@ -60,7 +62,7 @@ openedHash bytes statement n i v = digest (openedInput bytes statement n i v)
 unfoldable pub disagreeing : List ℕ → List ℕ → ℕ → ℕ → ℕ → ℕ → Bool
 disagreeing bytes statement n i j l =
     disagreeAt
-    (stampRule statement)
+    (stampRule limits.edition n statement)
     n
     (openedLeaf bytes statement n i)
     (openedGiven bytes n i)
@@ -109,12 +111,16 @@ pub record Counted (bytes statement : List ℕ) (n t count : ℕ) (nodes : List 
   pub answered : count ≡ chainLength bytes statement n t
   pub written : length nodes ≡ chainLength bytes statement n t
 
+-- a node's parents in the order in which an edition hashes their labels
+abbrev pub hashedParents : ℕ → ℕ → Node → List Node
+hashedParents edition n v = ordered edition (parents n v)
+
 -- 'A hash stands whole in an input if it is one of the parents' labels there, after the first 41 bytes.' It is that of parent u of v.
 pub record StandsWhole (n : ℕ) (u v : Node) (hash input : List ℕ) : Type 0 where
   pub size : length input ≡ 41 + 32 * length (parents n v)
   pub place : ℕ
   pub isPlace : place < length (parents n v)
-  pub isParent : getD (parents n v) place root ≡ u
+  pub isParent : getD (hashedParents limits.edition n v) place root ≡ u
   pub stands : take 32 (drop (41 + 32 * place) input) ≡ hash
 
 -- each node's hash stands whole in the next one's input, whichever openings through the two give them

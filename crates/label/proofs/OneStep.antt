@@ -1,6 +1,6 @@
 -- The next node of a subtree: where it lies, and what one step gives, by its kind.
 use mathlib.Core.Path.{_≡_, refl}
-use mathlib.Core.List.{List, [], _++_, append-assoc, append-nil}
+use mathlib.Core.List.{List, [], _++_}
 use Prim.Native.Nat.{ℕ, _+_, _-_, _*_, _/_, _%_, _^_, _≤_, _<_}
 use native.Mathlib.Nat.{mod-lt}
 use native.Mathlib.Omega.{arith}
@@ -11,12 +11,12 @@ use lib.ListN.{length, take, drop}
 use lib.Pow.{pow-pos}
 use Rattle.base.specs.Limits.{maxDepth}
 use Rattle.base.specs.Bytes.{zeros, written}
-use Rattle.sha256.specs.Digest.{digest}
 use Rattle.tree.specs.Nodes.{Node, node}
 use Rattle.tree.specs.Walk.{nodesIn}
-use Rattle.tree.specs.Labels.{inputHead}
+use Rattle.tree.specs.Labels.{labelBy, inLabels}
 use Rattle.tree.proofs.Order.{Inside, order-at, inside-level, inside-way}
 use Rattle.tree.proofs.InputLengths.{ones-split}
+use Rattle.label.specs.Rule.{stampRule}
 use Rattle.label.specs.Step.{nextNode, hashedLabels, nextLabel, heldWith}
 use Rattle.label.proofs.Walking.{full}
 
@@ -28,9 +28,8 @@ pub place-le : (below p : ℕ) → ones (p % 2 ^ below) ≤ below
 place-le below p = ones-le below (p % 2 ^ below) (mod-lt p (pow-pos below))
 
 -- the two labels of an inner node are all that it hashes
-pub two-hashed : (head held : List ℕ) (at : ℕ)
-    → digest (head ++ [] ++ take (at + 64 - at) (drop at held)) ≡ digest (head ++ take 64 (drop at held))
-two-hashed head held at = let e : at + 64 - at ≡ 64 = omega arith in rw (append-nil head, e)
+pub two-hashed : (held : List ℕ) (at : ℕ) → inLabels ([] ++ take (at + 64 - at) (drop at held)) ≡ inLabels (take 64 (drop at held))
+two-hashed held at = let e : at + 64 - at ≡ 64 = omega arith in rw e
 
 module _ (height level position made l p : ℕ) (few : made < nodesIn height) (is : node l p ≡ nextNode height (node level position) made) where
   next-inside : Inside height (node level position) (node l p)
@@ -50,17 +49,18 @@ module _ (height level position made l p : ℕ) (few : made < nodesIn height) (i
   pub next-few : position < 2 ^ level → ones p ≤ l
   next-few inside = omega (arith, next-ones, next-level, ones-le level position inside, place-le (l - level) p)
 
-  module _ (statement front held : List ℕ) where
+  module _ (edition : ℕ) (statement front held : List ℕ) where
     -- a leaf, whose labels in front are the subtree's
     module _ (leaf : l ≡ level + height) (size : length front ≡ 32 * ones position) where
       behind-front : 32 * ones p - length front ≡ 32 * ones (p % 2 ^ (l - level))
       behind-front = omega (arith, next-ones)
 
       pub leaf-label :
-          digest (inputHead statement (node l p) ++ front ++ take (32 * ones p - length front) held)
-          ≡ nextLabel statement height (node level position) front held made
+          labelBy (stampRule edition (level + height) statement) (node l p)
+          (inLabels (front ++ take (32 * ones p - length front) held))
+          ≡ nextLabel edition statement height (node level position) front held made
       unfolding nextLabel hashedLabels
-      leaf-label = rw (behind-front, ← is, eq-eqb l (level + height) leaf, append-assoc)
+      leaf-label = rw (behind-front, ← is, eq-eqb l (level + height) leaf)
 
       pub leaf-held : (label : List ℕ)
           → written held (32 * ones p - length front) label ≡ heldWith height (node level position) held (node l p) label
@@ -70,8 +70,8 @@ module _ (height level position made l p : ℕ) (few : made < nodesIn height) (i
     -- an inner node, whose place is this one
     module _ (inner : l ≡ level + height → ⊥) (place : ℕ) (placed : place ≡ ones (p % 2 ^ (l - level))) where
       pub inner-label :
-          digest (inputHead statement (node l p) ++ take 64 (drop (32 * place) held))
-          ≡ nextLabel statement height (node level position) front held made
+          labelBy (stampRule edition (level + height) statement) (node l p) (inLabels (take 64 (drop (32 * place) held)))
+          ≡ nextLabel edition statement height (node level position) front held made
       unfolding nextLabel hashedLabels
       inner-label = rw (placed, ← is, ne-eqb l (level + height) inner)
 

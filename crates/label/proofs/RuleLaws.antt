@@ -18,5 +18,5 @@ pub digest-length : (x : List ℕ) → length (digest x) ≡ 32
 unfolding digest
 digest-length x = words-length _
 
-pub stamp-hash : (statement : List ℕ) → Hash32 (stampRule statement)
-stamp-hash statement = record { hashLength = digest-length }
+pub stamp-hash : (edition n : ℕ) (statement : List ℕ) → Hash32 (stampRule edition n statement)
+stamp-hash edition n statement = record { hashLength = digest-length }

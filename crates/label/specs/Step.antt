@@ -8,9 +8,9 @@ use lib.Dec.{eqb}
 use lib.ListN.{getD, take, drop}
 use Rattle.base.specs.Choice.{pick}
 use Rattle.base.specs.Bytes.{zeros, written}
-use Rattle.sha256.specs.Digest.{digest}
 use Rattle.tree.specs.Nodes.{Node, root, orderBelow}
-use Rattle.tree.specs.Labels.{Label, inputHead}
+use Rattle.tree.specs.Labels.{Label, labelBy, inLabels}
+use Rattle.label.specs.Rule.{stampRule}
 
 -- the next node when k of the subtree's nodes are labelled
 abbrev pub nextNode : ℕ → Node → ℕ → Node
@@ -26,14 +26,15 @@ isLeaf h v w = eqb (w .level) (v .level + h)
 
 -- The labels that a node hashes: a leaf's are those in front of the subtree and then all held before its place; an inner
 -- node's are the two from its place on.
-unfoldable pub hashedLabels : ℕ → Node → List ℕ → List ℕ → Node → List ℕ
+unfoldable pub hashedLabels : ℕ → Node → List ℕ → List ℕ → Node → List Label
 hashedLabels h v front held w =
-    pick (isLeaf h v w) (front ++ take (32 * placeOf v w) held) (take 64 (drop (32 * placeOf v w) held))
+    inLabels (pick (isLeaf h v w) (front ++ take (32 * placeOf v w) held) (take 64 (drop (32 * placeOf v w) held)))
 
-unfoldable pub nextLabel : List ℕ → ℕ → Node → List ℕ → List ℕ → ℕ → Label
-nextLabel statement h v front held k =
+-- the next label, by an edition's rule in the tree whose leaves are the subtree's
+unfoldable pub nextLabel : ℕ → List ℕ → ℕ → Node → List ℕ → List ℕ → ℕ → Label
+nextLabel edition statement h v front held k =
     let w : Node = nextNode h v k in
-    digest (inputHead statement w ++ hashedLabels h v front held w)
+    labelBy (stampRule edition (v .level + h) statement) w (hashedLabels h v front held w)
 
 -- The held labels with the new one at its place; an inner node's second child gives up its place, which is set to zero.
 unfoldable pub heldWith : ℕ → Node → List ℕ → Node → Label → List ℕ

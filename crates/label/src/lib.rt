@@ -4,6 +4,7 @@ mod next; // next.rt: one step, for runs and openings
 mod walk; // walk.rt: the next node from the number of nodes labelled
 
 pub use hashed::label;
+pub use hashed::put_input;
 pub use next::Labelled;
 pub use next::label_next;
 pub use walk::Place;

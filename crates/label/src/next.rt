@@ -6,10 +6,10 @@ ghost use lib.Count.{ones};
 ghost use lib.ListN.{length, take, drop};
 ghost use Rattle.base.specs.Limits.{maxDepth, heldSize};
 ghost use Rattle.base.specs.Bytes.{zeros, written};
-ghost use Rattle.sha256.specs.Digest.{digest};
 ghost use Rattle.tree.specs.Nodes.{node};
 ghost use Rattle.tree.specs.Walk.{nodesIn};
-ghost use Rattle.tree.specs.Labels.{inputHead};
+ghost use Rattle.tree.specs.Labels.{labelBy, inLabels};
+ghost use Rattle.label.specs.Rule.{stampRule};
 ghost use Rattle.label.specs.Step.{nextNode, nextLabel, heldWith};
 use crate::hashed::label;
 use crate::walk::Place;
@@ -34,27 +34,59 @@ fn place(below: u64, position: u64) -> usize
 
 // A leaf has as many parents as its position has one-bits: those in front of the subtree, and then the held labels before its place,
 // which it takes.
-fn label_leaf(statement: [u8; 32], w: Place, front: &[u8], held: &mut [u8]) -> [u8; 32]
-    requires { ⌜ (w .level < 256) × (ones (w .position) ≤ maxDepth) × (length (now held) ≡ heldSize) ⌝ }
+fn label_leaf(
+    edition: u64,
+    depth: u64,
+    statement: [u8; 32],
+    w: Place,
+    front: &[u8],
+    held: &mut [u8],
+) -> [u8; 32]
+    requires { ⌜ (w .level ≤ depth) × (depth ≤ maxDepth) × (ones (w .position) ≤ maxDepth) × (length (now held) ≡ heldSize) ⌝ }
     requires { ⌜ length (now front) ≤ 32 * ones (w .position) ⌝ }
-    ensures { λ r. ⌜ r ≡ digest (inputHead statement (node (w .level) (w .position)) ++ now (front .entry) ++ take (32 * ones (w .position) - length (now (front .entry))) (now (held .entry))) ⌝ }
+    ensures { λ r. ⌜ r ≡ labelBy (stampRule edition depth statement) (node (w .level) (w .position)) (inLabels (now (front .entry) ++ take (32 * ones (w .position) - length (now (front .entry))) (now (held .entry)))) ⌝ }
     ensures { λ r. ⌜ now (held .exit) ≡ written (now (held .entry)) (32 * ones (w .position) - length (now (front .entry))) r ⌝ }
 {
     let parents = u64::count_ones(w.position) as usize;
     let at = 32 * parents - front.len();
-    let label = label(statement, w.level, w.position, parents, front, &held[..at]);
+    let label = label(
+        edition,
+        depth,
+        statement,
+        w.level,
+        w.position,
+        parents,
+        front,
+        &held[..at],
+    );
     put(held, at, &label);
     label
 }
 
 // An inner node hashes the two held labels from its place on, takes that place, and the second is given up.
-fn label_inner(statement: [u8; 32], w: Place, held: &mut [u8], at: usize) -> [u8; 32]
-    requires { ⌜ (w .level < 256) × (at + 64 ≤ heldSize) × (length (now held) ≡ heldSize) ⌝ }
-    ensures { λ r. ⌜ r ≡ digest (inputHead statement (node (w .level) (w .position)) ++ take 64 (drop at (now (held .entry)))) ⌝ }
+fn label_inner(
+    edition: u64,
+    depth: u64,
+    statement: [u8; 32],
+    w: Place,
+    held: &mut [u8],
+    at: usize,
+) -> [u8; 32]
+    requires { ⌜ (w .level ≤ depth) × (depth ≤ maxDepth) × (at + 64 ≤ heldSize) × (length (now held) ≡ heldSize) ⌝ }
+    ensures { λ r. ⌜ r ≡ labelBy (stampRule edition depth statement) (node (w .level) (w .position)) (inLabels (take 64 (drop at (now (held .entry))))) ⌝ }
     ensures { λ r. ⌜ now (held .exit) ≡ written (written (now (held .entry)) at r) (at + 32) (zeros 32) ⌝ }
 {
     let end = at + 64;
-    let label = label(statement, w.level, w.position, 2, b"", &held[at..end]);
+    let label = label(
+        edition,
+        depth,
+        statement,
+        w.level,
+        w.position,
+        2,
+        b"",
+        &held[at..end],
+    );
     put(held, at, &label);
     put(held, at + 32, &[0u8; 32]);
     label
@@ -63,6 +95,7 @@ fn label_inner(statement: [u8; 32], w: Place, held: &mut [u8], at: usize) -> [u8
 // Labels the next node of the subtree of this height at (level, position), when `made` of its nodes are labelled. Its callers
 // know that one is left, and that front holds a label for each one-bit of the subtree's position.
 pub fn label_next(
+    edition: u64,
     statement: [u8; 32],
     height: u64,
     level: u64,
@@ -74,12 +107,13 @@ pub fn label_next(
     requires { ⌜ (level + height ≤ maxDepth) × (position < 2 ^ level) × (made < nodesIn height) ⌝ }
     requires { ⌜ (length (now front) ≡ 32 * ones position) × (length (now held) ≡ heldSize) ⌝ }
     ensures { λ r. ⌜ node (r .level) (r .position) ≡ nextNode height (node level position) made ⌝ }
-    ensures { λ r. ⌜ r .label ≡ nextLabel statement height (node level position) (now (front .entry)) (now (held .entry)) made ⌝ }
+    ensures { λ r. ⌜ r .label ≡ nextLabel edition statement height (node level position) (now (front .entry)) (now (held .entry)) made ⌝ }
     ensures { λ r. ⌜ now (held .exit) ≡ heldWith height (node level position) (now (held .entry)) (node (r .level) (r .position)) (r .label) ⌝ }
 {
     let w = next_node(height, level, position, made);
-    if w.level == level + height {
-        let label = label_leaf(statement, w, front, held);
+    let depth = level + height;
+    if w.level == depth {
+        let label = label_leaf(edition, depth, statement, w, front, held);
         Labelled {
             level: w.level,
             position: w.position,
@@ -87,7 +121,7 @@ pub fn label_next(
         }
     } else {
         let at = 32 * place(w.level - level, w.position);
-        let label = label_inner(statement, w, held, at);
+        let label = label_inner(edition, depth, statement, w, held, at);
         Labelled {
             level: w.level,
             position: w.position,

@@ -3,7 +3,7 @@ use Prim.Native.Nat.{ℕ, _-_, _*_, _^_, _≤_, _<_}
 use mathlib.Core.List.{List, [], _∷_, map}
 use Rattle.base.specs.Choice.{pick, odd}
 use Rattle.base.specs.Bytes.{joined}
-use Rattle.base.specs.Limits.{maxDepth, maxMemory}
+use Rattle.base.specs.Limits.{edition, maxDepth, maxMemory}
 use Rattle.tree.specs.Nodes.{Node, node}
 use Rattle.tree.specs.Labels.{Label}
 use Rattle.label.specs.Step.{nextNode, nextLabel}
@@ -38,4 +38,4 @@ abbrev pub nextAnew : ℕ → ℕ → ℕ → ℕ → Node
 nextAnew n m leaf made = nextNode (n - m) (ancestor n leaf m) made
 
 abbrev pub labelAnew : List ℕ → ℕ → ℕ → ℕ → List ℕ → List ℕ → ℕ → Label
-labelAnew statement n m leaf aboves held made = nextLabel statement (n - m) (ancestor n leaf m) aboves held made
+labelAnew statement n m leaf aboves held made = nextLabel edition statement (n - m) (ancestor n leaf m) aboves held made

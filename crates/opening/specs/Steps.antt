@@ -4,7 +4,7 @@ use Prim.Native.Nat.{ℕ, zero, suc, _+_, _-_, _*_, _/_, _^_}
 use mathlib.Core.List.{List, map}
 use lib.Dec.{eqb}
 use lib.ListN.{length, take, drop}
-use Rattle.base.specs.Limits.{heldSize}
+use Rattle.base.specs.Limits.{edition, heldSize}
 use Rattle.base.specs.Choice.{pick}
 use Rattle.base.specs.Bytes.{zeros, joined, written}
 use Rattle.refusal.specs.Row.{isDone}
@@ -81,7 +81,7 @@ stepped store s =
     let h : ℕ = o .depth - o .memory in
     let v : Node = ancestor (o .depth) (o .leaf) (o .memory) in
     let w : Node = nextNode h v (o .made) in
-    let label : Label = nextLabel (o .statement) h v (front (o .depth) (o .memory) (o .leaf) store) (o .held) (o .made) in
+    let label : Label = nextLabel edition (o .statement) h v (front (o .depth) (o .memory) (o .leaf) store) (o .held) (o .made) in
     record {
       opening =
           record {

@@ -13,6 +13,7 @@ ghost use Rattle.opening.specs.Steps.{ancestor, placed, steps};
 use crate::Opening;
 use crate::above::labels_above;
 use crate::places::put_label;
+use base::EDITION;
 use label::label_next;
 
 // One step, with the left siblings' labels in front. Its caller knows that a node is left.
@@ -33,7 +34,16 @@ fn label_one(
 {
     let height = depth - memory;
     let position = leaf >> height;
-    let w = label_next(statement, height, memory, position, front, held, made);
+    let w = label_next(
+        EDITION,
+        statement,
+        height,
+        memory,
+        position,
+        front,
+        held,
+        made,
+    );
     let label = w.label;
     put_label(depth, leaf, out, w.level, w.position, &label);
 }

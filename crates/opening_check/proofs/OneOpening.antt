@@ -1,7 +1,7 @@
 -- Laws of the check of one opening: the labels gathered for the leaf, and hashing upward.
 use mathlib.Core.Path.{_≡_, refl, sym, _∙_}
 use mathlib.Core.Bool.{Bool, true, false}
-use mathlib.Core.List.{List, [], _∷_, _++_, append-assoc, append-nil}
+use mathlib.Core.List.{List, [], _∷_, _++_, append-nil}
 use Prim.Native.Nat.{ℕ, suc, _+_, _-_, _*_, _/_, _%_, _^_, _≤_, _<_}
 use native.Mathlib.Nat.{add-zero, div-one, div-eq-of-lt}
 use native.Mathlib.Numerals.{add-one}
@@ -18,13 +18,14 @@ use Rattle.base.proofs.BytesLaws.{joined-append}
 use Rattle.base.proofs.ChoiceLaws.{is-odd, is-even, odd-true, odd-false}
 use Rattle.base.proofs.Copying.{length-written}
 use Rattle.refusal.specs.Row.{outside}
-use Rattle.sha256.specs.Digest.{digest}
 use Rattle.tree.specs.Nodes.{node}
-use Rattle.tree.specs.Labels.{Label, labelBy, inputHead, documentInput}
+use Rattle.tree.specs.Labels.{Label, labelBy, inLabels}
 use Rattle.tree.specs.Openings.{Given, childLabels, computed, inputAt, openingSize}
 use Rattle.tree.specs.TreeOpening.{leftGiven}
 use Rattle.tree.proofs.InputLengths.{ones-zero}
-use Rattle.tree.proofs.OpeningLaws.{halved, input-leaf}
+use Rattle.tree.specs.Disagreement.{Given32}
+use Rattle.tree.proofs.Ordered.{labels-back, two-labels}
+use Rattle.tree.proofs.OpeningLaws.{halved, input-leaf, left-each}
 use Rattle.label.specs.Rule.{stampRule}
 use Rattle.label.proofs.Walking.{full}
 use Rattle.base.proofs.Parts.{written-behind, part-size, part-length}
@@ -48,6 +49,10 @@ given-size : (bytes : List ℕ) (p i : ℕ) (t : Bool) → odd p ≡ t → 32 * 
 given-size bytes p i true o fits = let e : p % 2 ≡ 1 = odd-true p o in part-length bytes (32 * i) 32 fits ∙ omega arith
 given-size bytes p i false o fits = let e : p % 2 ≡ 0 = odd-false p o in omega arith
 
+-- the bytes of a whole opening give labels of 32 bytes
+pub given-labels : (n : ℕ) (bytes : List ℕ) → openingSize n ≤ length bytes → Given32 n (givenBy bytes)
+given-labels n bytes fits i small = part-length bytes (32 * i) 32 (omega arith)
+
 joined-pick : (t : Bool) (label : Label) → joined (pick t (label ∷ []) []) ≡ pick t label []
 unfolding joined
 joined-pick true label = append-nil label
@@ -63,13 +68,13 @@ module _ (n leaf : ℕ) (given : Given) where
       let back : n - suc (n - height) ≡ height - 1 = omega arith in
       rw (up, back, joined-append, joined-pick, ← ea) eb
 
-  pub leaf-hash : (statement gathered : List ℕ) (height : ℕ) → height ≤ 0 → gathered ≡ joined (leftGiven n leaf given (n - height))
-      → digest (inputHead statement (node n leaf) ++ [] ++ gathered) ≡ stampRule statement .hash
-      (inputAt (stampRule statement) n leaf given (node n leaf))
-  unfolding documentInput
-  leaf-hash statement gathered height low e =
+  pub leaf-hash : (edition : ℕ) (statement gathered : List ℕ) (height : ℕ) → Given32 n given → height ≤ 0
+      → gathered ≡ joined (leftGiven n leaf given (n - height))
+      → labelBy (stampRule edition n statement) (node n leaf) (inLabels gathered) ≡ stampRule edition n statement .hash
+      (inputAt (stampRule edition n statement) n leaf given (node n leaf))
+  leaf-hash edition statement gathered height sized low e =
       let all : n - height ≡ n = omega arith in
-      rw (append-nil, input-leaf (stampRule statement) n leaf given, e, all)
+      rw (input-leaf (stampRule edition n statement) n leaf given, e, all, labels-back _ (left-each n leaf given sized n (omega arith)))
 
 -- The labels gathered down to a height, with their length: 32 bytes for each one-bit of the leaf's position down to there.
 pub record Gathered (n leaf : ℕ) (bytes : List ℕ) (height len : ℕ) (gathered : List ℕ) : Type 0 where
@@ -121,54 +126,52 @@ module _ (n leaf : ℕ) (inside : leaf < 2 ^ n) (bytes : List ℕ) where
       rw all at (sym (so .counted))
 
 -- ---- the way upward
-module _ (statement : List ℕ) (level position : ℕ) (child beside : Label) where
+module _ (edition n : ℕ) (statement : List ℕ) (level position : ℕ) (child beside : Label) (c : length child ≡ 32) (b : length beside ≡ 32) where
   pub above-right : position % 2 ≡ 1
-      → digest (inputHead statement (node level (position / 2)) ++ beside ++ child) ≡ labelBy (stampRule statement)
-      (node level (position / 2)) (childLabels (odd position) child beside)
-  unfolding documentInput joined
-  above-right o = rw (is-odd position o) (simp (append-assoc, append-nil))
+      → labelBy (stampRule edition n statement) (node level (position / 2)) (inLabels (beside ++ child)) ≡ labelBy
+      (stampRule edition n statement) (node level (position / 2)) (childLabels (odd position) child beside)
+  above-right o = rw (is-odd position o, two-labels beside child b c)
 
   pub above-left : (position % 2 ≡ 1 → ⊥)
-      → digest (inputHead statement (node level (position / 2)) ++ child ++ beside) ≡ labelBy (stampRule statement)
-      (node level (position / 2)) (childLabels (odd position) child beside)
-  unfolding documentInput joined
-  above-left o = let e : position % 2 ≡ 0 = omega arith in rw (is-even position e) (simp (append-assoc, append-nil))
+      → labelBy (stampRule edition n statement) (node level (position / 2)) (inLabels (child ++ beside)) ≡ labelBy
+      (stampRule edition n statement) (node level (position / 2)) (childLabels (odd position) child beside)
+  above-left o = let e : position % 2 ≡ 0 = omega arith in rw (is-even position e, two-labels child beside c b)
 
-pub climbed : (statement bytes : List ℕ) (n leaf height : ℕ) (label above : Label)
-    → label ≡ computed (stampRule statement) n leaf (givenBy bytes) height
-    → above ≡ labelBy (stampRule statement) (node (n - (height + 1)) (leaf / 2 ^ height / 2))
+pub climbed : (edition : ℕ) (statement bytes : List ℕ) (n leaf height : ℕ) (label above : Label)
+    → label ≡ computed (stampRule edition n statement) n leaf (givenBy bytes) height
+    → above ≡ labelBy (stampRule edition n statement) (node (n - (height + 1)) (leaf / 2 ^ height / 2))
     (childLabels (odd (leaf / 2 ^ height)) label
     (take (32 * (height + 1) + 32 - 32 * (height + 1)) (drop (32 * (height + 1)) bytes)))
-    → above ≡ computed (stampRule statement) n leaf (givenBy bytes) (height + 1)
+    → above ≡ computed (stampRule edition n statement) n leaf (givenBy bytes) (height + 1)
 unfolding computed
-climbed statement bytes n leaf height label above e a =
+climbed edition statement bytes n leaf height label above e a =
     a ∙ rw (part-size bytes (32 * (height + 1)) 32, e, add-one height, halved leaf height)
 
 -- ---- the two refusals
-module _ (statement : List ℕ) (n leaf : ℕ) (root bytes : List ℕ) where
-  module _ (hash : Label) (h : hash ≡ stampRule statement .hash (inputAt (stampRule statement) n leaf (givenBy bytes) (node n leaf))) where
-    pub wrong-leaf : sameBytes (take 32 bytes) hash ≡ false → 14 ≡ rightRow statement n leaf root bytes
+module _ (edition : ℕ) (statement : List ℕ) (n leaf : ℕ) (root bytes : List ℕ) where
+  module _ (hash : Label) (h : hash ≡ stampRule edition n statement .hash (inputAt (stampRule edition n statement) n leaf (givenBy bytes) (node n leaf))) where
+    pub wrong-leaf : sameBytes (take 32 bytes) hash ≡ false → 14 ≡ rightRow edition statement n leaf root bytes
     unfolding rightRow
     wrong-leaf f = rw (← h, f)
 
     module _ (leafRight : sameBytes (take 32 bytes) hash ≡ true) (top : Label)
-        (t : top ≡ computed (stampRule statement) n leaf (givenBy bytes) n) where
-      pub wrong-root : sameBytes top root ≡ false → 15 ≡ rightRow statement n leaf root bytes
+        (t : top ≡ computed (stampRule edition n statement) n leaf (givenBy bytes) n) where
+      pub wrong-root : sameBytes top root ≡ false → 15 ≡ rightRow edition statement n leaf root bytes
       unfolding rightRow
       wrong-root f = rw (← h, leafRight, ← t, f)
 
-      pub both-right : sameBytes top root ≡ true → 0 ≡ rightRow statement n leaf root bytes
+      pub both-right : sameBytes top root ≡ true → 0 ≡ rightRow edition statement n leaf root bytes
       unfolding rightRow
       both-right f = rw (← h, leafRight, ← t, f)
 
 -- ---- the row, one law for each return
-module _ (statement : List ℕ) (n leaf : ℕ) (root bytes : List ℕ) where
-  pub depth-refused : outside 1 maxDepth n ≡ true → 1 ≡ openingRow statement n leaf root bytes
+module _ (edition : ℕ) (statement : List ℕ) (n leaf : ℕ) (root bytes : List ℕ) where
+  pub depth-refused : outside 1 maxDepth n ≡ true → 1 ≡ openingRow edition statement n leaf root bytes
   unfolding openingRow
   depth-refused d = rw d
 
   module _ (d : outside 1 maxDepth n ≡ false) (small : n ≤ maxDepth) where
-    pub leaf-refused : (1 * 2 ^ n) % 2 ^ 64 ≤ leaf → 6 ≡ openingRow statement n leaf root bytes
+    pub leaf-refused : (1 * 2 ^ n) % 2 ^ 64 ≤ leaf → 6 ≡ openingRow edition statement n leaf root bytes
     unfolding openingRow
     leaf-refused h = let l : 2 ^ n ≤ leaf = rw (full n small) at h in rw (d, le-leb (2 ^ n) leaf l)
 
@@ -176,12 +179,12 @@ module _ (statement : List ℕ) (n leaf : ℕ) (root bytes : List ℕ) where
       inside-leaf : leaf < 2 ^ n
       inside-leaf = rw (full n small) at inside
 
-      pub short-refused : length bytes < openingSize n → 10 ≡ openingRow statement n leaf root bytes
+      pub short-refused : length bytes < openingSize n → 10 ≡ openingRow edition statement n leaf root bytes
       unfolding openingRow
       short-refused h = rw (d, lt-leb (2 ^ n) leaf inside-leaf, lt-ltb (length bytes) (openingSize n) h)
 
       module _ (enough : openingSize n ≤ length bytes) where
-        pub long-refused : openingSize n < length bytes → 13 ≡ openingRow statement n leaf root bytes
+        pub long-refused : openingSize n < length bytes → 13 ≡ openingRow edition statement n leaf root bytes
         unfolding openingRow
         long-refused h =
             rw (
@@ -192,7 +195,7 @@ module _ (statement : List ℕ) (n leaf : ℕ) (root bytes : List ℕ) where
                   (length bytes) h,
             )
 
-        pub rest-right : length bytes ≤ openingSize n → rightRow statement n leaf root bytes ≡ openingRow statement n leaf root bytes
+        pub rest-right : length bytes ≤ openingSize n → rightRow edition statement n leaf root bytes ≡ openingRow edition statement n leaf root bytes
         unfolding rightRow openingRow
         rest-right h =
             rw (

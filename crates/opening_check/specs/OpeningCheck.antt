@@ -25,24 +25,24 @@ leafWrong r n leaf bytes = not (sameBytes (givenBy bytes 0) (r .hash (inputAt r 
 abbrev pub rootWrong : Rule → ℕ → ℕ → List ℕ → List ℕ → Bool
 rootWrong r n leaf bytes root = not (sameBytes (computed r n leaf (givenBy bytes) n) root)
 
--- 14, 15
-unfoldable pub rightRow : List ℕ → ℕ → ℕ → List ℕ → List ℕ → ℕ
-rightRow statement n leaf root bytes =
+-- by an edition's rule: 14, 15
+unfoldable pub rightRow : ℕ → List ℕ → ℕ → ℕ → List ℕ → List ℕ → ℕ
+rightRow edition statement n leaf root bytes =
     firstOf
-    ((leafWrong (stampRule statement) n leaf bytes, 14)
-    ∷ (rootWrong (stampRule statement) n leaf bytes root, 15)
+    ((leafWrong (stampRule edition n statement) n leaf bytes, 14)
+    ∷ (rootWrong (stampRule edition n statement) n leaf bytes root, 15)
     ∷ []
     )
 
 -- 1; 6; 10: bytes too few; 13: too many; 14; 15
-unfoldable pub openingRow : List ℕ → ℕ → ℕ → List ℕ → List ℕ → ℕ
-openingRow statement n leaf root bytes =
+unfoldable pub openingRow : ℕ → List ℕ → ℕ → ℕ → List ℕ → List ℕ → ℕ
+openingRow edition statement n leaf root bytes =
     firstOf
     ((outside 1 maxDepth n, 1)
     ∷ (leb (2 ^ n) leaf, 6)
     ∷ (ltb (length bytes) (openingSize n), 10)
     ∷ (ltb (openingSize n) (length bytes), 13)
-    ∷ (leafWrong (stampRule statement) n leaf bytes, 14)
-    ∷ (rootWrong (stampRule statement) n leaf bytes root, 15)
+    ∷ (leafWrong (stampRule edition n statement) n leaf bytes, 14)
+    ∷ (rootWrong (stampRule edition n statement) n leaf bytes root, 15)
     ∷ []
     )

@@ -3,7 +3,7 @@ ghost use mathlib.Core.Path.{_≡_};
 ghost use mathlib.Core.List.{[]};
 ghost use Prim.Native.Nat.{_+_, _*_, _/_, _%_, _^_, _<_, _≤_};
 ghost use lib.ListN.{length};
-ghost use Rattle.base.specs.Limits.{maxDepth};
+ghost use Rattle.base.specs.Limits.{edition, maxDepth};
 ghost use Rattle.base.specs.Choice.{pick, odd};
 ghost use Rattle.base.specs.Bytes.{written};
 ghost use Rattle.refusal.specs.Number.{outcomeNumber};
@@ -12,6 +12,7 @@ ghost use Rattle.tree.specs.Labels.{labelBy};
 ghost use Rattle.tree.specs.Openings.{childLabels, computed, inputAt, openingSize};
 ghost use Rattle.label.specs.Rule.{stampRule};
 ghost use Rattle.opening_check.specs.OpeningCheck.{givenBy, rightRow, openingRow};
+use base::EDITION;
 use base::MAX_DEPTH;
 use base::label_at;
 use base::put;
@@ -38,9 +39,9 @@ fn gather(gathered: &mut [u8], len: usize, leaf: u64, height: u64, bytes: &[u8])
 
 // The hash that the leaf's label must be: over the given labels of the left siblings, smallest level first, as many as the leaf's
 // position has one-bits.
-fn leaf_label(statement: [u8; 32], n: u64, leaf: u64, bytes: &[u8]) -> [u8; 32]
+fn leaf_label(edition: u64, statement: [u8; 32], n: u64, leaf: u64, bytes: &[u8]) -> [u8; 32]
     requires { ⌜ (n ≤ maxDepth) × (leaf < 2 ^ n) × (length (now bytes) ≡ openingSize n) ⌝ }
-    ensures { λ r. ⌜ r ≡ stampRule statement .hash (inputAt (stampRule statement) n leaf (givenBy (now (bytes .entry))) (node n leaf)) ⌝ }
+    ensures { λ r. ⌜ r ≡ stampRule edition n statement .hash (inputAt (stampRule edition n statement) n leaf (givenBy (now (bytes .entry))) (node n leaf)) ⌝ }
 {
     let parents = u64::count_ones(leaf) as usize;
     let size = 32 * parents;
@@ -51,30 +52,59 @@ fn leaf_label(statement: [u8; 32], n: u64, leaf: u64, bytes: &[u8]) -> [u8; 32]
         height -= 1;
         len = gather(&mut gathered, len, leaf, height, bytes);
     }
-    label(statement, n, leaf, parents, b"", &gathered[..size])
+    label(
+        edition,
+        n,
+        statement,
+        n,
+        leaf,
+        parents,
+        b"",
+        &gathered[..size],
+    )
 }
 
 // The label of the node above a child at this position, from the child's label and its sibling's.
 fn label_above(
+    edition: u64,
+    n: u64,
     statement: [u8; 32],
     level: u64,
     position: u64,
     child: [u8; 32],
     beside: &[u8],
 ) -> [u8; 32]
-    requires { ⌜ (level < 256) × (length (now beside) ≡ 32) ⌝ }
-    ensures { λ r. ⌜ r ≡ labelBy (stampRule statement) (node level (position / 2)) (childLabels (odd position) child (now (beside .entry))) ⌝ }
+    requires { ⌜ (level ≤ n) × (n ≤ maxDepth) × (length (now beside) ≡ 32) ⌝ }
+    ensures { λ r. ⌜ r ≡ labelBy (stampRule edition n statement) (node level (position / 2)) (childLabels (odd position) child (now (beside .entry))) ⌝ }
 {
     if position % 2 == 1 {
-        return label(statement, level, position / 2, 2, beside, &child);
+        return label(
+            edition,
+            n,
+            statement,
+            level,
+            position / 2,
+            2,
+            beside,
+            &child,
+        );
     }
-    label(statement, level, position / 2, 2, &child, beside)
+    label(
+        edition,
+        n,
+        statement,
+        level,
+        position / 2,
+        2,
+        &child,
+        beside,
+    )
 }
 
 // The root's label, hashed upward from the given label of the leaf.
-fn climb(statement: [u8; 32], n: u64, leaf: u64, bytes: &[u8]) -> [u8; 32]
+fn climb(edition: u64, statement: [u8; 32], n: u64, leaf: u64, bytes: &[u8]) -> [u8; 32]
     requires { ⌜ (1 ≤ n) × (n ≤ maxDepth) × (length (now bytes) ≡ openingSize n) ⌝ }
-    ensures { λ r. ⌜ r ≡ computed (stampRule statement) n leaf (givenBy (now (bytes .entry))) n ⌝ }
+    ensures { λ r. ⌜ r ≡ computed (stampRule edition n statement) n leaf (givenBy (now (bytes .entry))) n ⌝ }
 {
     let mut label = label_at(bytes, 0);
     let mut height: u64 = 0;
@@ -82,6 +112,8 @@ fn climb(statement: [u8; 32], n: u64, leaf: u64, bytes: &[u8]) -> [u8; 32]
         let at = 32 * (height + 1) as usize;
         let end = at + 32;
         let above = label_above(
+            edition,
+            n,
             statement,
             n - (height + 1),
             leaf >> height,
@@ -95,15 +127,22 @@ fn climb(statement: [u8; 32], n: u64, leaf: u64, bytes: &[u8]) -> [u8; 32]
 }
 
 // 14, 15. Its callers know the depth, the position and the length.
-pub fn right(statement: [u8; 32], n: u64, leaf: u64, root: [u8; 32], bytes: &[u8]) -> Outcome
+pub fn right(
+    edition: u64,
+    statement: [u8; 32],
+    n: u64,
+    leaf: u64,
+    root: [u8; 32],
+    bytes: &[u8],
+) -> Outcome
     requires { ⌜ (1 ≤ n) × (n ≤ maxDepth) × (leaf < 2 ^ n) × (length (now bytes) ≡ openingSize n) ⌝ }
-    ensures { λ r. ⌜ outcomeNumber r ≡ rightRow statement n leaf root (now (bytes .entry)) ⌝ }
+    ensures { λ r. ⌜ outcomeNumber r ≡ rightRow edition statement n leaf root (now (bytes .entry)) ⌝ }
 {
-    let leaf_hash = leaf_label(statement, n, leaf, bytes);
+    let leaf_hash = leaf_label(edition, statement, n, leaf, bytes);
     if !same(&bytes[..32], &leaf_hash) {
         return Outcome::Refused(Refusal::LeafLabel);
     }
-    let top = climb(statement, n, leaf, bytes);
+    let top = climb(edition, statement, n, leaf, bytes);
     if !same(&top, &root) {
         return Outcome::Refused(Refusal::Root);
     }
@@ -118,7 +157,7 @@ pub fn check_opening(
     root: [u8; 32],
     bytes: &[u8],
 ) -> Outcome
-    ensures { λ r. ⌜ outcomeNumber r ≡ openingRow statement depth leaf root (now (bytes .entry)) ⌝ }
+    ensures { λ r. ⌜ outcomeNumber r ≡ openingRow edition statement depth leaf root (now (bytes .entry)) ⌝ }
 {
     if beyond(MAX_DEPTH, depth) {
         return Outcome::Refused(Refusal::Depth);
@@ -133,5 +172,5 @@ pub fn check_opening(
     if size < bytes.len() {
         return Outcome::Refused(Refusal::BytesLeft);
     }
-    right(statement, depth, leaf, root, bytes)
+    right(EDITION, statement, depth, leaf, root, bytes)
 }

@@ -26,7 +26,7 @@ last-four : (i : ℕ) → take 4 (drop 4 (bigEndian 8 i)) ≡ bigEndian 4 i
 unfolding bigEndian
 last-four i = refl
 
-module _ (statement root : List ℕ) (i : ℕ) (number b1 b2 b3 b4 : List ℕ) (s : length statement ≡ 32) (r : length root ≡ 32)
+module _ (edition n : ℕ) (statement root : List ℕ) (i : ℕ) (number b1 b2 b3 b4 : List ℕ) (s : length statement ≡ 32) (r : length root ≡ 32)
     (e : number ≡ bigEndian 8 i)
     (e1 : b1 ≡ written (zeros 77) 0 statement) (e2 : b2 ≡ written b1 32 challengeWord) (e3 : b3 ≡ written b2 41 root)
     (e4 : b4 ≡ written b3 73 (take 4 (drop 4 number))) where
@@ -40,14 +40,14 @@ module _ (statement root : List ℕ) (i : ℕ) (number b1 b2 b3 b4 : List ℕ) (
   after-root =
       e3 ∙ rw r at (filled-more 77 b2 (statement ++ challengeWord) root 41 after-word (rw (length-append, s)) (omega arith))
 
-  pub input-laid : b4 ≡ challengeInput statement root i
+  pub input-laid : b4 ≡ challengeInput edition n statement root i
   unfolding challengeInput
   input-laid =
-      let n : length (statement ++ challengeWord ++ root) ≡ 73 = rw (length-append, length-append, s, r) in
+      let size : length (statement ++ challengeWord ++ root) ≡ 73 = rw (length-append, length-append, s, r) in
       let four : take 4 (drop 4 number) ≡ bigEndian 4 i = rw e (last-four i) in
       e4
       ∙ ap (λ (l : List ℕ). written b3 73 l) four
-      ∙ rw (length-bigEndian 4 i) at (filled-more 77 b3 (statement ++ challengeWord ++ root) (bigEndian 4 i) 73 after-root n
+      ∙ rw (length-bigEndian 4 i) at (filled-more 77 b3 (statement ++ challengeWord ++ root) (bigEndian 4 i) 73 after-root size
       (rw (length-bigEndian 4 i) (omega arith)))
       ∙ append-nil (statement ++ challengeWord ++ root ++ bigEndian 4 i)
 
@@ -125,12 +125,12 @@ first-bits hash n s h =
     let bits : 192 + (64 - n) ≡ 256 - n = omega arith in
     rw (front, ← bits, ← shr-shr (bigEndianValue hash) 192 (64 - n), value, high (bigEndianValue (s .front)) 192 small)
 
-pub leaf-bits : (n : ℕ) (statement root : List ℕ) (i word : ℕ) (hash : List ℕ) → n ≤ maxDepth
-    → hash ≡ digest (challengeInput statement root i)
-    → word ≡ bigEndianValue (take 8 hash) → word / 2 ^ (64 - n) ≡ challengeLeaf n statement root i
+pub leaf-bits : (edition n : ℕ) (statement root : List ℕ) (i word : ℕ) (hash : List ℕ) → n ≤ maxDepth
+    → hash ≡ digest (challengeInput edition n statement root i)
+    → word ≡ bigEndianValue (take 8 hash) → word / 2 ^ (64 - n) ≡ challengeLeaf edition n statement root i
 unfolding challengeLeaf
-leaf-bits n statement root i word hash h e w =
-    rw (w, e) (first-bits (digest (challengeInput statement root i)) n (digest-split (challengeInput statement root i)) (omega arith))
+leaf-bits edition n statement root i word hash h e w =
+    rw (w, e) (first-bits (digest (challengeInput edition n statement root i)) n (digest-split (challengeInput edition n statement root i)) (omega arith))
 
 -- reading the number byte by byte
 pub byte-more : (bytes : List ℕ) (i value byte : ℕ) → i < length bytes → value ≡ bigEndianValue (take i bytes) → byte ≡ getD bytes i 0
@@ -146,20 +146,20 @@ pub value-below : (value byte i : ℕ) → value < 256 ^ i → byte < 256 → 25
 value-below value byte i v b = rw (add-one i) (omega arith)
 
 -- ---- the row, one law for each return
-abbrev Answers : ℕ → List ℕ → List ℕ → ℕ → ℕ → ℕ → Type 0
-Answers n statement root i number leaf = (number ≡ challengeRow n i) × (leaf ≡ challenged n statement root i)
+abbrev Answers : ℕ → ℕ → List ℕ → List ℕ → ℕ → ℕ → ℕ → Type 0
+Answers edition n statement root i number leaf = (number ≡ challengeRow n i) × (leaf ≡ challenged edition n statement root i)
 
-module _ (n : ℕ) (statement root : List ℕ) (i : ℕ) where
-  pub depth-refused : outside 1 maxDepth n ≡ true → Answers n statement root i 1 0
+module _ (edition n : ℕ) (statement root : List ℕ) (i : ℕ) where
+  pub depth-refused : outside 1 maxDepth n ≡ true → Answers edition n statement root i 1 0
   unfolding challengeRow challenged
   depth-refused d = (rw d, rw d)
 
   module _ (d : outside 1 maxDepth n ≡ false) where
-    pub number-refused : outside 1 maxChallenges i ≡ true → Answers n statement root i 8 0
+    pub number-refused : outside 1 maxChallenges i ≡ true → Answers edition n statement root i 8 0
     unfolding challengeRow challenged
     number-refused t = (rw (d, t), rw (d, t))
 
-    pub leaf-answered : (leaf : ℕ) → outside 1 maxChallenges i ≡ false → leaf ≡ challengeLeaf n statement root i
-        → Answers n statement root i 0 leaf
+    pub leaf-answered : (leaf : ℕ) → outside 1 maxChallenges i ≡ false → leaf ≡ challengeLeaf edition n statement root i
+        → Answers edition n statement root i 0 leaf
     unfolding challengeRow challenged
     leaf-answered leaf t e = (rw (d, t), rw (d, t) e)

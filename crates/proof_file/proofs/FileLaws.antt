@@ -22,16 +22,17 @@ use Rattle.proof_file.specs.Challenge.{challengeLeaf}
 use Rattle.proof_file.specs.Layout.{openingFrom}
 use Rattle.proof_file.specs.Head.{numbers, notRead, headOf, lengthFrom, statementAt, rootAt, openingAt}
 use Rattle.opening_check.specs.OpeningCheck.{rightRow}
+use Rattle.base.specs.Limits as limits
 use Rattle.proof_file.specs.FileCheck.{foundIn, openingsFrom, wanted, fileRest, fileCheck}
 use Rattle.base.proofs.Parts.{part-size}
 
 -- ---- the openings: one refused, one right, none left
-module _ (bytes statement root : List ℕ) (n at i t start leaf : ℕ) (outcome : Outcome)
-    (s : statement ≡ statementAt bytes at) (r : root ≡ rootAt bytes at) (l : leaf ≡ challengeLeaf n statement root i)
+module _ (edition : ℕ) (bytes statement root : List ℕ) (n at i t start leaf : ℕ) (outcome : Outcome)
+    (s : statement ≡ statementAt bytes at) (r : root ≡ rootAt bytes at) (l : leaf ≡ challengeLeaf edition n statement root i)
     (from : start ≡ openingFrom n (at + 64) i) (more : i ≤ t)
-    (o : outcomeNumber outcome ≡ rightRow statement n leaf root (take (start + openingSize n - start) (drop start bytes))) where
+    (o : outcomeNumber outcome ≡ rightRow edition statement n leaf root (take (start + openingSize n - start) (drop start bytes))) where
   outcome-is :
-      rightRow (statementAt bytes at) n (challengeLeaf n (statementAt bytes at) (rootAt bytes at) i) (rootAt bytes at)
+      rightRow edition (statementAt bytes at) n (challengeLeaf edition n (statementAt bytes at) (rootAt bytes at) i) (rootAt bytes at)
       (openingAt bytes n at i) ≡ outcomeNumber outcome
   outcome-is =
       rw (← s, ← r, ← l, ← from, ← part-size bytes start (openingSize n)) (sym o)
@@ -40,21 +41,21 @@ module _ (bytes statement root : List ℕ) (n at i t start leaf : ℕ) (outcome 
   one-more = omega arith
 
   pub opening-refused : (refusal : Refusal) → outcome ≡ Refused refusal
-      → openingsFrom bytes n at i (t + 1 - i) ≡ foundIn i (numberOf refusal)
+      → openingsFrom edition bytes n at i (t + 1 - i) ≡ foundIn i (numberOf refusal)
   unfolding openingsFrom
   opening-refused refusal e =
       let no : isDone (numberOf refusal) ≡ false = not-done refusal (numberOf refusal) refl in
       rw (one-more, outcome-is, e, no)
 
-  pub opening-right : outcome ≡ Done → openingsFrom bytes n at i (t + 1 - i) ≡ openingsFrom bytes n at (i + 1) (t + 1 - (i + 1))
+  pub opening-right : outcome ≡ Done → openingsFrom edition bytes n at i (t + 1 - i) ≡ openingsFrom edition bytes n at (i + 1) (t + 1 - (i + 1))
   unfolding openingsFrom
   opening-right e =
       let rest : t + 1 - (i + 1) ≡ t - i = omega arith in
       rw (one-more, outcome-is, e, rest)
 
-pub none-left : (bytes : List ℕ) (n at i t : ℕ) → t < i → openingsFrom bytes n at i (t + 1 - i) ≡ 0
+pub none-left : (edition : ℕ) (bytes : List ℕ) (n at i t : ℕ) → t < i → openingsFrom edition bytes n at i (t + 1 - i) ≡ 0
 unfolding openingsFrom
-none-left bytes n at i t h = let none : t + 1 - i ≡ 0 = omega arith in rw none
+none-left edition bytes n at i t h = let none : t + 1 - i ≡ 0 = omega arith in rw none
 
 -- ---- 9
 module _ (statement statement′ : List ℕ) (n t n′ t′ : ℕ) where
@@ -96,7 +97,7 @@ module _ (bytes statement : List ℕ) (depth count n t at size : ℕ) (is : size
           rw (le-ltb (length bytes) (lengthFrom n t at) not-short, le-ltb (lengthFrom n t at) (length bytes) not-long, w)
 
       pub is-wanted : wanted (statementAt bytes at) n t statement depth count ≡ true
-          → openingsFrom bytes n at 1 t ≡ fileRest bytes statement depth count (numbers n t at)
+          → openingsFrom limits.edition bytes n at 1 t ≡ fileRest bytes statement depth count (numbers n t at)
       is-wanted w =
           rw (le-ltb (length bytes) (lengthFrom n t at) not-short, le-ltb (lengthFrom n t at) (length bytes) not-long, w)
 

@@ -59,8 +59,8 @@ digest-small x = words-small _
 digest-below : (x : List ℕ) → bigEndianValue (digest x) < 2 ^ 256
 digest-below x = rw digest-length at (digest-small x .below)
 
-pub challengeLeaf-small : (n : ℕ) (statement root : List ℕ) (i : ℕ) → n ≤ 256 → challengeLeaf n statement root i < 2 ^ n
+pub challengeLeaf-small : (edition n : ℕ) (statement root : List ℕ) (i : ℕ) → n ≤ 256 → challengeLeaf edition n statement root i < 2 ^ n
 unfolding challengeLeaf
-challengeLeaf-small n statement root i small =
+challengeLeaf-small edition n statement root i small =
     let all : n + (256 - n) ≡ 256 = omega arith in
-    shr-lt n (256 - n) (rw all (digest-below (challengeInput statement root i)))
+    shr-lt n (256 - n) (rw all (digest-below (challengeInput edition n statement root i)))

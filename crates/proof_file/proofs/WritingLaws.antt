@@ -33,18 +33,23 @@ one-group x h = rw (groups-last 1 x h)
 two-groups : (x : ℕ) → 128 ≤ x → x < 16384 → length (groups 2 x) ≡ 2
 two-groups x m h = rw (groups-more 1 x m, groups-last 0 (x / 128) (omega arith))
 
-pub numbers-length : (n t : ℕ) → length (headNumbers n t) ≡ length (groups 2 1) + length (groups 2 n) + length (groups 2 t)
+pub numbers-length : (edition n t : ℕ)
+    → length (headNumbers edition n t) ≡ length (groups 2 edition) + length (groups 2 n) + length (groups 2 t)
 unfolding headNumbers
-numbers-length n t = rw (length-append, length-append)
+numbers-length edition n t = rw (length-append, length-append)
+
+-- an edition in one byte
+pub size-numbers : (edition n t : ℕ) → edition < 128 → length (headNumbers edition n t) + 64 ≡ headSize n t
+size-numbers edition n t small = rw (numbers-length edition n t, one-group edition small)
 
 module _ (n t : ℕ) (small : n ≤ maxDepth) where
   pub size-three : t < 128 → lengthFrom n t 3 ≡ fileSize n t
   unfolding fileSize
-  size-three h = rw (numbers-length n t, one-group 1 (omega arith), one-group n (omega arith), one-group t h)
+  size-three h = rw (one-group n (omega arith), one-group t h)
 
   pub size-four : 128 ≤ t → t ≤ maxChallenges → lengthFrom n t 4 ≡ fileSize n t
   unfolding fileSize
-  size-four m h = rw (numbers-length n t, one-group 1 (omega arith), one-group n (omega arith), two-groups t m (omega arith))
+  size-four m h = rw (one-group n (omega arith), two-groups t m (omega arith))
 
 -- a file that fits has a head that fits
 pub head-fits : (n t size room : ℕ) → size ≡ fileSize n t → size ≤ room → headSize n t ≤ room
@@ -67,50 +72,50 @@ written-next out m part b at e n =
       length-append,
     )
 
-pub numbers-put : (n t : ℕ) (out o1 o2 o3 : List ℕ) (second third : ℕ) → o1 ≡ written out 0 (groups 2 1)
+pub numbers-put : (edition n t : ℕ) (out o1 o2 o3 : List ℕ) (second third : ℕ) → o1 ≡ written out 0 (groups 2 edition)
     → o2 ≡ written o1 second (groups 2 n) → o3 ≡ written o2 third (groups 2 t)
-    → second ≡ length (groups 2 1) → third ≡ second + length (groups 2 n) → o3 ≡ written out 0 (headNumbers n t)
+    → second ≡ length (groups 2 edition) → third ≡ second + length (groups 2 n) → o3 ≡ written out 0 (headNumbers edition n t)
 unfolding headNumbers
-numbers-put n t out o1 o2 o3 second third e1 e2 e3 s2 s3 =
+numbers-put edition n t out o1 o2 o3 second third e1 e2 e3 s2 s3 =
     e3
-    ∙ written-next out (groups 2 1 ++ groups 2 n) (groups 2 t) o2 third
-    (e2 ∙ written-next out (groups 2 1) (groups 2 n) o1 second e1 s2)
+    ∙ written-next out (groups 2 edition ++ groups 2 n) (groups 2 t) o2 third
+    (e2 ∙ written-next out (groups 2 edition) (groups 2 n) o1 second e1 s2)
     (s3 ∙ rw (s2, length-append))
 
-pub head-put : (statement root : List ℕ) (n t : ℕ) (out o1 o2 o3 : List ℕ) (at : ℕ) → length statement ≡ 32
-    → at ≡ length (headNumbers n t)
-    → o1 ≡ written out 0 (headNumbers n t) → o2 ≡ written o1 at statement → o3 ≡ written o2 (at + 32) root → o3 ≡ written out 0
-    (head statement root n t)
+pub head-put : (edition : ℕ) (statement root : List ℕ) (n t : ℕ) (out o1 o2 o3 : List ℕ) (at : ℕ) → length statement ≡ 32
+    → at ≡ length (headNumbers edition n t)
+    → o1 ≡ written out 0 (headNumbers edition n t) → o2 ≡ written o1 at statement → o3 ≡ written o2 (at + 32) root → o3 ≡ written out 0
+    (head edition statement root n t)
 unfolding head
-head-put statement root n t out o1 o2 o3 at s a e1 e2 e3 =
+head-put edition statement root n t out o1 o2 o3 at s a e1 e2 e3 =
     e3
-    ∙ written-next out (headNumbers n t ++ statement) root o2 (at + 32)
-    (e2 ∙ written-next out (headNumbers n t) statement o1 at e1 a)
+    ∙ written-next out (headNumbers edition n t ++ statement) root o2 (at + 32)
+    (e2 ∙ written-next out (headNumbers edition n t) statement o1 at e1 a)
     (rw (length-append, s, a))
 
 -- ---- the row, one law for each return
-abbrev Answers : List ℕ → List ℕ → ℕ → ℕ → List ℕ → ℕ → List ℕ → Type 0
-Answers statement root n t out number after = (number ≡ headRow n t (length out)) × (after ≡ headWritten statement root n t out)
+abbrev Answers : ℕ → List ℕ → List ℕ → ℕ → ℕ → List ℕ → ℕ → List ℕ → Type 0
+Answers edition statement root n t out number after = (number ≡ headRow n t (length out)) × (after ≡ headWritten edition statement root n t out)
 
-module _ (statement root : List ℕ) (n t : ℕ) (out : List ℕ) where
-  pub depth-refused : outside 1 maxDepth n ≡ true → Answers statement root n t out 1 out
+module _ (edition : ℕ) (statement root : List ℕ) (n t : ℕ) (out : List ℕ) where
+  pub depth-refused : outside 1 maxDepth n ≡ true → Answers edition statement root n t out 1 out
   unfolding headRow headWritten
   depth-refused d = (rw d, rw d)
 
   module _ (d : outside 1 maxDepth n ≡ false) where
-    pub count-refused : outside 1 maxChallenges t ≡ true → Answers statement root n t out 8 out
+    pub count-refused : outside 1 maxChallenges t ≡ true → Answers edition statement root n t out 8 out
     unfolding headRow headWritten
     count-refused c = (rw (d, c), rw (d, c))
 
     module _ (c : outside 1 maxChallenges t ≡ false) (size : ℕ) (is : size ≡ fileSize n t) where
-      pub short-refused : length out < size → Answers statement root n t out 7 out
+      pub short-refused : length out < size → Answers edition statement root n t out 7 out
       unfolding headRow headWritten
       short-refused h =
           let short = lt-ltb (length out) (fileSize n t) (rw is at h) in
           (rw (d, c, short), rw (d, c, short))
 
-      pub head-written : (after : List ℕ) → size ≤ length out → after ≡ written out 0 (head statement root n t)
-          → Answers statement root n t out 0 after
+      pub head-written : (after : List ℕ) → size ≤ length out → after ≡ written out 0 (head edition statement root n t)
+          → Answers edition statement root n t out 0 after
       unfolding headRow headWritten
       head-written after h e =
           let enough = le-ltb (length out) (fileSize n t) (rw is at h) in

@@ -12,9 +12,9 @@ use Rattle.sha256.specs.Digest.{digest}
 abbrev pub challengeWord : List ℕ
 challengeWord = 99 ∷ 104 ∷ 97 ∷ 108 ∷ 108 ∷ 101 ∷ 110 ∷ 103 ∷ 101 ∷ []
 
--- 'the statement, then the nine ASCII bytes `challenge`, then the root, then i in 4 bytes big-endian'
-unfoldable pub challengeInput : List ℕ → List ℕ → ℕ → List ℕ
-challengeInput statement root i = statement ++ challengeWord ++ root ++ bigEndian 4 i
+-- By the edition and the depth: 'the statement, then the nine ASCII bytes `challenge`, then the root, then i in 4 bytes big-endian'
+unfoldable pub challengeInput : ℕ → ℕ → List ℕ → List ℕ → ℕ → List ℕ
+challengeInput edition n statement root i = statement ++ challengeWord ++ root ++ bigEndian 4 i
 
 -- the number that bytes stand for, highest first
 unfoldable pub bigEndianValue : List ℕ → ℕ
@@ -22,13 +22,13 @@ bigEndianValue [] = 0
 bigEndianValue (byte ∷ bytes) = byte * 256 ^ length bytes + bigEndianValue bytes
 
 -- 'The first n bits of the result are the leaf's position.'
-unfoldable pub challengeLeaf : ℕ → List ℕ → List ℕ → ℕ → ℕ
-challengeLeaf n statement root i = bigEndianValue (digest (challengeInput statement root i)) / 2 ^ (256 - n)
+unfoldable pub challengeLeaf : ℕ → ℕ → List ℕ → List ℕ → ℕ → ℕ
+challengeLeaf edition n statement root i = bigEndianValue (digest (challengeInput edition n statement root i)) / 2 ^ (256 - n)
 
 -- row 'A challenge': 1; 8: i not 1..200
 unfoldable pub challengeRow : ℕ → ℕ → ℕ
 challengeRow n i = firstOf ((outside 1 maxDepth n, 1) ∷ (outside 1 maxChallenges i, 8) ∷ [])
 
 -- the leaf answered: 0 where it is refused
-unfoldable pub challenged : ℕ → List ℕ → List ℕ → ℕ → ℕ
-challenged n statement root i = pick (isDone (challengeRow n i)) (challengeLeaf n statement root i) 0
+unfoldable pub challenged : ℕ → ℕ → List ℕ → List ℕ → ℕ → ℕ
+challenged edition n statement root i = pick (isDone (challengeRow n i)) (challengeLeaf edition n statement root i) 0

@@ -6,6 +6,7 @@ use lib.Dec.{ltb, eqb}
 use lib.ListN.{length}
 use Rattle.base.specs.Choice.{pick, both}
 use Rattle.base.specs.Lists.{sameBytes}
+use Rattle.base.specs.Limits as limits
 use Rattle.refusal.specs.Row.{isDone}
 use Rattle.proof_file.specs.Challenge.{challengeLeaf}
 use Rattle.proof_file.specs.Head.{HeadAnswer, numbers, notRead, headOf, lengthFrom, statementAt, rootAt, openingAt}
@@ -19,14 +20,14 @@ foundIn opening number = 256 * number + opening
 abbrev pub opened : ℕ → ℕ → ℕ → ℕ
 opened row i next = pick (isDone row) next (foundIn i row)
 
--- 'per opening 14, 15': `left` openings from number i on; 0 if all are right
-unfoldable pub openingsFrom : List ℕ → ℕ → ℕ → ℕ → ℕ → ℕ
-openingsFrom bytes n at i zero = 0
-openingsFrom bytes n at i (suc left) =
+-- By an edition's rule, 'per opening 14, 15': `left` openings from number i on; 0 if all are right
+unfoldable pub openingsFrom : ℕ → List ℕ → ℕ → ℕ → ℕ → ℕ → ℕ
+openingsFrom edition bytes n at i zero = 0
+openingsFrom edition bytes n at i (suc left) =
     let statement : List ℕ = statementAt bytes at in
     let root : List ℕ = rootAt bytes at in
-    let leaf : ℕ = challengeLeaf n statement root i in
-    opened (rightRow statement n leaf root (openingAt bytes n at i)) i (openingsFrom bytes n at (i + 1) left)
+    let leaf : ℕ = challengeLeaf edition n statement root i in
+    opened (rightRow edition statement n leaf root (openingAt bytes n at i)) i (openingsFrom edition bytes n at (i + 1) left)
 
 -- 9: statement, n or t not those wanted
 abbrev pub wanted : List ℕ → ℕ → ℕ → List ℕ → ℕ → ℕ → Bool
@@ -38,7 +39,7 @@ fileRest bytes statement n t (notRead r) = foundIn 0 r
 fileRest bytes statement n t (numbers n′ t′ at) =
     pick (ltb (length bytes) (lengthFrom n′ t′ at)) (foundIn 0 10)
     (pick (ltb (lengthFrom n′ t′ at) (length bytes)) (foundIn 0 13)
-    (pick (not (wanted (statementAt bytes at) n′ t′ statement n t)) (foundIn 0 9) (openingsFrom bytes n′ at 1 t′)))
+    (pick (not (wanted (statementAt bytes at) n′ t′ statement n t)) (foundIn 0 9) (openingsFrom limits.edition bytes n′ at 1 t′)))
 
 -- the answer as one number, 0 if accepted
 unfoldable pub fileCheck : List ℕ → List ℕ → ℕ → ℕ → ℕ

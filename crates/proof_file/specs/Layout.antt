@@ -5,7 +5,7 @@ use lib.Dec.{ltb}
 use lib.ListN.{length}
 use Rattle.base.specs.Choice.{pick}
 use Rattle.base.specs.Bytes.{joined, written}
-use Rattle.base.specs.Limits.{maxDepth, maxChallenges, edition}
+use Rattle.base.specs.Limits.{maxDepth, maxChallenges}
 use Rattle.refusal.specs.Row.{firstOf, outside, isDone}
 use Rattle.tree.specs.Openings.{openingSize}
 use Rattle.groups.specs.Groups.{groups}
@@ -15,15 +15,16 @@ abbrev pub numberGroups : ℕ
 numberGroups = 2
 
 -- the three numbers
-unfoldable pub headNumbers : ℕ → ℕ → List ℕ
-headNumbers n t = groups numberGroups edition ++ groups numberGroups n ++ groups numberGroups t
+unfoldable pub headNumbers : ℕ → ℕ → ℕ → List ℕ
+headNumbers edition n t = groups numberGroups edition ++ groups numberGroups n ++ groups numberGroups t
 
 -- 'The head is all before the openings.'
-unfoldable pub head : List ℕ → List ℕ → ℕ → ℕ → List ℕ
-head statement root n t = headNumbers n t ++ statement ++ root
+unfoldable pub head : ℕ → List ℕ → List ℕ → ℕ → ℕ → List ℕ
+head edition statement root n t = headNumbers edition n t ++ statement ++ root
 
+-- its size: an edition takes one byte
 abbrev pub headSize : ℕ → ℕ → ℕ
-headSize n t = length (headNumbers n t) + 64
+headSize n t = 1 + length (groups numberGroups n) + length (groups numberGroups t) + 64
 
 -- where opening i begins, from 1, in a file whose openings begin at a place
 abbrev pub openingFrom : ℕ → ℕ → ℕ → ℕ
@@ -33,8 +34,8 @@ unfoldable pub fileSize : ℕ → ℕ → ℕ
 fileSize n t = headSize n t + t * openingSize n
 
 -- the file over its openings, each as bytes
-unfoldable pub file : List ℕ → List ℕ → ℕ → ℕ → List (List ℕ) → List ℕ
-file statement root n t openings = head statement root n t ++ joined openings
+unfoldable pub file : ℕ → List ℕ → List ℕ → ℕ → ℕ → List (List ℕ) → List ℕ
+file edition statement root n t openings = head edition statement root n t ++ joined openings
 
 -- row 'Writing the file's head': 1; 8: t not 1..200; 7: less than the whole file fits
 unfoldable pub headRow : ℕ → ℕ → ℕ → ℕ
@@ -42,5 +43,6 @@ headRow n t out =
     firstOf ((outside 1 maxDepth n, 1) ∷ (outside 1 maxChallenges t, 8) ∷ (ltb out (fileSize n t), 7) ∷ [])
 
 -- the bytes after the head is written; as they were where it is refused
-unfoldable pub headWritten : List ℕ → List ℕ → ℕ → ℕ → List ℕ → List ℕ
-headWritten statement root n t out = pick (isDone (headRow n t (length out))) (written out 0 (head statement root n t)) out
+unfoldable pub headWritten : ℕ → List ℕ → List ℕ → ℕ → ℕ → List ℕ → List ℕ
+headWritten edition statement root n t out =
+    pick (isDone (headRow n t (length out))) (written out 0 (head edition statement root n t)) out

@@ -2,10 +2,11 @@
 ghost use mathlib.Core.Path.{_≡_};
 ghost use Prim.Native.Nat.{_<_, _≤_};
 ghost use lib.ListN.{take};
-ghost use Rattle.base.specs.Limits.{maxDepth};
+ghost use Rattle.base.specs.Limits.{edition, maxDepth};
 ghost use Rattle.refusal.specs.Number.{outcomeNumber};
 ghost use Rattle.sha256.specs.Digest.{digest};
 ghost use Rattle.proof_file.specs.Challenge.{challengeInput, bigEndianValue, challengeLeaf, challengeRow, challenged};
+use base::EDITION;
 use base::MAX_CHALLENGES;
 use base::MAX_DEPTH;
 use base::big_endian;
@@ -22,8 +23,8 @@ pub struct Challenged {
 }
 
 // The hash of challenge i: over the statement, the word, the root and i in 4 bytes.
-fn challenge_hash(statement: [u8; 32], root: [u8; 32], i: u64) -> [u8; 32]
-    ensures { λ r. ⌜ r ≡ digest (challengeInput statement root i) ⌝ }
+fn challenge_hash(edition: u64, depth: u64, statement: [u8; 32], root: [u8; 32], i: u64) -> [u8; 32]
+    ensures { λ r. ⌜ r ≡ digest (challengeInput edition depth statement root i) ⌝ }
 {
     let number = big_endian(i);
     let mut input = [0u8; 77];
@@ -49,18 +50,18 @@ fn first_word(bytes: [u8; 32]) -> u64
 }
 
 // The leaf of challenge i at a depth that its callers know.
-pub fn challenge_leaf(depth: u64, statement: [u8; 32], root: [u8; 32], i: u64) -> u64
+pub fn challenge_leaf(edition: u64, depth: u64, statement: [u8; 32], root: [u8; 32], i: u64) -> u64
     requires { ⌜ (1 ≤ depth) × (depth ≤ maxDepth) ⌝ }
-    ensures { λ r. ⌜ r ≡ challengeLeaf depth statement root i ⌝ }
+    ensures { λ r. ⌜ r ≡ challengeLeaf edition depth statement root i ⌝ }
 {
-    let bytes = challenge_hash(statement, root, i);
+    let bytes = challenge_hash(edition, depth, statement, root, i);
     first_word(bytes) >> (64 - depth)
 }
 
 // Challenge i, from 1.
 pub fn challenge(depth: u64, statement: [u8; 32], root: [u8; 32], i: u64) -> Challenged
     ensures { λ r. ⌜ outcomeNumber (r .outcome) ≡ challengeRow depth i ⌝ }
-    ensures { λ r. ⌜ r .leaf ≡ challenged depth statement root i ⌝ }
+    ensures { λ r. ⌜ r .leaf ≡ challenged edition depth statement root i ⌝ }
 {
     if beyond(MAX_DEPTH, depth) {
         return Challenged {
@@ -76,6 +77,6 @@ pub fn challenge(depth: u64, statement: [u8; 32], root: [u8; 32], i: u64) -> Cha
     }
     Challenged {
         outcome: Outcome::Done,
-        leaf: challenge_leaf(depth, statement, root, i),
+        leaf: challenge_leaf(EDITION, depth, statement, root, i),
     }
 }

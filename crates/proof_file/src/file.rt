@@ -11,6 +11,7 @@ use crate::challenges::challenge_leaf;
 use crate::head::read_head;
 use crate::sizes::file_length;
 use crate::sizes::opening_start;
+use base::EDITION;
 use base::label_at;
 use base::same;
 use opening_check::right;
@@ -19,18 +20,25 @@ use refusal::Outcome;
 use refusal::Refusal;
 
 // Each opening in challenge order: 14, 15 with its number.
-fn check_openings(bytes: &[u8], statement: [u8; 32], n: u64, t: u64, at: usize) -> Check
+fn check_openings(
+    bytes: &[u8],
+    edition: u64,
+    statement: [u8; 32],
+    n: u64,
+    t: u64,
+    at: usize,
+) -> Check
     requires { ⌜ (1 ≤ n) × (n ≤ maxDepth) × (t ≤ maxChallenges) × (at ≤ 6) ⌝ }
     requires { ⌜ (length (now bytes) ≡ lengthFrom n t at) × (statement ≡ statementAt (now bytes) at) ⌝ }
-    ensures { λ r. ⌜ codeOf r ≡ openingsFrom (now (bytes .entry)) n at 1 t ⌝ }
+    ensures { λ r. ⌜ codeOf r ≡ openingsFrom edition (now (bytes .entry)) n at 1 t ⌝ }
 {
     let root = label_at(bytes, at + 32);
     let mut i: u64 = 1;
     while i <= t {
-        let leaf = challenge_leaf(n, statement, root, i);
+        let leaf = challenge_leaf(edition, n, statement, root, i);
         let start = opening_start(n, at, i);
         let end = start + 32 * (n + 1) as usize;
-        let outcome = right(statement, n, leaf, root, &bytes[start..end]);
+        let outcome = right(edition, statement, n, leaf, root, &bytes[start..end]);
         match outcome {
             Outcome::Refused(r) => return Check::Rejected(r, i as u8),
             Outcome::Done => {}
@@ -86,7 +94,7 @@ fn check_rest(
     if !is_wanted(bytes, statement, depth, count, n, t, at) {
         return Check::Rejected(Refusal::NotWanted, 0);
     }
-    check_openings(bytes, statement, n, t, at)
+    check_openings(bytes, EDITION, statement, n, t, at)
 }
 
 // The check of a file.

@@ -2,12 +2,13 @@
 ghost use mathlib.Core.Path.{_≡_};
 ghost use Prim.Native.Nat.{_+_, _<_, _≤_};
 ghost use lib.ListN.{length};
-ghost use Rattle.base.specs.Limits.{maxDepth, maxChallenges};
+ghost use Rattle.base.specs.Limits.{edition, maxDepth, maxChallenges};
 ghost use Rattle.base.specs.Bytes.{written};
 ghost use Rattle.refusal.specs.Number.{outcomeNumber};
 ghost use Rattle.groups.specs.Groups.{groups};
 ghost use Rattle.proof_file.specs.Layout.{headNumbers, head, headSize, fileSize, headRow, headWritten};
 use crate::sizes::file_length;
+use base::EDITION;
 use base::MAX_CHALLENGES;
 use base::MAX_DEPTH;
 use base::put;
@@ -37,22 +38,22 @@ fn put_number(x: u64, out: &mut [u8], at: usize) -> usize
 }
 
 // Writes the three numbers over the front of `out`. Where they end.
-fn put_numbers(n: u64, t: u64, out: &mut [u8]) -> usize
-    requires { ⌜ (n ≤ maxDepth) × (t ≤ maxChallenges) × (length (headNumbers n t) ≤ length (now out)) ⌝ }
-    ensures { λ r. ⌜ r ≡ length (headNumbers n t) ⌝ }
-    ensures { λ _. ⌜ now (out .exit) ≡ written (now (out .entry)) 0 (headNumbers n t) ⌝ }
+fn put_numbers(edition: u64, n: u64, t: u64, out: &mut [u8]) -> usize
+    requires { ⌜ (edition < 128) × (n ≤ maxDepth) × (t ≤ maxChallenges) × (length (headNumbers edition n t) ≤ length (now out)) ⌝ }
+    ensures { λ r. ⌜ r ≡ length (headNumbers edition n t) ⌝ }
+    ensures { λ _. ⌜ now (out .exit) ≡ written (now (out .entry)) 0 (headNumbers edition n t) ⌝ }
 {
-    let first = put_number(1, out, 0);
+    let first = put_number(edition, out, 0);
     let second = put_number(n, out, first);
     put_number(t, out, second)
 }
 
 // Writes the head over the front of `out`. Its callers know that it fits.
-fn put_head(statement: [u8; 32], root: [u8; 32], n: u64, t: u64, out: &mut [u8])
-    requires { ⌜ (n ≤ maxDepth) × (t ≤ maxChallenges) × (headSize n t ≤ length (now out)) ⌝ }
-    ensures { λ _. ⌜ now (out .exit) ≡ written (now (out .entry)) 0 (head statement root n t) ⌝ }
+fn put_head(edition: u64, statement: [u8; 32], root: [u8; 32], n: u64, t: u64, out: &mut [u8])
+    requires { ⌜ (edition < 128) × (n ≤ maxDepth) × (t ≤ maxChallenges) × (headSize n t ≤ length (now out)) ⌝ }
+    ensures { λ _. ⌜ now (out .exit) ≡ written (now (out .entry)) 0 (head edition statement root n t) ⌝ }
 {
-    let at = put_numbers(n, t, out);
+    let at = put_numbers(edition, n, t, out);
     put(out, at, &statement);
     put(out, at + 32, &root);
 }
@@ -66,7 +67,7 @@ pub fn write_head(
     out: &mut [u8],
 ) -> Outcome
     ensures { λ r. ⌜ outcomeNumber r ≡ headRow depth count (length (now (out .entry))) ⌝ }
-    ensures { λ _. ⌜ now (out .exit) ≡ headWritten statement root depth count (now (out .entry)) ⌝ }
+    ensures { λ _. ⌜ now (out .exit) ≡ headWritten edition statement root depth count (now (out .entry)) ⌝ }
 {
     if beyond(MAX_DEPTH, depth) {
         return Outcome::Refused(Refusal::Depth);
@@ -77,6 +78,6 @@ pub fn write_head(
     if out.len() < file_size(depth, count) {
         return Outcome::Refused(Refusal::ShortOutput);
     }
-    put_head(statement, root, depth, count, out);
+    put_head(EDITION, statement, root, depth, count, out);
     Outcome::Done
 }

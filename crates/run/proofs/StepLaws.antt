@@ -6,7 +6,7 @@ use native.Mathlib.Nat.{add-zero}
 use native.Mathlib.Omega.{arith}
 use borrow.Author.Tests.{le-leb, lt-leb}
 use lib.Pow.{pow-mono}
-use Rattle.base.specs.Limits.{maxDepth}
+use Rattle.base.specs.Limits.{edition, maxDepth}
 use Rattle.base.specs.Bytes.{written}
 use Rattle.machine.proofs.StepLaws as machines
 use Rattle.machine.proofs.StepLaws.{step-last}
@@ -40,7 +40,7 @@ abbrev pub state : List ℕ → ℕ → ℕ → ℕ → List ℕ → List ℕ �
 state statement n m made held store = stamped (runOf statement n m made held) store
 
 pub one-step : (statement : List ℕ) (n m made : ℕ) (held store : List ℕ) (l p : ℕ) (label held' store' : List ℕ)
-    → node l p ≡ nextNode n root made → label ≡ nextLabel statement n root [] held made
+    → node l p ≡ nextNode n root made → label ≡ nextLabel edition statement n root [] held made
     → held' ≡ heldWith n root held (node l p) label → store' ≡ stored m store (node l p) label
     → (held' ≡ stepped (state statement n m made held store) .run .held)
     × (store' ≡ stepped (state statement n m made held store) .store)

@@ -3,7 +3,7 @@ use Prim.Native.Nat.{ℕ, _+_, _-_}
 use mathlib.Core.List.{List, []}
 use lib.Dec.{leb}
 use lib.ListN.{length}
-use Rattle.base.specs.Limits.{heldSize}
+use Rattle.base.specs.Limits.{edition, heldSize}
 use Rattle.base.specs.Choice.{pick}
 use Rattle.base.specs.Bytes.{zeros, written}
 use Rattle.refusal.specs.Row.{isDone}
@@ -49,7 +49,7 @@ unfoldable pub stepped : Stamped → Stamped
 stepped s =
     let r : Run = s .run in
     let w : Node = nextNode (r .depth) root (r .made) in
-    let label : Label = nextLabel (r .statement) (r .depth) root [] (r .held) (r .made) in
+    let label : Label = nextLabel edition (r .statement) (r .depth) root [] (r .held) (r .made) in
     record {
       run =
           record {

@@ -8,6 +8,7 @@ ghost use Rattle.tree.specs.Walk.{nodesIn};
 ghost use Rattle.tree.specs.Store.{storeSize};
 ghost use Rattle.run.specs.Steps.{runOf, stamped, stored, stepped, steps};
 use crate::Run;
+use base::EDITION;
 use base::put;
 use label::Labelled;
 use label::label_next;
@@ -37,7 +38,7 @@ fn label_one(
     ensures { λ _. ⌜ now (held .exit) ≡ stepped (stamped (runOf statement depth memory made (now (held .entry))) (now (store .entry))) .run .held ⌝ }
     ensures { λ _. ⌜ now (store .exit) ≡ stepped (stamped (runOf statement depth memory made (now (held .entry))) (now (store .entry))) .store ⌝ }
 {
-    let w = label_next(statement, depth, 0, 0, b"", held, made);
+    let w = label_next(EDITION, statement, depth, 0, 0, b"", held, made);
     keep(store, memory, w);
 }
 

@@ -4,6 +4,7 @@ use Prim.Native.Nat.{ℕ, _≤_, _<_, _^_}
 use native.Mathlib.Omega.{arith}
 use mathlib.Core.List.{List, _++_}
 use lib.ListN.{length, drop}
+use Rattle.base.specs.Limits.{edition}
 use Rattle.machine.specs.Calls.{total, afterCalls}
 use Rattle.tree.specs.Walk.{nodesIn}
 use Rattle.tree.specs.Openings.{openingNodes, openingSize}
@@ -22,20 +23,20 @@ module _ (statement : List ℕ) (n m : ℕ) (store : List ℕ) (startable : Star
   abbrev pub finishedStore : List ℕ
   finishedStore = steps (nodesIn n) (atStart statement n m store) .store
 
-  pub finished-holds : HoldsLabels statement n m finishedStore
+  pub finished-holds : HoldsLabels edition statement n m finishedStore
   finished-holds u inTree =
       finished-store statement n m store startable u (omega (arith, startable .memory, inTree .0), inTree .1) (inTree .0)
 
   pub finished-length : length finishedStore ≡ length store
   finished-length =
       ap (λ (s : Stamped). length (s .store)) (run-reached statement n m store (startable .shallow) (nodesIn n) (omega arith))
-      ∙ store-length statement n m store (startable .enough) (nodesIn n) (omega arith)
+      ∙ store-length edition statement n m store (startable .enough) (nodesIn n) (omega arith)
 
   -- Over that store, untouched, any budgets that suffice write the tree's opening, and no byte behind it.
   pub finished-opening :
       (leaf : ℕ) (out : List ℕ) → leaf < 2 ^ n → openingSize n ≤ length out → (budgets : List ℕ) → nodesAnew n m ≤ total budgets
       → afterCalls (opening.advanced finishedStore) (newOpen statement n m leaf finishedStore out) budgets .out
-      ≡ labelsOf statement n (openingNodes n leaf) ++ drop (openingSize n) out
+      ≡ labelsOf edition statement n (openingNodes n leaf) ++ drop (openingSize n) out
   finished-opening leaf out inside room budgets enough =
       opening-carried statement n m leaf finishedStore out
       (record {

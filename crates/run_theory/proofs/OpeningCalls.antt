@@ -9,7 +9,7 @@ use lib.Dec.{ltb, leb}
 use lib.ListN.{length, drop}
 use borrow.Author.Tests.{ltb-false, leb-true, leb-false, not-false, le-ltb, le-leb, lt-leb}
 use Rattle.base.specs.Choice.{both}
-use Rattle.base.specs.Limits.{maxDepth, maxMemory}
+use Rattle.base.specs.Limits.{edition, maxDepth, maxMemory}
 use Rattle.base.proofs.ChoiceLaws.{both-first, both-second}
 use Rattle.refusal.proofs.RowLaws.{NoneHolds, none-holds}
 use Rattle.refusal.specs.Row.{outside, memoryOver}
@@ -98,14 +98,14 @@ module _
   -- no call is refused
   pub opening-goes-on :
       (k : ℕ) → k ≤ nodesAnew n m
-      → reopenRow (openingAfter statement n m leaf k) (length store) (length (outAfter statement n m leaf k out)) ≡ 0
+      → reopenRow (openingAfter edition statement n m leaf k) (length store) (length (outAfter edition statement n m leaf k out)) ≡ 0
   opening-goes-on k few =
-      rw (length-after statement n m leaf out (fits .depth .0) memory-le (fits .outFits) k few)
-      (reopen-fits (openingAfter statement n m leaf k) (length store) (length out) fits few)
+      rw (length-after edition statement n m leaf out (fits .depth .0) memory-le (fits .outFits) k few)
+      (reopen-fits (openingAfter edition statement n m leaf k) (length store) (length out) fits few)
 
-  module _ (holds : HoldsLabels statement n m store) where
+  module _ (holds : HoldsLabels edition statement n m store) where
     reached :
-        (k : ℕ) → k ≤ nodesAnew n m → steps store k (newOpen statement n m leaf store out) ≡ openAfter statement n m leaf k out
+        (k : ℕ) → k ≤ nodesAnew n m → steps store k (newOpen statement n m leaf store out) ≡ openAfter edition statement n m leaf k out
     reached = opening-reached statement n m leaf store out holds (fits .depth .1) memory-le (fits .position)
 
     -- what remains falls by one with each label: the laws of calls hold of it
@@ -122,7 +122,7 @@ module _
     pub opening-calls :
         (budgets : List ℕ)
         → afterCalls (advanced store) (newOpen statement n m leaf store out) budgets
-        ≡ openAfter statement n m leaf (min (total budgets) (nodesAnew n m)) out
+        ≡ openAfter edition statement n m leaf (min (total budgets) (nodesAnew n m)) out
     opening-calls budgets =
         calls-state (openingMachine store) (newOpen statement n m leaf store out) (nodesAnew n m) opening-goes budgets
         ∙ reached (min (total budgets) (nodesAnew n m)) (omega arith)
@@ -131,20 +131,20 @@ module _
     pub opening-carried :
         (budgets : List ℕ) → nodesAnew n m ≤ total budgets
         → afterCalls (advanced store) (newOpen statement n m leaf store out) budgets .out
-        ≡ labelsOf statement n (openingNodes n leaf) ++ drop (openingSize n) out
+        ≡ labelsOf edition statement n (openingNodes n leaf) ++ drop (openingSize n) out
     opening-carried budgets enough =
         let all : min (total budgets) (nodesAnew n m) ≡ nodesAnew n m = omega arith in
         ap (λ (s : Open). s .out) (opening-calls budgets)
-        ∙ rw all (opening-done statement n m leaf out (fits .depth .0) memory-le (fits .outFits))
+        ∙ rw all (opening-done edition statement n m leaf out (fits .depth .0) memory-le (fits .outFits))
 
 -- with all levels in the store nothing is labelled anew, and the start alone gives the opening
 pub none-anew : (n : ℕ) → nodesAnew n n ≡ 0
 none-anew n = rw (sub-self n)
 
 pub opening-copied :
-    (statement : List ℕ) (n leaf : ℕ) (store out : List ℕ) → HoldsLabels statement n n store → 1 ≤ n → leaf < 2 ^ n
+    (statement : List ℕ) (n leaf : ℕ) (store out : List ℕ) → HoldsLabels edition statement n n store → 1 ≤ n → leaf < 2 ^ n
     → openingSize n ≤ length out
-    → copiedAll n n leaf store out ≡ labelsOf statement n (openingNodes n leaf) ++ drop (openingSize n) out
+    → copiedAll n n leaf store out ≡ labelsOf edition statement n (openingNodes n leaf) ++ drop (openingSize n) out
 opening-copied statement n leaf store out holds deep inside fits =
-    ap (λ (s : Open). s .out) (opening-start statement n n leaf store holds inside out (omega arith))
-    ∙ rw none-anew at (opening-done statement n n leaf out deep (omega arith) fits)
+    ap (λ (s : Open). s .out) (opening-start edition statement n n leaf store holds inside out (omega arith))
+    ∙ rw none-anew at (opening-done edition statement n n leaf out deep (omega arith) fits)

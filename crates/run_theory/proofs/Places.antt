@@ -96,95 +96,95 @@ pick-twice true false x y = refl
 pick-twice false true x y = refl
 pick-twice false false x y = refl
 
-module _ (statement : List ℕ) (n leaf : ℕ) where
+module _ (edition : ℕ) (statement : List ℕ) (n leaf : ℕ) where
   module _ (out : List ℕ) (fits : openingSize n ≤ length out) (w : Node) (low : 1 ≤ w .level) (high : w .level ≤ n) where
-    length-placed : length (placed n leaf out w (labelOf statement n w)) ≡ length out
-    length-placed = go (placing n leaf out w (labelOf statement n w) low high)
+    length-placed : length (placed n leaf out w (labelOf edition statement n w)) ≡ length out
+    length-placed = go (placing n leaf out w (labelOf edition statement n w) low high)
       where
-        go : Placing n leaf out w (labelOf statement n w) → length (placed n leaf out w (labelOf statement n w)) ≡ length out
+        go : Placing n leaf out w (labelOf edition statement n w) → length (placed n leaf out w (labelOf edition statement n w)) ≡ length out
         go (kept e) = ap length e
         go (put j small e f) =
-            ap length f ∙ length-written out (32 * j) (labelOf statement n w) (omega (arith, label-size statement n w))
+            ap length f ∙ length-written out (32 * j) (labelOf edition statement n w) (omega (arith, label-size edition statement n w))
 
-    beyond-placed : drop (openingSize n) (placed n leaf out w (labelOf statement n w)) ≡ drop (openingSize n) out
-    beyond-placed = go (placing n leaf out w (labelOf statement n w) low high)
+    beyond-placed : drop (openingSize n) (placed n leaf out w (labelOf edition statement n w)) ≡ drop (openingSize n) out
+    beyond-placed = go (placing n leaf out w (labelOf edition statement n w) low high)
       where
         go :
-            Placing n leaf out w (labelOf statement n w)
-            → drop (openingSize n) (placed n leaf out w (labelOf statement n w)) ≡ drop (openingSize n) out
+            Placing n leaf out w (labelOf edition statement n w)
+            → drop (openingSize n) (placed n leaf out w (labelOf edition statement n w)) ≡ drop (openingSize n) out
         go (kept e) = ap (drop (openingSize n)) e
         go (put j small e f) =
             ap (drop (openingSize n)) f
-            ∙ written-behind out (labelOf statement n w) (32 * j) (openingSize n)
-            (omega (arith, label-size statement n w)) (omega (arith, label-size statement n w))
+            ∙ written-behind out (labelOf edition statement n w) (32 * j) (openingSize n)
+            (omega (arith, label-size edition statement n w)) (omega (arith, label-size edition statement n w))
 
     cell-placed :
         (i : ℕ) → i ≤ n
-        → cell (placed n leaf out w (labelOf statement n w)) i
-        ≡ pick (sameNode (openingNode n leaf i) w) (labelOf statement n (openingNode n leaf i)) (cell out i)
+        → cell (placed n leaf out w (labelOf edition statement n w)) i
+        ≡ pick (sameNode (openingNode n leaf i) w) (labelOf edition statement n (openingNode n leaf i)) (cell out i)
     cell-placed i small = go (sameNode (openingNode n leaf i) w) refl
       where
         other :
-            sameNode (openingNode n leaf i) w ≡ false → Placing n leaf out w (labelOf statement n w)
-            → cell (placed n leaf out w (labelOf statement n w)) i ≡ cell out i
+            sameNode (openingNode n leaf i) w ≡ false → Placing n leaf out w (labelOf edition statement n w)
+            → cell (placed n leaf out w (labelOf edition statement n w)) i ≡ cell out i
         other differ (kept e) = ap (λ o. cell o i) e
         other differ (put j le e f) =
             ap (λ o. cell o i) f
-            ∙ cell-other out (labelOf statement n w) (label-size statement n w) j (omega arith) i
+            ∙ cell-other out (labelOf edition statement n w) (label-size edition statement n w) j (omega arith) i
             (λ same. true-not-false (rw (same, e) (sameNode-refl w)) differ)
 
         go :
             (t : Bool) → sameNode (openingNode n leaf i) w ≡ t
-            → cell (placed n leaf out w (labelOf statement n w)) i
-            ≡ pick (sameNode (openingNode n leaf i) w) (labelOf statement n (openingNode n leaf i)) (cell out i)
+            → cell (placed n leaf out w (labelOf edition statement n w)) i
+            ≡ pick (sameNode (openingNode n leaf i) w) (labelOf edition statement n (openingNode n leaf i)) (cell out i)
         go true e =
             let u : Node = openingNode n leaf i in
             let same : u ≡ w = sameNode-true u w e in
             rw (e, ← same)
-            (ap (λ o. cell o i) (placed-at n leaf out (labelOf statement n u) i small)
-            ∙ cell-here out (labelOf statement n u) (label-size statement n u) i (omega arith))
-        go false e = rw e (other e (placing n leaf out w (labelOf statement n w) low high))
+            (ap (λ o. cell o i) (placed-at n leaf out (labelOf edition statement n u) i small)
+            ∙ cell-here out (labelOf edition statement n u) (label-size edition statement n u) i (omega arith))
+        go false e = rw e (other e (placing n leaf out w (labelOf edition statement n w) low high))
 
   pub outWith-append :
       (xs ys : List Node) (out : List ℕ)
-      → outWith statement n leaf (xs ++ ys) out ≡ outWith statement n leaf ys (outWith statement n leaf xs out)
+      → outWith edition statement n leaf (xs ++ ys) out ≡ outWith edition statement n leaf ys (outWith edition statement n leaf xs out)
   unfolding outWith
   outWith-append [] ys out = refl
-  outWith-append (w ∷ xs) ys out = outWith-append xs ys (placed n leaf out w (labelOf statement n w))
+  outWith-append (w ∷ xs) ys out = outWith-append xs ys (placed n leaf out w (labelOf edition statement n w))
 
   pub length-with :
       (ns : List Node) (out : List ℕ) → Within n ns → openingSize n ≤ length out
-      → length (outWith statement n leaf ns out) ≡ length out
+      → length (outWith edition statement n leaf ns out) ≡ length out
   unfolding outWith
   length-with [] out within fits = refl
   length-with (w ∷ ws) out within fits =
       let here : (1 ≤ w .level) × (w .level ≤ n) = within w (among-here w ws) in
-      let same : length (placed n leaf out w (labelOf statement n w)) ≡ length out = length-placed out fits w (here .0) (here .1) in
-      length-with ws (placed n leaf out w (labelOf statement n w)) (λ u a. within u (among-there w ws u a)) (omega arith) ∙ same
+      let same : length (placed n leaf out w (labelOf edition statement n w)) ≡ length out = length-placed out fits w (here .0) (here .1) in
+      length-with ws (placed n leaf out w (labelOf edition statement n w)) (λ u a. within u (among-there w ws u a)) (omega arith) ∙ same
 
   -- no byte behind the opening changes
   pub beyond-with :
       (ns : List Node) (out : List ℕ) → Within n ns → openingSize n ≤ length out
-      → drop (openingSize n) (outWith statement n leaf ns out) ≡ drop (openingSize n) out
+      → drop (openingSize n) (outWith edition statement n leaf ns out) ≡ drop (openingSize n) out
   unfolding outWith
   beyond-with [] out within fits = refl
   beyond-with (w ∷ ws) out within fits =
       let here : (1 ≤ w .level) × (w .level ≤ n) = within w (among-here w ws) in
-      let same : length (placed n leaf out w (labelOf statement n w)) ≡ length out = length-placed out fits w (here .0) (here .1) in
-      beyond-with ws (placed n leaf out w (labelOf statement n w)) (λ u a. within u (among-there w ws u a)) (omega arith)
+      let same : length (placed n leaf out w (labelOf edition statement n w)) ≡ length out = length-placed out fits w (here .0) (here .1) in
+      beyond-with ws (placed n leaf out w (labelOf edition statement n w)) (λ u a. within u (among-there w ws u a)) (omega arith)
       ∙ beyond-placed out fits w (here .0) (here .1)
 
   -- each place holds its node's label if that is among the nodes, and else what it held
   pub cell-with :
       (ns : List Node) (out : List ℕ) → Within n ns → openingSize n ≤ length out → (i : ℕ) → i ≤ n
-      → cell (outWith statement n leaf ns out) i
-      ≡ pick (among ns (openingNode n leaf i)) (labelOf statement n (openingNode n leaf i)) (cell out i)
+      → cell (outWith edition statement n leaf ns out) i
+      ≡ pick (among ns (openingNode n leaf i)) (labelOf edition statement n (openingNode n leaf i)) (cell out i)
   unfolding outWith among
   cell-with [] out within fits i small = refl
   cell-with (w ∷ ws) out within fits i small =
       let here : (1 ≤ w .level) × (w .level ≤ n) = within w (among-here w ws) in
-      let same : length (placed n leaf out w (labelOf statement n w)) ≡ length out = length-placed out fits w (here .0) (here .1) in
+      let same : length (placed n leaf out w (labelOf edition statement n w)) ≡ length out = length-placed out fits w (here .0) (here .1) in
       let u : Node = openingNode n leaf i in
-      cell-with ws (placed n leaf out w (labelOf statement n w)) (λ x a. within x (among-there w ws x a)) (omega arith) i small
-      ∙ ap (λ c. pick (among ws u) (labelOf statement n u) c) (cell-placed out fits w (here .0) (here .1) i small)
-      ∙ pick-twice (among ws u) (sameNode u w) (labelOf statement n u) (cell out i)
+      cell-with ws (placed n leaf out w (labelOf edition statement n w)) (λ x a. within x (among-there w ws x a)) (omega arith) i small
+      ∙ ap (λ c. pick (among ws u) (labelOf edition statement n u) c) (cell-placed out fits w (here .0) (here .1) i small)
+      ∙ pick-twice (among ws u) (sameNode u w) (labelOf edition statement n u) (cell out i)

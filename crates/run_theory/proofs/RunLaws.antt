@@ -6,7 +6,7 @@ use native.Mathlib.Nat.{zero-add}
 use native.Mathlib.Omega.{arith}
 use mathlib.Core.List.{List, [], _++_}
 use lib.ListN.{length, take, drop}
-use Rattle.base.specs.Limits.{maxDepth, heldSize}
+use Rattle.base.specs.Limits.{edition, maxDepth, heldSize}
 use Rattle.base.specs.Bytes.{zeros, joined}
 use Rattle.machine.specs.Machines.{Goes}
 use Rattle.machine.specs.Calls.{total}
@@ -33,47 +33,47 @@ advanced-zero s = advanced-idle runMachine s 0 (inl refl)
 module _ (statement : List ℕ) (n m : ℕ) (store : List ℕ) (shallow : n ≤ maxDepth) where
   next-root :
       (k : ℕ) → k < nodesIn n
-      → nextLabel statement n root [] (heldBytes statement n n root k) k ≡ labelOf statement n (nextNode n root k)
+      → nextLabel edition statement n root [] (heldBytes edition statement n n root k) k ≡ labelOf edition statement n (nextNode n root k)
   unfolding leftSiblings joined
-  next-root k small = next-label statement n n k root (zero-add n) shallow small
+  next-root k small = next-label edition statement n n k root (zero-add n) shallow small
 
-  stepped-reached : (k : ℕ) → k < nodesIn n → stepped (reachedAt statement n m store k) ≡ reachedAt statement n m store (k + 1)
+  stepped-reached : (k : ℕ) → k < nodesIn n → stepped (reachedAt edition statement n m store k) ≡ reachedAt edition statement n m store (k + 1)
   unfolding stepped
   stepped-reached k small =
-      rw (next-root k small, next-held statement n n k root (zero-add n) shallow small, ← store-step statement n m k store small)
+      rw (next-root k small, next-held edition statement n n k root (zero-add n) shallow small, ← store-step edition statement n m k store small)
 
-  start-reached : atStart statement n m store ≡ reachedAt statement n m store 0
+  start-reached : atStart statement n m store ≡ reachedAt edition statement n m store 0
   unfolding atStart
   start-reached =
       λ i.
       record {
-        run = record { statement = statement; depth = n; memory = m; made = 0; held = sym (held-none statement n n root) i };
-        store = sym (store-start statement n m store) i;
+        run = record { statement = statement; depth = n; memory = m; made = 0; held = sym (held-none edition statement n n root) i };
+        store = sym (store-start edition statement n m store) i;
       }
 
-  pub run-reached : (k : ℕ) → k ≤ nodesIn n → steps k (atStart statement n m store) ≡ reachedAt statement n m store k
+  pub run-reached : (k : ℕ) → k ≤ nodesIn n → steps k (atStart statement n m store) ≡ reachedAt edition statement n m store k
   unfolding runMachine
-  run-reached = steps-reach runMachine (reachedAt statement n m store) (nodesIn n) (atStart statement n m store) start-reached stepped-reached
+  run-reached = steps-reach runMachine (reachedAt edition statement n m store) (nodesIn n) (atStart statement n m store) start-reached stepped-reached
 
   -- a finished run: it has made 2^(n+1) − 1 labels and holds the root's alone
   pub finished-made : steps (nodesIn n) (atStart statement n m store) .run .made ≡ 2 ^ (n + 1) - 1
   unfolding nodesIn
   finished-made = ap (λ (s : Stamped). s .run .made) (run-reached (nodesIn n) (omega arith))
 
-  finished-bytes : steps (nodesIn n) (atStart statement n m store) .run .held ≡ heldBytes statement n n root (nodesIn n)
+  finished-bytes : steps (nodesIn n) (atStart statement n m store) .run .held ≡ heldBytes edition statement n n root (nodesIn n)
   finished-bytes = ap (λ (s : Stamped). s .run .held) (run-reached (nodesIn n) (omega arith))
 
-  pub finished-held : steps (nodesIn n) (atStart statement n m store) .run .held ≡ labelOf statement n root ++ zeros (heldSize - 32)
-  finished-held = finished-bytes ∙ held-top statement n n root
+  pub finished-held : steps (nodesIn n) (atStart statement n m store) .run .held ≡ labelOf edition statement n root ++ zeros (heldSize - 32)
+  finished-held = finished-bytes ∙ held-top edition statement n n root
 
 -- ---- the calls of a run whose start was not refused
 module _ (statement : List ℕ) (n m : ℕ) (store : List ℕ) (startable : Startable n m (length store)) where
   continue-at :
       (k : ℕ) → k ≤ nodesIn n
-      → continueRow (runAfter statement n m k) (length (storeAfter statement n m k store)) ≡ 0
+      → continueRow (runAfter edition statement n m k) (length (storeAfter edition statement n m k store)) ≡ 0
   continue-at k small =
-      rw (store-length statement n m store (startable .enough) k small)
-      (continue-done n m (length store) statement k startable small)
+      rw (store-length edition statement n m store (startable .enough) k small)
+      (continue-done n m (length store) edition statement k startable small)
 
   -- no call of it is refused
   pub continue-reached :
@@ -114,10 +114,10 @@ module _ (statement : List ℕ) (n m : ℕ) (store : List ℕ) (startable : Star
   -- and each node of levels 0 to m has its label in its slot
   pub finished-store :
       (u : Node) → InTree n u → u .level ≤ m
-      → take 32 (drop (slot u) (steps (nodesIn n) (atStart statement n m store) .store)) ≡ labelOf statement n u
+      → take 32 (drop (slot u) (steps (nodesIn n) (atStart statement n m store) .store)) ≡ labelOf edition statement n u
   finished-store u inTree low =
       rw (run-reached statement n m store (startable .shallow) (nodesIn n) (omega arith))
-      (store-whole statement n m store (startable .enough) u inTree low)
+      (store-whole edition statement n m store (startable .enough) u inTree low)
 
   -- Budgets cut in any way make as many labels as one call with their sum, and give the same state.
   pub called-cut :

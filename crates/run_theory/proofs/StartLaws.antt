@@ -41,9 +41,10 @@ module _ (n m size : ℕ) where
   started-done statement e = ap (λ o. pick (isDone o) (newRun statement n m) noRun) e
 
   pub continue-done :
-      (statement : List ℕ) (k : ℕ) → Startable n m size → k ≤ nodesIn n → continueRow (runAfter statement n m k) size ≡ 0
+      (edition : ℕ) (statement : List ℕ) (k : ℕ) → Startable n m size → k ≤ nodesIn n
+      → continueRow (runAfter edition statement n m k) size ≡ 0
   unfolding continueRow
-  continue-done statement k s small =
+  continue-done edition statement k s small =
       rw (
         le-leb 1 n (s .positive),
         le-leb n maxDepth (s .shallow),

@@ -24,25 +24,25 @@ use Rattle.run.specs.Steps.{stored}
 use Rattle.run_theory.specs.Reached.{labelOf, storeWith, storeAfter}
 use Rattle.run_theory.proofs.Step.{label-size}
 
-module _ (statement : List ℕ) (n m : ℕ) where
+module _ (edition : ℕ) (statement : List ℕ) (n m : ℕ) where
   storeWith-append :
       (a b : List Node) (store : List ℕ)
-      → storeWith statement n m (a ++ b) store ≡ storeWith statement n m b (storeWith statement n m a store)
+      → storeWith edition statement n m (a ++ b) store ≡ storeWith edition statement n m b (storeWith edition statement n m a store)
   unfolding storeWith
   storeWith-append [] b store = refl
-  storeWith-append (w ∷ a) b store = storeWith-append a b (stored m store w (labelOf statement n w))
+  storeWith-append (w ∷ a) b store = storeWith-append a b (stored m store w (labelOf edition statement n w))
 
   -- one label more
   pub store-step :
       (k : ℕ) (store : List ℕ) → k < nodesIn n
-      → storeAfter statement n m (k + 1) store
-      ≡ stored m (storeAfter statement n m k store) (nextNode n root k) (labelOf statement n (nextNode n root k))
+      → storeAfter edition statement n m (k + 1) store
+      ≡ stored m (storeAfter edition statement n m k store) (nextNode n root k) (labelOf edition statement n (nextNode n root k))
   unfolding storeAfter storeWith labellingOrder
   store-step k store small =
       rw (add-one k, take-suc (labellingOrder n) k root (omega (arith, tree-length n)))
       (storeWith-append (take k (labellingOrder n)) (nextNode n root k ∷ []) store)
 
-  pub store-start : (store : List ℕ) → storeAfter statement n m 0 store ≡ store
+  pub store-start : (store : List ℕ) → storeAfter edition statement n m 0 store ≡ store
   unfolding storeAfter storeWith
   store-start store = refl
 
@@ -62,72 +62,72 @@ module _ (statement : List ℕ) (n m : ℕ) where
 
   -- One label written into a store that is long enough.
   module _ (store : List ℕ) (enough : storeSize m ≤ length store) (w : Node) (inTree : InTree n w) where
-    slot-fits : w .level ≤ m → slot w + length (labelOf statement n w) ≤ length store
-    slot-fits low = omega (arith, slot-inside m w (low, inTree .1), label-size statement n w)
+    slot-fits : w .level ≤ m → slot w + length (labelOf edition statement n w) ≤ length store
+    slot-fits low = omega (arith, slot-inside m w (low, inTree .1), label-size edition statement n w)
 
-    stored-length : length (stored m store w (labelOf statement n w)) ≡ length store
+    stored-length : length (stored m store w (labelOf edition statement n w)) ≡ length store
     stored-length =
-        stored-by (λ s. length s ≡ length store) store w (labelOf statement n w)
-        (λ low. length-written store (slot w) (labelOf statement n w) (slot-fits low)) refl
+        stored-by (λ s. length s ≡ length store) store w (labelOf edition statement n w)
+        (λ low. length-written store (slot w) (labelOf edition statement n w) (slot-fits low)) refl
 
-    stored-here : w .level ≤ m → take 32 (drop (slot w) (stored m store w (labelOf statement n w))) ≡ labelOf statement n w
+    stored-here : w .level ≤ m → take 32 (drop (slot w) (stored m store w (labelOf edition statement n w))) ≡ labelOf edition statement n w
     stored-here low =
         rw (le-leb (w .level) m low)
-        (written-here store (labelOf statement n w) (slot w) (slot-fits low) 32 (label-size statement n w))
+        (written-here store (labelOf edition statement n w) (slot w) (slot-fits low) 32 (label-size edition statement n w))
 
     stored-other :
         (u : Node) → InTree n u → (u ≡ w → ⊥)
-        → take 32 (drop (slot u) (stored m store w (labelOf statement n w))) ≡ take 32 (drop (slot u) store)
+        → take 32 (drop (slot u) (stored m store w (labelOf edition statement n w))) ≡ take 32 (drop (slot u) store)
     stored-other u inTree′ differ =
-        stored-by (λ s. take 32 (drop (slot u) s) ≡ take 32 (drop (slot u) store)) store w (labelOf statement n w)
+        stored-by (λ s. take 32 (drop (slot u) s) ≡ take 32 (drop (slot u) store)) store w (labelOf edition statement n w)
         (λ low.
-        written-apart store (labelOf statement n w) (slot w) (slot-fits low) (slot u) 32
-        (rw (label-size statement n w) (slots-apart u w (inTree′ .1) (inTree .1) differ)))
+        written-apart store (labelOf edition statement n w) (slot w) (slot-fits low) (slot u) 32
+        (rw (label-size edition statement n w) (slots-apart u w (inTree′ .1) (inTree .1) differ)))
         refl
 
     stored-else :
         (i : ℕ) → (w .level ≤ m → (i < slot w) ⊎ (slot w + 32 ≤ i))
-        → getD (stored m store w (labelOf statement n w)) i 0 ≡ getD store i 0
+        → getD (stored m store w (labelOf edition statement n w)) i 0 ≡ getD store i 0
     stored-else i apart =
-        stored-by (λ s. getD s i 0 ≡ getD store i 0) store w (labelOf statement n w)
-        (λ low. written-else store (labelOf statement n w) (slot w) (slot-fits low) i (rw (label-size statement n w) (apart low)))
+        stored-by (λ s. getD s i 0 ≡ getD store i 0) store w (labelOf edition statement n w)
+        (λ low. written-else store (labelOf edition statement n w) (slot w) (slot-fits low) i (rw (label-size edition statement n w) (apart low)))
         refl
 
   -- The store after k labels.
   module _ (store : List ℕ) (enough : storeSize m ≤ length store) where
-    pub store-length : (k : ℕ) → k ≤ nodesIn n → length (storeAfter statement n m k store) ≡ length store
+    pub store-length : (k : ℕ) → k ≤ nodesIn n → length (storeAfter edition statement n m k store) ≡ length store
     store-length zero small = ap length (store-start store)
     store-length (suc k) small =
-        let ih : length (storeAfter statement n m k store) ≡ length store = store-length k (omega arith) in
+        let ih : length (storeAfter edition statement n m k store) ≡ length store = store-length k (omega arith) in
         rw (← add-one k, store-step k store small)
-        (stored-length (storeAfter statement n m k store) (rw ih enough) (nextNode n root k) (next-in-tree k small) ∙ ih)
+        (stored-length (storeAfter edition statement n m k store) (rw ih enough) (nextNode n root k) (next-in-tree k small) ∙ ih)
 
-    still-long : (k : ℕ) → k ≤ nodesIn n → storeSize m ≤ length (storeAfter statement n m k store)
+    still-long : (k : ℕ) → k ≤ nodesIn n → storeSize m ≤ length (storeAfter edition statement n m k store)
     still-long k small = omega (arith, store-length k small)
 
     -- the label at place i of the order, when that at place k is written
     holds-step :
         (k i : ℕ) → k < nodesIn n → i ≤ k → nextNode n root i .level ≤ m
-        → (i < k → take 32 (drop (slot (nextNode n root i)) (storeAfter statement n m k store)) ≡ labelOf statement n (nextNode n root i))
+        → (i < k → take 32 (drop (slot (nextNode n root i)) (storeAfter edition statement n m k store)) ≡ labelOf edition statement n (nextNode n root i))
         → (t : Bool) → eqb i k ≡ t
-        → take 32 (drop (slot (nextNode n root i)) (storeAfter statement n m (k + 1) store)) ≡ labelOf statement n (nextNode n root i)
+        → take 32 (drop (slot (nextNode n root i)) (storeAfter edition statement n m (k + 1) store)) ≡ labelOf edition statement n (nextNode n root i)
     unfolding labellingOrder
     holds-step k i small before low ih true e =
         let same : i ≡ k = eqb-true i k e in
         rw (store-step k store small, same)
-        (stored-here (storeAfter statement n m k store) (still-long k (omega arith)) (nextNode n root k) (next-in-tree k small)
+        (stored-here (storeAfter edition statement n m k store) (still-long k (omega arith)) (nextNode n root k) (next-in-tree k small)
         (rw same at low))
     holds-step k i small before low ih false e =
         let differ : i ≡ k → ⊥ = eqb-false i k e in
         rw (store-step k store small)
-        (stored-other (storeAfter statement n m k store) (still-long k (omega arith)) (nextNode n root k) (next-in-tree k small)
+        (stored-other (storeAfter edition statement n m k store) (still-long k (omega arith)) (nextNode n root k) (next-in-tree k small)
         (nextNode n root i) (next-in-tree i (omega arith)) (λ same. differ (tree-once n i k (omega arith) small same))
         ∙ ih (omega arith))
 
     -- each label made is in its slot
     pub store-holds :
         (k i : ℕ) → i < k → k ≤ nodesIn n → nextNode n root i .level ≤ m
-        → take 32 (drop (slot (nextNode n root i)) (storeAfter statement n m k store)) ≡ labelOf statement n (nextNode n root i)
+        → take 32 (drop (slot (nextNode n root i)) (storeAfter edition statement n m k store)) ≡ labelOf edition statement n (nextNode n root i)
     store-holds zero i before small low = absurd (omega arith)
     store-holds (suc k) i before small low =
         rw (← add-one k)
@@ -138,28 +138,28 @@ module _ (statement : List ℕ) (n m : ℕ) where
         (k i : ℕ) → k ≤ nodesIn n
         → ((j : ℕ) → j < k → nextNode n root j .level ≤ m
         → (i < slot (nextNode n root j)) ⊎ (slot (nextNode n root j) + 32 ≤ i))
-        → getD (storeAfter statement n m k store) i 0 ≡ getD store i 0
+        → getD (storeAfter edition statement n m k store) i 0 ≡ getD store i 0
     store-rest zero i small apart = ap (λ (s : List ℕ). getD s i 0) (store-start store)
     store-rest (suc k) i small apart =
         rw (← add-one k, store-step k store small)
-        (stored-else (storeAfter statement n m k store) (still-long k (omega arith)) (nextNode n root k) (next-in-tree k small) i (apart k (omega arith))
+        (stored-else (storeAfter edition statement n m k store) (still-long k (omega arith)) (nextNode n root k) (next-in-tree k small) i (apart k (omega arith))
         ∙ store-rest k i (omega arith) (λ j less. apart j (omega arith)))
 
     -- bytes beyond the needed ones are untouched
     pub store-beyond :
-        (k : ℕ) → k ≤ nodesIn n → drop (storeSize m) (storeAfter statement n m k store) ≡ drop (storeSize m) store
+        (k : ℕ) → k ≤ nodesIn n → drop (storeSize m) (storeAfter edition statement n m k store) ≡ drop (storeSize m) store
     store-beyond k small =
         ext-getD 0 _ _
         (simp (length-drop, store-length k small))
         (λ i short.
-        rw (getD-drop (storeSize m) (storeAfter statement n m k store) i 0, getD-drop (storeSize m) store i 0)
+        rw (getD-drop (storeSize m) (storeAfter edition statement n m k store) i 0, getD-drop (storeSize m) store i 0)
         (store-rest k (storeSize m + i) small
         (λ j less low. inr (omega (arith, slot-inside m (nextNode n root j) (low, next-in-tree j (omega arith) .1))))))
 
     -- when all is labelled each node of levels 0 to m has its label in its slot
     pub store-whole :
         (u : Node) → InTree n u → u .level ≤ m
-        → take 32 (drop (slot u) (storeAfter statement n m (nodesIn n) store)) ≡ labelOf statement n u
+        → take 32 (drop (slot u) (storeAfter edition statement n m (nodesIn n) store)) ≡ labelOf edition statement n u
     unfolding labellingOrder
     store-whole u inTree low =
         let (i, small, here) = tree-has n u inTree in

@@ -14,8 +14,8 @@ use Rattle.opening.specs.Steps.{labelIn, ancestor, beside, placed, copiedAll, n
 use Rattle.run_theory.specs.Reached.{labelOf, heldBytes}
 
 -- the store holds the label of each node of levels 0 to m in its slot, as a finished run left it
-abbrev pub HoldsLabels : List ℕ → ℕ → ℕ → List ℕ → Type 0
-HoldsLabels statement n m store = (u : Node) → InTree m u → labelIn store u ≡ labelOf statement n u
+abbrev pub HoldsLabels : ℕ → List ℕ → ℕ → ℕ → List ℕ → Type 0
+HoldsLabels edition statement n m store = (u : Node) → InTree m u → labelIn store u ≡ labelOf edition statement n u
 
 -- the five conditions of a start, over the lengths of store and output
 pub record Openable (n m leaf store out : ℕ) : Type 0 where
@@ -44,13 +44,13 @@ unfoldable pub anewNodes : ℕ → ℕ → ℕ → ℕ → List Node
 anewNodes n m leaf k = take k (orderBelow (n - m) (ancestor n leaf m))
 
 -- an output with the labels of some nodes, those of the opening, put in their places
-unfoldable pub outWith : List ℕ → ℕ → ℕ → List Node → List ℕ → List ℕ
-outWith statement n leaf [] out = out
-outWith statement n leaf (w ∷ ws) out = outWith statement n leaf ws (placed n leaf out w (labelOf statement n w))
+unfoldable pub outWith : ℕ → List ℕ → ℕ → ℕ → List Node → List ℕ → List ℕ
+outWith edition statement n leaf [] out = out
+outWith edition statement n leaf (w ∷ ws) out = outWith edition statement n leaf ws (placed n leaf out w (labelOf edition statement n w))
 
 -- the output after k labels
-unfoldable pub outAfter : List ℕ → ℕ → ℕ → ℕ → ℕ → List ℕ → List ℕ
-outAfter statement n m leaf k out = outWith statement n leaf (copiedNodes n m leaf ++ anewNodes n m leaf k) out
+unfoldable pub outAfter : ℕ → List ℕ → ℕ → ℕ → ℕ → ℕ → List ℕ → List ℕ
+outAfter edition statement n m leaf k out = outWith edition statement n leaf (copiedNodes n m leaf ++ anewNodes n m leaf k) out
 
 -- a new opening with its output
 abbrev pub newOpen : List ℕ → ℕ → ℕ → ℕ → List ℕ → List ℕ → Open
@@ -58,17 +58,17 @@ newOpen statement n m leaf store out =
     record { opening = newOpening statement n m leaf; out = copiedAll n m leaf store out }
 
 -- the opening after k labels
-abbrev pub openingAfter : List ℕ → ℕ → ℕ → ℕ → ℕ → Opening
-openingAfter statement n m leaf k =
+abbrev pub openingAfter : ℕ → List ℕ → ℕ → ℕ → ℕ → ℕ → Opening
+openingAfter edition statement n m leaf k =
     record {
       statement = statement;
       depth = n;
       memory = m;
       leaf = leaf;
       made = k;
-      held = heldBytes statement n (n - m) (ancestor n leaf m) k;
+      held = heldBytes edition statement n (n - m) (ancestor n leaf m) k;
     }
 
-abbrev pub openAfter : List ℕ → ℕ → ℕ → ℕ → ℕ → List ℕ → Open
-openAfter statement n m leaf k out =
-    record { opening = openingAfter statement n m leaf k; out = outAfter statement n m leaf k out }
+abbrev pub openAfter : ℕ → List ℕ → ℕ → ℕ → ℕ → ℕ → List ℕ → Open
+openAfter edition statement n m leaf k out =
+    record { opening = openingAfter edition statement n m leaf k; out = outAfter edition statement n m leaf k out }

@@ -18,8 +18,8 @@ pub record Startable (n m size : ℕ) : Type 0 where
 unfoldable pub atStart : List ℕ → ℕ → ℕ → List ℕ → Stamped
 atStart statement n m store = record { run = newRun statement n m; store = store }
 
-abbrev pub reachedAt : List ℕ → ℕ → ℕ → List ℕ → ℕ → Stamped
-reachedAt statement n m store k = record { run = runAfter statement n m k; store = storeAfter statement n m k store }
+abbrev pub reachedAt : ℕ → List ℕ → ℕ → ℕ → List ℕ → ℕ → Stamped
+reachedAt edition statement n m store k = record { run = runAfter edition statement n m k; store = storeAfter edition statement n m k store }
 
 -- the run and its store after calls with these budgets, and the labels that they report, added up
 abbrev pub called : Stamped → List ℕ → Stamped

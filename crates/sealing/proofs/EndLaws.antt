@@ -4,6 +4,7 @@ use Prim.Native.Nat.{ℕ, _-_}
 use native.Mathlib.Omega.{arith}
 use mathlib.Core.List.{List}
 use lib.ListN.{length, take, drop}
+use Rattle.base.specs.Limits.{edition}
 use Rattle.tree.specs.Walk.{nodesIn}
 use Rattle.run.specs.declared.Run.{Run}
 use Rattle.run.specs.Steps.{Stamped, steps}
@@ -24,15 +25,15 @@ module _ (statement : List ℕ) (n m t : ℕ) (store : List ℕ) (file : ℕ) (f
   begun = startable n m t (length store) file fits
 
   module _ (here : List ℕ) (is-store : here ≡ steps (nodesIn n) (atStart statement n m store) .store) where
-    pub holds-labels : HoldsLabels statement n m here
-    holds-labels = subst (HoldsLabels statement n m) (sym is-store) (finished-holds statement n m store begun)
+    pub holds-labels : HoldsLabels edition statement n m here
+    holds-labels = subst (HoldsLabels edition statement n m) (sym is-store) (finished-holds statement n m store begun)
 
     pub still-fits : Writable n m t (length here) file
     still-fits =
         subst (λ (s : ℕ). Writable n m t s file) (sym (ap length is-store ∙ finished-length statement n m store begun)) fits
 
   module _ (run : Run) (is-run : run ≡ steps (nodesIn n) (atStart statement n m store) .run) where
-    pub the-root : (root : List ℕ) → root ≡ take 32 (drop 0 (run .held)) → root ≡ rootOf statement n
+    pub the-root : (root : List ℕ) → root ≡ take 32 (drop 0 (run .held)) → root ≡ rootOf edition statement n
     the-root root e = e ∙ ap (λ (r : Run). take 32 (r .held)) is-run ∙ finished-root statement n m store begun
 
     pub all-made : run .made ≡ nodesIn n

@@ -3,6 +3,7 @@ use mathlib.Core.Path.{_≡_, sym, ap, _∙_}
 use Prim.Native.Nat.{ℕ, _+_, _-_, _≤_, min}
 use mathlib.Core.List.{List, _++_}
 use lib.ListN.{length, drop}
+use Rattle.base.specs.Limits.{edition}
 use Rattle.proof_file.specs.Layout.{fileSize}
 use Rattle.run_theory.specs.Openings.{HoldsLabels}
 use Rattle.check_theory.specs.TreeFile.{rootOf, treeFile}
@@ -15,11 +16,11 @@ use Rattle.writing_theory.proofs.Filing.{file-written}
 use Rattle.writing_theory.proofs.Calls.{file-labels, file-advanced}
 
 module _ (statement root : List ℕ) (n m t : ℕ) (store file : List ℕ) (size : length statement ≡ 32)
-    (holds : HoldsLabels statement n m store) (fits : Writable n m t (length store) (length file)) (is-root : root ≡ rootOf statement n)
+    (holds : HoldsLabels edition statement n m store) (fits : Writable n m t (length store) (length file)) (is-root : root ≡ rootOf edition statement n)
     (first : Writing) (begun : List ℕ)
     (start : first ≡ started statement root n m t store file .writing) (start-file : begun ≡ started statement root n m t store file .file) where
   pub begins : writtenOf first begun ≡ newFile statement n m t store file
-  begins = rw (start, start-file, is-root) (started-done statement (rootOf statement n) n m t store file fits)
+  begins = rw (start, start-file, is-root) (started-done statement (rootOf edition statement n) n m t store file fits)
 
   module _ (k budget : ℕ) (few : k ≤ labelsAnew n m t) (state : Writing) (here : List ℕ)
       (is-state : state ≡ steps store k (writtenOf first begun) .writing) (is-file : here ≡ steps store k (writtenOf first begun) .file) where
@@ -46,5 +47,5 @@ module _ (statement root : List ℕ) (n m t : ℕ) (store file : List ℕ) (size
           → next ≡ steps store (k + labels) (writtenOf first begun) .file
       next-file next e = e ∙ ap (λ (s : Written). s .file) call-state ∙ rw (says ∙ call-labels)
 
-  pub ends : (k : ℕ) → k ≡ labelsAnew n m t → steps store k (writtenOf first begun) .file ≡ treeFile statement n t ++ drop (fileSize n t) file
+  pub ends : (k : ℕ) → k ≡ labelsAnew n m t → steps store k (writtenOf first begun) .file ≡ treeFile edition statement n t ++ drop (fileSize n t) file
   ends k e = rw (e, begins) (file-written statement n m t store file size holds fits)

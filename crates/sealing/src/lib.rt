@@ -7,6 +7,7 @@ ghost use mathlib.Core.Path.{_≡_};
 ghost use mathlib.Core.List.{_++_};
 ghost use Prim.Native.Nat.{_+_};
 ghost use lib.ListN.{length, drop};
+ghost use Rattle.base.specs.Limits.{edition};
 ghost use Rattle.tree.specs.Walk.{nodesIn};
 ghost use Rattle.proof_file.specs.Layout.{fileSize};
 ghost use Rattle.run.specs.Steps.{steps};
@@ -36,9 +37,9 @@ pub fn make_proof(
     err: i32,
 ) -> Made
     requires { ⌜ Writable depth memory challenges (length (now store)) (length (now file)) ⌝ }
-    ensures { λ r. ⌜ (r .root ≡ rootOf statement depth) × (r .hashes ≡ nodesIn depth + labelsAnew depth memory challenges) ⌝ }
+    ensures { λ r. ⌜ (r .root ≡ rootOf edition statement depth) × (r .hashes ≡ nodesIn depth + labelsAnew depth memory challenges) ⌝ }
     ensures { λ _. ⌜ now (store .exit) ≡ steps (nodesIn depth) (atStart statement depth memory (now (store .entry))) .store ⌝ }
-    ensures { λ _. ⌜ now (file .exit) ≡ treeFile statement depth challenges ++ drop (fileSize depth challenges) (now (file .entry)) ⌝ }
+    ensures { λ _. ⌜ now (file .exit) ≡ treeFile edition statement depth challenges ++ drop (fileSize depth challenges) (now (file .entry)) ⌝ }
 {
     let all = all_labels(depth, memory, challenges);
     let portion = portion_of(all);

@@ -3,6 +3,7 @@ ghost use mathlib.Core.Path.{_≡_};
 ghost use mathlib.Core.List.{_++_};
 ghost use Prim.Native.Nat.{_+_, _^_, _≤_, _<_};
 ghost use lib.ListN.{length, drop};
+ghost use Rattle.base.specs.Limits.{edition};
 ghost use Rattle.proof_file.specs.Layout.{fileSize};
 ghost use Rattle.run_theory.specs.Openings.{HoldsLabels};
 ghost use Rattle.check_theory.specs.TreeFile.{rootOf, treeFile};
@@ -24,10 +25,10 @@ pub fn write_openings(
     file: &mut [u8],
     err: i32,
 ) -> u64
-    requires { ⌜ Writable depth memory challenges (length (now store)) (length (now file)) × (root ≡ rootOf statement depth) × HoldsLabels statement depth memory (now store) ⌝ }
+    requires { ⌜ Writable depth memory challenges (length (now store)) (length (now file)) × (root ≡ rootOf edition statement depth) × HoldsLabels edition statement depth memory (now store) ⌝ }
     requires { ⌜ (1 ≤ portion) × (before < 2 ^ 50) ⌝ }
     ensures { λ r. ⌜ r ≡ labelsAnew depth memory challenges ⌝ }
-    ensures { λ _. ⌜ now (file .exit) ≡ treeFile statement depth challenges ++ drop (fileSize depth challenges) (now (file .entry)) ⌝ }
+    ensures { λ _. ⌜ now (file .exit) ≡ treeFile edition statement depth challenges ++ drop (fileSize depth challenges) (now (file .entry)) ⌝ }
 {
     let labels = challenges * opening::nodes_anew(depth, memory);
     let started = Writing::start(statement, root, depth, memory, challenges, store, file);

@@ -66,14 +66,15 @@ module _ (r : Rule) (n leaf : ℕ) (given : Given) where
 
 -- with document 01's rule an inner node's input has 105 bytes
 pub inner-input-length :
-    (statement : List ℕ) (hash : List ℕ → Label) (n leaf : ℕ) (given : Given) → length statement ≡ 32 → Hash32 (documentRule statement hash) →
+    (edition : ℕ) (statement : List ℕ) (hash : List ℕ → Label) (n leaf : ℕ) (given : Given) → length statement ≡ 32 →
+    Hash32 (documentRule edition n statement hash) →
     Given32 n given → (l : ℕ) → l < n →
-    length (inputAt (documentRule statement hash) n leaf given (wayNode n leaf l)) ≡ 105
-inner-input-length statement hash n leaf given size long sized l h =
-    let r : Rule = documentRule statement hash in
+    length (inputAt (documentRule edition n statement hash) n leaf given (wayNode n leaf l)) ≡ 105
+inner-input-length edition statement hash n leaf given size long sized l h =
+    let r : Rule = documentRule edition n statement hash in
     let labels : List Label = childrenKnown r n leaf given l in
     let size₂ : EachOf 32 labels = children-sized r n leaf given long sized l h in
-    rw (input-children r n leaf given l h, length-input statement size (wayNode n leaf l) labels size₂, children-count r n leaf given l)
+    rw (input-children r n leaf given l h, length-input edition n statement size (wayNode n leaf l) labels size₂, children-count r n leaf given l)
 
 -- ---- shared nodes
 pub shared-position : (n x y l : ℕ) → shared n x y l ≡ true → x / 2 ^ (n - l) ≡ y / 2 ^ (n - l)

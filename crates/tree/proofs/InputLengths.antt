@@ -28,13 +28,13 @@ size-of-inner n v inner = rw (parents-of-inner n v inner)
 
 -- for every node of every depth: the input over labels of 32 bytes, one for each parent, has this length
 pub input-lengths :
-    (statement : List ℕ) → length statement ≡ 32 → (n : ℕ) (v : Node) → InTree n v → (labels : List Label) → EachOf 32 labels
+    (edition : ℕ) (statement : List ℕ) → length statement ≡ 32 → (n : ℕ) (v : Node) → InTree n v → (labels : List Label) → EachOf 32 labels
     → length labels ≡ length (parents n v)
-    → (length (documentInput statement v labels) ≡ inputSize n v)
+    → (length (documentInput edition n statement v labels) ≡ inputSize n v)
     × (inputSize n v ≡ pick (ltb (v .level) n) 105 (41 + 32 * ones (v .position)))
 unfolding inputSize
-input-lengths statement size n v inTree labels each count =
-    (length-input statement size v labels each ∙ ap (λ (k : ℕ). 41 + 32 * k) count, go (ltb (v .level) n) refl)
+input-lengths edition statement size n v inTree labels each count =
+    (length-input edition n statement size v labels each ∙ ap (λ (k : ℕ). 41 + 32 * k) count, go (ltb (v .level) n) refl)
   where
     go : (t : Bool) → ltb (v .level) n ≡ t → inputSize n v ≡ pick t 105 (41 + 32 * ones (v .position))
     go true e = size-of-inner n v (ltb-true (v .level) n e)

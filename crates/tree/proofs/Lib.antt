@@ -4,6 +4,7 @@ pub mod Parents
 pub mod HeldLaws
 pub mod Slots
 pub mod Labelling
+pub mod Ordered
 pub mod DocumentRule
 pub mod InputLengths
 pub mod OpeningLaws

@@ -5,12 +5,13 @@ use native.Mathlib.Nat.{div-one, div-eq-of-lt}
 use native.Mathlib.Numerals.{add-one}
 use native.Mathlib.Omega.{arith}
 use mathlib.Core.Bool.{Bool, true, false}
-use mathlib.Core.List.{[], _∷_, map, map-append, append-nil}
+use mathlib.Core.List.{List, [], _∷_, _++_, map, map-append, append-nil}
 use lib.Dec.{leb, eqb}
-use lib.ListN.{getD}
+use lib.ListN.{length, getD}
 use lib.Pow.{shr-shr}
 use borrow.Author.Tests.{leb-true, le-leb, eqb-true, eq-eqb, ne-eqb}
 use Rattle.base.specs.Choice.{pick, odd}
+use Rattle.base.specs.Lists.{EachOf}
 use Rattle.base.proofs.ChoiceLaws.{both-first, both-second, odd-true, odd-false}
 use Rattle.tree.specs.Nodes.{Node, node, root, leftChild, rightChild, onWay, leftSiblings, parents}
 use Rattle.tree.specs.Labels.{Label, Rule, labelBy, label}
@@ -139,6 +140,19 @@ module _ (r : Rule) (n leaf : ℕ) (given : Given) where
   pub input-leaf : inputAt r n leaf given (node n leaf) ≡ r .input (node n leaf) (leftGiven n leaf given n)
   unfolding inputAt
   input-leaf = ap (r .input (node n leaf)) leaf-parents-known
+
+-- and they have 32 bytes each
+each-more : (w : ℕ) (xs : List Label) (b : Bool) (x : Label) → EachOf w xs → length x ≡ w → EachOf w (xs ++ pick b (x ∷ []) [])
+each-more w [] true x each size = (size, tt)
+each-more w [] false x each size = tt
+each-more w (y ∷ ys) b x each size = (each .0, each-more w ys b x (each .1) size)
+
+pub left-each : (n leaf : ℕ) (given : Given) → Given32 n given → (l : ℕ) → l ≤ n → EachOf 32 (leftGiven n leaf given l)
+unfolding leftGiven
+left-each n leaf given sized zero le = tt
+left-each n leaf given sized (suc l) le =
+    each-more 32 (leftGiven n leaf given l) (odd (leaf / 2 ^ (n - suc l))) (given (n - suc l + 1))
+    (left-each n leaf given sized l (omega arith)) (sized (n - suc l + 1) (omega arith))
 
 -- ---- nodes on the way
 pub way-position : (n leaf : ℕ) (v : Node) → onWay n leaf v ≡ true → v .position ≡ leaf / 2 ^ (n - v .level)

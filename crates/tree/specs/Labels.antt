@@ -3,7 +3,7 @@
 use mathlib.Core.Path.{_≡_}
 use Prim.Native.Nat.{ℕ, zero, suc, _+_, _-_, _*_, _/_}
 use mathlib.Core.List.{List, [], _∷_, _++_, map}
-use lib.ListN.{length}
+use lib.ListN.{length, take, drop}
 use Rattle.base.specs.Choice.{pick, odd}
 use Rattle.base.specs.Bytes.{bigEndian, joined}
 use Rattle.tree.specs.Nodes.{Node, node, InTree, leftChild, rightChild, parents}
@@ -20,12 +20,30 @@ pub record Rule : Type 0 where
 abbrev pub labelBy : Rule → Node → List Label → Label
 labelBy r v labels = r .hash (r .input v labels)
 
--- Document 01: 'statement (32 bytes), level (1 byte), position (8 bytes, big-endian), then the parents' labels'.
-unfoldable pub inputHead : List ℕ → Node → List ℕ
-inputHead statement v = statement ++ v .level ∷ bigEndian 8 (v .position)
+-- The labels of a node's parents in the order in which they are hashed, by the edition: 'left child before right, and for a
+-- leaf smallest level first', which is the order of `parents`.
+unfoldable pub ordered {ℓ} : {A : Type ℓ} → ℕ → List A → List A
+ordered edition xs = xs
 
-unfoldable pub documentInput : List ℕ → Node → List Label → List ℕ
-documentInput statement v labels = inputHead statement v ++ joined labels
+-- the byte after the statement, by the edition and the depth n: 'level (1 byte)'
+unfoldable pub tag : ℕ → ℕ → ℕ → ℕ
+tag edition n level = level
+
+-- Document 01: 'statement (32 bytes), level (1 byte), position (8 bytes, big-endian), then the parents' labels'.
+unfoldable pub inputHead : ℕ → ℕ → List ℕ → Node → List ℕ
+inputHead edition n statement v = statement ++ tag edition n (v .level) ∷ bigEndian 8 (v .position)
+
+unfoldable pub documentInput : ℕ → ℕ → List ℕ → Node → List Label → List ℕ
+documentInput edition n statement v labels = inputHead edition n statement v ++ joined (ordered edition labels)
+
+-- the first k labels, of 32 bytes each, of those that lie end to end
+unfoldable pub cutLabels : ℕ → List ℕ → List Label
+cutLabels zero bytes = []
+cutLabels (suc k) bytes = take 32 bytes ∷ cutLabels k (drop 32 bytes)
+
+-- bytes as the labels that lie in them end to end
+unfoldable pub inLabels : List ℕ → List Label
+inLabels bytes = cutLabels (length bytes / 32) bytes
 
 -- the length of a node's input: 41 bytes, and 32 for each parent
 unfoldable pub inputSize : ℕ → Node → ℕ

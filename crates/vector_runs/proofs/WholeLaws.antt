@@ -6,7 +6,7 @@ use native.Mathlib.Numerals.{add-one}
 use native.Mathlib.Omega.{arith}
 use lib.ListN.{length, getD, take, drop, set, drop-of-length-le}
 use lib.Seq.{take-suc-set, take-all, drop-cons}
-use Rattle.base.specs.Limits.{maxChallenges}
+use Rattle.base.specs.Limits.{edition, maxChallenges}
 use Rattle.base.specs.Bytes.{bigEndian}
 use Rattle.sha256.specs.declared.Hash.{Hash}
 use Rattle.sha256.specs.Portions.{updateState, updatedAll}
@@ -37,7 +37,7 @@ unfolding leavesTo
 leaves-none n statement root = refl
 
 pub leaves-more : (n : ℕ) (statement root leaves : List ℕ) (i leaf : ℕ) → i < length leaves → take i leaves ≡ leavesTo n statement root i
-    → leaf ≡ challenged n statement root (i + 1) → take (i + 1) (set leaves i leaf) ≡ leavesTo n statement root (i + 1)
+    → leaf ≡ challenged edition n statement root (i + 1) → take (i + 1) (set leaves i leaf) ≡ leavesTo n statement root (i + 1)
 unfolding leavesTo
 leaves-more n statement root leaves i leaf h e f =
     ap (λ (k : ℕ). take k (set leaves i leaf)) (add-one i)

@@ -2,6 +2,7 @@
 use Prim.Native.Nat.{ℕ, zero, suc, _+_}
 use mathlib.Core.List.{List, [], _∷_, _++_}
 use lib.ListN.{length}
+use Rattle.base.specs.Limits.{edition}
 use Rattle.run.specs.Steps as runs
 use Rattle.proof_file.specs.Challenge.{challenged}
 use Rattle.writing.specs.Steps as writings
@@ -19,4 +20,4 @@ wholeFile statement root n m t store file =
 -- the leaves of challenges 1 to k
 unfoldable pub leavesTo : ℕ → List ℕ → List ℕ → ℕ → List ℕ
 leavesTo n statement root zero = []
-leavesTo n statement root (suc k) = leavesTo n statement root k ++ challenged n statement root (k + 1) ∷ []
+leavesTo n statement root (suc k) = leavesTo n statement root k ++ challenged edition n statement root (k + 1) ∷ []

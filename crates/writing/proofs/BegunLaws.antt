@@ -4,6 +4,7 @@ use mathlib.Core.List.{List, _++_}
 use Prim.Native.Nat.{ℕ, _+_, _-_, _^_, _≤_, _<_}
 use native.Mathlib.Omega.{arith}
 use lib.ListN.{length, take, drop}
+use Rattle.base.specs.Limits.{edition}
 use Rattle.base.specs.Bytes.{written}
 use Rattle.base.proofs.Parts.{part-size, part-length}
 use Rattle.tree.specs.Openings.{openingSize}
@@ -43,12 +44,12 @@ part-openable n m t i store file leaf room inside =
 
 -- the challenge of an opening that can be written is not refused
 module _ (statement root : List ℕ) (n m t i store file : ℕ) (room : Room n m t i store file) where
-  leaf-picked : challenged n statement root i ≡ challengeLeaf n statement root i
+  leaf-picked : challenged edition n statement root i ≡ challengeLeaf edition n statement root i
   unfolding challenged
   leaf-picked = rw (challenge-done n i (room .depth) (omega (arith, room .number, room .count)))
 
-  leaf-inside : challengeLeaf n statement root i < 2 ^ n
-  leaf-inside = challengeLeaf-small n statement root i (omega (arith, room .depth))
+  leaf-inside : challengeLeaf edition n statement root i < 2 ^ n
+  leaf-inside = challengeLeaf-small edition n statement root i (omega (arith, room .depth))
 
   -- what is begun can be continued
   pub begun-ready : (bytes out : List ℕ) → Ready (begun statement root n m t bytes i out .writing) store file
@@ -57,14 +58,14 @@ module _ (statement root : List ℕ) (n m t i store file : ℕ) (room : Room n m
 
 module _
     (statement root : List ℕ) (n m t i : ℕ) (store file : List ℕ) (room : Room n m t i (length store) (length file))
-    (leaf from : ℕ) (is : leaf ≡ challenged n statement root i) (at : from ≡ openingFrom n (headSize n t) i)
+    (leaf from : ℕ) (is : leaf ≡ challenged edition n statement root i) (at : from ≡ openingFrom n (headSize n t) i)
     (part : List ℕ) (lent : part ≡ take (from + openingSize n - from) (drop from file))
     (o : Opening) (part′ : List ℕ) (made : o ≡ openings.started statement n m leaf (length store) (length part))
     (put : part′ ≡ openings.startedOut n m leaf store part) (same : length part′ ≡ length part) where
   there : part ≡ take (openingSize n) (drop (openingFrom n (headSize n t) i) file)
   there = lent ∙ part-size file from (openingSize n) ∙ rw at
 
-  picked : leaf ≡ challengeLeaf n statement root i
+  picked : leaf ≡ challengeLeaf edition n statement root i
   picked = is ∙ leaf-picked statement root n m t i (length store) (length file) room
 
   openable : Openable n m leaf (length store) (length part)
@@ -122,7 +123,7 @@ module _
 -- a new writing: head, first opening, and what follows it
 module _
     (statement root : List ℕ) (n m t : ℕ) (store file file₁ : List ℕ) (room : Room n m t 1 (length store) (length file))
-    (e₁ : file₁ ≡ headWritten statement root n t file) (o : Opening) (file₂ : List ℕ)
+    (e₁ : file₁ ≡ headWritten edition statement root n t file) (o : Opening) (file₂ : List ℕ)
     (e₂ : o ≡ begun statement root n m t store 1 file₁ .writing .opening) (f₂ : file₂ ≡ begun statement root n m t store 1 file₁ .file) where
   first-begun : writtenOf (writingOf root t 1 o) file₂ ≡ begun statement root n m t store 1 file₁
   unfolding begun
@@ -134,7 +135,7 @@ module _
       (subst (λ (s : Written). Ready (s .writing) (length store) (length file)) (sym first-begun)
       (begun-ready statement root n m t 1 (length store) (length file) room store file₁))
 
-  head-there : file₁ ≡ written file 0 (head statement root n t)
+  head-there : file₁ ≡ written file 0 (head edition statement root n t)
   unfolding headWritten
   head-there = rw (head-done n t (length file) (room .depth) (omega (arith, room .number, room .count)) (room .fileFits)) at e₁
 

@@ -6,6 +6,7 @@ use Prim.Native.Nat.{ℕ, zero, suc, _+_, _-_, _*_, _≤_, _<_}
 use native.Mathlib.Nat.{add-zero}
 use native.Mathlib.Omega.{arith}
 use lib.ListN.{length}
+use Rattle.base.specs.Limits.{edition}
 use Rattle.base.specs.Choice.{pick}
 use Rattle.base.specs.Bytes.{written}
 use Rattle.base.proofs.Copying.{length-written}
@@ -78,7 +79,7 @@ stepped-length store s few deep fits =
     let h : ℕ = o .depth - o .memory in
     let v : Node = ancestor (o .depth) (o .leaf) (o .memory) in
     placed-length (o .depth) (o .leaf) (s .out) (nextNode h v (o .made))
-    (nextLabel (o .statement) h v (front (o .depth) (o .memory) (o .leaf) store) (o .held) (o .made)) deep fits
+    (nextLabel edition (o .statement) h v (front (o .depth) (o .memory) (o .leaf) store) (o .held) (o .made)) deep fits
     (omega (arith, next-below h (o .made) v (nextNode h v (o .made)) (anew-few (o .depth) (o .memory) (o .made) few) refl))
     (digest-length _)
 

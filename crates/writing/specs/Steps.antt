@@ -5,6 +5,7 @@ use mathlib.Core.Bool.{Bool}
 use mathlib.Core.List.{List}
 use lib.Dec.{ltb, eqb}
 use lib.ListN.{length, take, drop}
+use Rattle.base.specs.Limits.{edition}
 use Rattle.base.specs.Choice.{pick, both}
 use Rattle.base.specs.Bytes.{zeros, written}
 use Rattle.refusal.specs.Row.{isDone}
@@ -34,7 +35,7 @@ withPart n t i file part = written file (openingFrom n (headSize n t) i) part
 -- opening i begun: its leaf is challenge i's, and what the store holds of it is copied to its part
 unfoldable pub begun : List ℕ → List ℕ → ℕ → ℕ → ℕ → List ℕ → ℕ → List ℕ → Written
 begun statement root n m t store i file =
-    let leaf : ℕ = challengeLeaf n statement root i in
+    let leaf : ℕ = challengeLeaf edition n statement root i in
     record {
       writing = record { root = root; count = t; number = i; opening = openings.newOpening statement n m leaf };
       file = withPart n t i file (openings.copiedAll n m leaf store (partOf n t i file));
@@ -58,7 +59,7 @@ followed store (suc left) s =
 -- a new writing: the head, and the first opening that has labels to make
 unfoldable pub newWriting : List ℕ → List ℕ → ℕ → ℕ → ℕ → List ℕ → List ℕ → Written
 newWriting statement root n m t store file =
-    followed store t (begun statement root n m t store 1 (written file 0 (head statement root n t)))
+    followed store t (begun statement root n m t store 1 (written file 0 (head edition statement root n t)))
 
 -- what stands beside a refused start
 abbrev pub noWriting : Writing

@@ -6,6 +6,7 @@ use mathlib.Core.List.{List, _++_}
 use lib.ListN.{length, take, drop, length-append, length-drop}
 use Rattle.tree.specs.Openings.{openingSize}
 use Rattle.opening.specs.Rows.{nodesAnew}
+use Rattle.base.specs.Limits.{edition}
 use Rattle.machine.specs.Machines.{Goes}
 use Rattle.machine.specs.Calls.{total, afterCalls}
 use Rattle.machine.proofs.CallLaws.{done-after, progress, advanced-after, calls-end}
@@ -24,14 +25,14 @@ use Rattle.writing_theory.proofs.Places.{Place, place-found, behind-pla
 
 module _
     (statement : List ℕ) (n m t : ℕ) (store file : List ℕ) (size : length statement ≡ 32)
-    (holds : HoldsLabels statement n m store) (fits : Writable n m t (length store) (length file)) where
+    (holds : HoldsLabels edition statement n m store) (fits : Writable n m t (length store) (length file)) where
   -- ---- the state after k labels
   place : (k : ℕ) → k ≤ labelsAnew n m t → Place n m t k (openingsDone n m t k)
   place = place-found n m t (fits .count .0)
 
   pub file-reached :
       (k : ℕ) → k ≤ labelsAnew n m t
-      → steps store k (newFile statement n m t store file) ≡ writtenAfter statement n m t file k
+      → steps store k (newFile statement n m t store file) ≡ writtenAfter edition statement n m t file k
   unfolding writtenAfter
   file-reached k small =
       let q : ℕ = openingsDone n m t k in
@@ -42,16 +43,16 @@ module _
 
   -- ---- at a place
   module _ (q r : ℕ) (few : q < t) (under : r ≤ nodesAnew n m) where
-    length-at : length (writtenAt statement n m t file q r .file) ≡ length file
+    length-at : length (writtenAt edition statement n m t file q r .file) ≡ length file
     unfolding writtenAt underWay
     length-at =
         let b : List ℕ = take (openingSize n) (drop (laidSize n t q) file) in
         let part : length b ≡ openingSize n = part-size n t file q few (fits .fileFits) in
         rw (
           length-append,
-          laid-length statement n t q size,
+          laid-length edition statement n t q (omega arith) size,
           length-append,
-          length-after statement n m (leafAfter statement n q) b (fits .depth .0) (omega arith) (omega arith) r under,
+          length-after edition statement n m (leafAfter edition statement n q) b (fits .depth .0) (omega arith) (omega arith) r under,
           part,
           length-drop,
         )
@@ -59,14 +60,14 @@ module _
 
     goes-on-at :
         r < nodesAnew n m + (q + 2 - t)
-        → rewriteRow (writtenAt statement n m t file q r .writing) (length store) (length (writtenAt statement n m t file q r .file)) ≡ 0
+        → rewriteRow (writtenAt edition statement n m t file q r .writing) (length store) (length (writtenAt edition statement n m t file q r .file)) ≡ 0
     unfolding writtenAt underWay
     goes-on-at small =
         rw length-at
-        (rewrite-done (writtenAt statement n m t file q r .writing) (length store) (length file) fits under
-        (leaf-inside statement n q (fits .depth .1)) (omega arith) (stays-at statement n m t store file size holds fits q r small))
+        (rewrite-done (writtenAt edition statement n m t file q r .writing) (length store) (length file) fits under
+        (leaf-inside edition statement n q (fits .depth .1)) (omega arith) (stays-at statement n m t store file size holds fits q r small))
 
-    remaining-at : remaining (writtenAt statement n m t file q r .writing) ≡ labelsAnew n m t - (q * nodesAnew n m + r)
+    remaining-at : remaining (writtenAt edition statement n m t file q r .writing) ≡ labelsAnew n m t - (q * nodesAnew n m + r)
     unfolding writtenAt underWay
     remaining-at = behind-place t q r (nodesAnew n m) few under
 
@@ -120,7 +121,7 @@ module _
   pub file-carried :
       (budgets : List ℕ) → labelsAnew n m t ≤ total budgets
       → afterCalls (advanced store) (newFile statement n m t store file) budgets .file
-      ≡ treeFile statement n t ++ drop (fileSize n t) file
+      ≡ treeFile edition statement n t ++ drop (fileSize n t) file
   file-carried budgets enough =
       rw (calls-end (writingMachine store) (newFile statement n m t store file) (labelsAnew n m t) file-goes budgets enough)
       (file-written statement n m t store file size holds fits)

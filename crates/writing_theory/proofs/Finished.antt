@@ -6,7 +6,7 @@ use native.Mathlib.Omega.{arith}
 use mathlib.Core.List.{List, _++_}
 use lib.ListN.{length, take, drop}
 use lib.Seq.{take-at}
-use Rattle.base.specs.Limits.{heldSize}
+use Rattle.base.specs.Limits.{edition, heldSize}
 use Rattle.base.specs.Bytes.{zeros}
 use Rattle.machine.specs.Calls.{total, afterCalls}
 use Rattle.tree.specs.Nodes.{root}
@@ -30,18 +30,18 @@ use Rattle.writing_theory.proofs.Calls.{file-carried}
 
 module _ (statement : List ℕ) (n m : ℕ) (store : List ℕ) (startable : Startable n m (length store)) where
   -- ---- a finished run
-  pub finished-holds : HoldsLabels statement n m (runs.steps (nodesIn n) (atStart statement n m store) .store)
+  pub finished-holds : HoldsLabels edition statement n m (runs.steps (nodesIn n) (atStart statement n m store) .store)
   finished-holds u inside = finished-store statement n m store startable u (omega arith, inside .1) (inside .0)
 
-  pub finished-root : take 32 (runs.steps (nodesIn n) (atStart statement n m store) .run .held) ≡ rootOf statement n
+  pub finished-root : take 32 (runs.steps (nodesIn n) (atStart statement n m store) .run .held) ≡ rootOf edition statement n
   finished-root =
       rw (finished-held statement n m store (startable .shallow))
-      (take-at (rootOf statement n) (zeros (heldSize - 32)) 32 (label-size statement n root))
+      (take-at (rootOf edition statement n) (zeros (heldSize - 32)) 32 (label-size edition statement n root))
 
   finished-length : length (runs.steps (nodesIn n) (atStart statement n m store) .store) ≡ length store
   finished-length =
       rw (run-reached statement n m store (startable .shallow) (nodesIn n) (omega arith))
-      (store-length statement n m store (startable .enough) (nodesIn n) (omega arith))
+      (store-length edition statement n m store (startable .enough) (nodesIn n) (omega arith))
 
   -- ---- the file from it
   module _
@@ -59,19 +59,19 @@ module _ (statement : List ℕ) (n m : ℕ) (store : List ℕ) (startable : Star
     file-finished :
         (budgets : List ℕ) → labelsAnew n m t ≤ total budgets
         → fileFrom (runs.steps (nodesIn n) (atStart statement n m store)) statement n m t file budgets
-        ≡ treeFile statement n t ++ drop (fileSize n t) file
+        ≡ treeFile edition statement n t ++ drop (fileSize n t) file
     file-finished budgets enough =
         let s : Stamped = runs.steps (nodesIn n) (atStart statement n m store) in
         let from : Written → List ℕ = λ w. afterCalls (advanced (s .store)) w budgets .file in
         ap (λ (r : List ℕ). from (started statement r n m t (s .store) file)) finished-root
-        ∙ ap from (started-done statement (rootOf statement n) n m t (s .store) file writable)
+        ∙ ap from (started-done statement (rootOf edition statement n) n m t (s .store) file writable)
         ∙ file-carried statement n m t (s .store) file size finished-holds writable budgets enough
 
     -- whatever the memory level, and however labelling and writing are cut
     pub run-to-file :
         (labelling budgets : List ℕ) → nodesIn n ≤ total labelling → labelsAnew n m t ≤ total budgets
         → fileFrom (called (atStart statement n m store) labelling) statement n m t file budgets
-        ≡ treeFile statement n t ++ drop (fileSize n t) file
+        ≡ treeFile edition statement n t ++ drop (fileSize n t) file
     run-to-file labelling budgets all enough =
         let whole : min (total labelling) (nodesIn n) ≡ nodesIn n = omega arith in
         let done : called (atStart statement n m store) labelling ≡ runs.steps (nodesIn n) (atStart statement n m store) =

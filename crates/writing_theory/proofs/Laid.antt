@@ -7,6 +7,7 @@ use native.Mathlib.Omega.{arith}
 use mathlib.Core.List.{List, _++_, append-assoc, append-nil}
 use lib.ListN.{length, take, drop, length-append, length-drop, take-append-drop}
 use lib.Seq.{take-at, length-take-le, drop-drop}
+use Rattle.base.specs.Limits as limits
 use Rattle.base.specs.Limits.{maxDepth}
 use Rattle.base.specs.Bytes.{joined, written}
 use Rattle.tree.specs.Nodes.{root}
@@ -53,35 +54,40 @@ module _ (n t : ℕ) (bytes : List ℕ) (q : ℕ) where
       (sym (take-append-drop (openingSize n) (drop (laidSize n t q) bytes)))
 
 -- its leaf
-pub leaf-inside : (statement : List ℕ) (n q : ℕ) → n ≤ maxDepth → leafAfter statement n q < 2 ^ n
-leaf-inside statement n q shallow = challengeLeaf-small n statement (rootOf statement n) (q + 1) (omega arith)
+pub leaf-inside : (edition : ℕ) (statement : List ℕ) (n q : ℕ) → n ≤ maxDepth → leafAfter edition statement n q < 2 ^ n
+leaf-inside edition statement n q shallow = challengeLeaf-small edition n statement (rootOf edition statement n) (q + 1) (omega arith)
 
-module _ (statement : List ℕ) (n t : ℕ) where
-  pub laid-length : (q : ℕ) → length statement ≡ 32 → length (laid statement n t q) ≡ laidSize n t q
+module _ (edition : ℕ) (statement : List ℕ) (n t : ℕ) where
+  head-size : edition < 128 → length statement ≡ 32 → length (head edition statement (rootOf edition statement n) n t) ≡ headSize n t
+  head-size small size = length-head edition statement (rootOf edition statement n) n t size (label-size edition statement n root) small
+
+  pub laid-length : (q : ℕ) → edition < 128 → length statement ≡ 32 → length (laid edition statement n t q) ≡ laidSize n t q
   unfolding laid laidSize
-  laid-length q size =
-      rw (length-append, length-head statement (rootOf statement n) n t size (label-size statement n root), openings-length statement n q)
+  laid-length q small size = rw (length-append, head-size small size, openings-length edition statement n q)
 
-  pub laid-next : (q : ℕ) → laid statement n t q ++ challengedOpening statement n (q + 1) ≡ laid statement n t (q + 1)
+  pub laid-next :
+      (q : ℕ) → laid edition statement n t q ++ challengedOpening edition statement n (q + 1) ≡ laid edition statement n t (q + 1)
   unfolding laid
-  laid-next q = rw (append-assoc, add-one q, openings-grow statement n q)
+  laid-next q = rw (append-assoc, add-one q, openings-grow edition statement n q)
 
-  pub laid-all : laid statement n t t ≡ treeFile statement n t
+  pub laid-all : laid edition statement n t t ≡ treeFile edition statement n t
   unfolding laid treeFile file
   laid-all = refl
 
   -- a file with its head written
   pub laid-head :
-      (bytes : List ℕ) → length statement ≡ 32
-      → written bytes 0 (head statement (rootOf statement n) n t) ≡ laid statement n t 0 ++ drop (laidSize n t 0) bytes
+      (bytes : List ℕ) → edition < 128 → length statement ≡ 32
+      → written bytes 0 (head edition statement (rootOf edition statement n) n t)
+      ≡ laid edition statement n t 0 ++ drop (laidSize n t 0) bytes
   unfolding written laid laidSize treeOpenings joined
-  laid-head bytes size =
+  laid-head bytes small size =
       let e : 0 + headSize n t ≡ laidSize n t 0 = omega (arith, zero-mul (openingSize n)) in
-      rw (append-nil, length-head statement (rootOf statement n) n t size (label-size statement n root), e)
+      rw (append-nil, head-size small size, e)
 
-  -- the tree's file is accepted, whatever lies behind it
-  pub front-accepted :
-      (rest : List ℕ) → length statement ≡ 32 → IsDepth n → IsCount t
-      → fileCheck (take (fileSize n t) (treeFile statement n t ++ rest)) statement n t ≡ 0
-  front-accepted rest size depth count =
-      rw (take-at (treeFile statement n t) rest (fileSize n t) (length-treeFile statement n t size)) (tree-accepted statement n t size depth count)
+-- the tree's file of the edition that is checked is accepted, whatever lies behind it
+pub front-accepted :
+    (statement : List ℕ) (n t : ℕ) (rest : List ℕ) → length statement ≡ 32 → IsDepth n → IsCount t
+    → fileCheck (take (fileSize n t) (treeFile limits.edition statement n t ++ rest)) statement n t ≡ 0
+front-accepted statement n t rest size depth count =
+    rw (take-at (treeFile limits.edition statement n t) rest (fileSize n t) (length-treeFile limits.edition statement n t (omega arith) size))
+    (tree-accepted statement n t size depth count)

@@ -5,6 +5,7 @@ use lib.Dec.{eqb}
 use lib.ListN.{take, drop}
 use Rattle.base.specs.Choice.{pick}
 use Rattle.base.specs.Bytes.{joined}
+use Rattle.base.specs.Limits as limits
 use Rattle.base.specs.Limits.{maxMemory}
 use Rattle.machine.specs.Calls.{afterCalls}
 use Rattle.tree.specs.Store.{storeSize}
@@ -29,7 +30,7 @@ pub record Writable (n m t store file : ℕ) : Type 0 where
 
 -- a new writing of the tree's file
 abbrev pub newFile : List ℕ → ℕ → ℕ → ℕ → List ℕ → List ℕ → Written
-newFile statement n m t store file = newWriting statement (rootOf statement n) n m t store file
+newFile statement n m t store file = newWriting statement (rootOf limits.edition statement n) n m t store file
 
 -- all labels that a file of t openings takes
 abbrev pub labelsAnew : ℕ → ℕ → ℕ → ℕ
@@ -41,8 +42,8 @@ fileFrom s statement n m t file budgets =
     afterCalls (advanced (s .store)) (started statement (take 32 (s .run .held)) n m t (s .store) file) budgets .file
 
 -- the head and the first q openings of the tree's file, and their size
-unfoldable pub laid : List ℕ → ℕ → ℕ → ℕ → List ℕ
-laid statement n t q = head statement (rootOf statement n) n t ++ joined (treeOpenings statement n q)
+unfoldable pub laid : ℕ → List ℕ → ℕ → ℕ → ℕ → List ℕ
+laid edition statement n t q = head edition statement (rootOf edition statement n) n t ++ joined (treeOpenings edition statement n q)
 
 unfoldable pub laidSize : ℕ → ℕ → ℕ → ℕ
 laidSize n t q = headSize n t + q * openingSize n
@@ -56,14 +57,14 @@ underWay root t q before o after =
     }
 
 -- the leaf of opening q + 1
-abbrev pub leafAfter : List ℕ → ℕ → ℕ → ℕ
-leafAfter statement n q = challengeLeaf n statement (rootOf statement n) (q + 1)
+abbrev pub leafAfter : ℕ → List ℕ → ℕ → ℕ → ℕ
+leafAfter edition statement n q = challengeLeaf edition n statement (rootOf edition statement n) (q + 1)
 
 -- q openings written, and r labels of the next
-unfoldable pub writtenAt : List ℕ → ℕ → ℕ → ℕ → List ℕ → ℕ → ℕ → Written
-writtenAt statement n m t file q r =
-    underWay (rootOf statement n) t q (laid statement n t q)
-    (openAfter statement n m (leafAfter statement n q) r (take (openingSize n) (drop (laidSize n t q) file)))
+unfoldable pub writtenAt : ℕ → List ℕ → ℕ → ℕ → ℕ → List ℕ → ℕ → ℕ → Written
+writtenAt edition statement n m t file q r =
+    underWay (rootOf edition statement n) t q (laid edition statement n t q)
+    (openAfter edition statement n m (leafAfter edition statement n q) r (take (openingSize n) (drop (laidSize n t q) file)))
     (drop (laidSize n t (q + 1)) file)
 
 -- the openings done before the one under way after k labels; the last one stays under way
@@ -71,7 +72,7 @@ unfoldable pub openingsDone : ℕ → ℕ → ℕ → ℕ → ℕ
 openingsDone n m t k = pick (eqb (nodesAnew n m) 0) (t - 1) (min (k / nodesAnew n m) (t - 1))
 
 -- the writing and its file after k labels
-unfoldable pub writtenAfter : List ℕ → ℕ → ℕ → ℕ → List ℕ → ℕ → Written
-writtenAfter statement n m t file k =
+unfoldable pub writtenAfter : ℕ → List ℕ → ℕ → ℕ → ℕ → List ℕ → ℕ → Written
+writtenAfter edition statement n m t file k =
     let q : ℕ = openingsDone n m t k in
-    writtenAt statement n m t file q (k - q * nodesAnew n m)
+    writtenAt edition statement n m t file q (k - q * nodesAnew n m)

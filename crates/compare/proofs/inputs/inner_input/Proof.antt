@@ -1,24 +1,26 @@
--- `compare::inputs::inner_input` meets its contract: the four parts stand in the array one after another.
-use Rattle.compare.proofs.InputLaws.{input-filled}
+-- `compare::inputs::inner_input` meets its contract: the array is as long as the input.
+use mathlib.Core.Path.{_≡_, refl, ap, _∙_}
+use mathlib.Core.List.{List, _++_, append-nil}
+use Prim.Native.Nat.{ℕ, _+_, _-_}
+use native.Mathlib.Omega.{arith}
 use borrow.Author.Needs.{needs}
+use lib.ListN.{length}
+use Rattle.base.specs.Bytes.{zeros}
 use Rattle.compare.proofs.inputs.inner_input.Statement.{statement}
 use Rattle.compare.proofs.inputs.inner_input.Tie as tie
 
+no-more : (input children : List ℕ) → length children ≡ 64 → input ++ zeros (105 - (41 + 0 + length children)) ≡ input
+no-more input children e = rw e (append-nil input)
+
+put-input-requires : tie.Need-put-input-requires
+put-input-requires c κs =
+    let p = c .before .before .before .pre in
+    ((p .0, p .1, omega (arith, p .2)), (refl, omega (arith, p .2)))
+
 returns : tie.Need-returns
 returns c =
-    let three = c .before .before .before .before in
-    let two = three .before .before .before .before in
-    let one = two .before .before .before .before in
-    let place = one .before .before .before in
-    let s = place .before .before in
-    input-filled (s .args .t1) (s .args .children .now) (place .big-endian .result) _ _ _ _ (s .args .level)
-    (s .args .position) (search needs) (s .pre .0) (s .pre .1) (place .big-endian .ensures) (one .put .ensures)
-    (two .put2 .ensures) (three .put3 .ensures) (c .before .put4 .ensures)
+    let s = c .before .before .before .before .before in
+    c .before .put-input .ensures ∙ no-more _ (s .args .children .now) (s .pre .2)
 
 pub inner-input-spec : {M : Type 1} → statement M
-inner-input-spec =
-    tie.close
-    (tie.spec
-    (λ c κs. search needs) (λ c. search needs) (λ c. search needs) (λ c κs. search needs) (λ c. search needs)
-    (λ c. search needs) (λ c. search needs) (λ c κs. search needs) (λ c. search needs) (λ c. search needs)
-    (λ c κs. search needs) (λ c. search needs) (λ c κs. search needs) returns)
+inner-input-spec = tie.close (tie.spec (λ c. search needs) (λ c. search needs) put-input-requires returns)

@@ -11,6 +11,7 @@ inner-input-requires : tie.Need-inner-input-requires
 inner-input-requires c κs =
     let s = c .before .before .before .before in (
       omega (arith, s .pre),
+      s .pre .0 .most,
       ap length (c .cell-at .ensures) ∙ cell-length (s .args .n) (s .args .table .now) (s .args .i)
           (s .args .level) (omega (arith, s .pre)) (omega (arith, s .pre)) (omega (arith, s .pre)) (omega (arith, s .pre)),
     )

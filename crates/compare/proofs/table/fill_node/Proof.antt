@@ -5,6 +5,7 @@ use Prim.Native.Nat.{_/_}
 use Rattle.base.specs.Choice.{odd}
 use Rattle.tree.specs.Nodes.{node}
 use borrow.Author.Needs.{needs}
+use Rattle.label.specs.Rule.{stampRule}
 use Rattle.compare.proofs.table.fill_node.Statement.{statement}
 use Rattle.compare.proofs.table.fill_node.Tie as tie
 
@@ -14,8 +15,8 @@ returns c =
     let s = c .before .before .before .before .before .before .before .before .before .before in (
       put-children .ensures,
       c .label .ensures ∙ label-over
-          (s .args .statement) (s .args .row .now) _ (node (s .args .level) (s .args .position / 2)) (s .args .at)
-          (odd (s .args .position)) (s .args .child) (s .args .beside .now) (search needs) (s .pre .2) (s .pre .1)
+          (stampRule (s .args .edition) (s .args .n) (s .args .statement)) (s .args .row .now) _ (node (s .args .level) (s .args .position / 2)) (s .args .at)
+          (odd (s .args .position)) (s .args .child) (s .args .beside .now) (search needs) (s .pre .3) (s .pre .2)
           (put-children .ensures),
     )
 

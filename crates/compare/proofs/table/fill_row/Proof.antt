@@ -16,13 +16,13 @@ use Rattle.compare.proofs.table.fill_row.Statement.{statement}
 use Rattle.compare.proofs.table.fill_row.Tie as tie
 
 abbrev Inv-loop : tie.InvT-loop
-Inv-loop row₀ statement n leaf bytes child₀ height₀ row child height =
+Inv-loop row₀ edition statement n leaf bytes child₀ height₀ row child height =
     (height ≤ n) × (length row ≡ rowSize) × (length child ≡ 32) ×
-    (child ≡ computed (stampRule statement) n leaf (givenBy bytes) height) × RowOf (stampRule statement) n leaf (givenBy bytes)
+    (child ≡ computed (stampRule edition n statement) n leaf (givenBy bytes) height) × RowOf (stampRule edition n statement) n leaf (givenBy bytes)
     height row₀ row
 
 abbrev μ-loop : tie.MeasureT-loop
-μ-loop row₀ statement n leaf bytes child₀ height₀ row child height = n - height
+μ-loop row₀ edition statement n leaf bytes child₀ height₀ row child height = n - height
 
 label-at-requires : tie.Need-label-at-requires Inv-loop μ-loop
 label-at-requires c κs = omega (arith, c .before .before .pre)
@@ -45,6 +45,7 @@ fill-node-requires c κs =
     let h = c .before .before .before .loop .height in
     let p = entry .pre in (
       omega (arith, p),
+      p .0,
       omega (arith, p),
       ap length (part-size (a .bytes .now) (32 * (h + 1)) 32) ∙ part-length (a .bytes .now)
           (32 * (h + 1)) 32 (omega (arith, p)),
@@ -59,9 +60,9 @@ loop-again c =
       omega arith,
       search needs,
       search needs,
-      climbed (a .statement) (a .bytes .now) (a .n) (a .leaf) (l .height) _ _
+      climbed (a .edition) (a .statement) (a .bytes .now) (a .n) (a .leaf) (l .height) _ _
           (l .inv .3) (c .before .before .fill-node .ensures .1),
-      row-more (a .statement) (a .bytes .now) (a .row .now) (l .row) _ (a .n) (a .leaf)
+      row-more (a .edition) (a .statement) (a .bytes .now) (a .row .now) (l .row) _ (a .n) (a .leaf)
           (l .height) (l .child) h (s .pre .0) (s .pre .1) (l .inv .1) (l .inv .2) (l .inv .3) (l .inv .4)
           (c .before .before .fill-node .ensures .0),
     )

@@ -12,11 +12,11 @@ use Rattle.compare.proofs.table.fill_table.Statement.{statement}
 use Rattle.compare.proofs.table.fill_table.Tie as tie
 
 abbrev Inv-loop : tie.InvT-loop
-Inv-loop table₀ statement n leaves openings size i₀ table i =
-    (i ≤ length leaves) × (length table ≡ tableSize) × TableOf statement n leaves openings i table₀ table
+Inv-loop table₀ edition statement n leaves openings size i₀ table i =
+    (i ≤ length leaves) × (length table ≡ tableSize) × TableOf edition statement n leaves openings i table₀ table
 
 abbrev μ-loop : tie.MeasureT-loop
-μ-loop table₀ statement n leaves openings size i₀ table i = length leaves - i
+μ-loop table₀ edition statement n leaves openings size i₀ table i = length leaves - i
 
 add-size : tie.Need-add-size Inv-loop μ-loop
 add-size c = omega (arith, c .before .before .before .pre .0 .most)
@@ -88,7 +88,7 @@ loop-again c =
     let row = c .before .before .fill-row in (
       omega arith,
       search needs,
-      table-more (a .statement) (a .n) (a .leaves .now) (a .openings .now) (a .table .now) (l .table) (row .last .0) _ (l .i)
+      table-more (a .edition) (a .statement) (a .n) (a .leaves .now) (a .openings .now) (a .table .now) (l .table) (row .last .0) _ (l .i)
           (omega (arith, within (c .before .before .before .before .before .before) .0)) (l .inv .1) (search needs) (l .inv .2)
           (row .ensures) (lent-back (l .table) (row .last .0) (rowSize * l .i) rowSize (search needs)),
     )

@@ -55,7 +55,7 @@ returns c =
     let table = fill-table .last .0 in
     let z = sized n leaves openings (s .pre) in (
       refl,
-      agree-answers (s .args .statement) n leaves openings _ table z (search needs)
+      agree-answers (s .args .edition) (s .args .statement) n leaves openings _ table z (search needs)
           (fill-table .ensures)
           (sym (c .before .before .first-pair .ensures) ∙ c .enum-told .given .1),
     )
@@ -70,7 +70,7 @@ returns-2 c =
     let table = fill-table .last .0 in
     let z = sized n leaves openings (s .pre) in (
       refl,
-      disagree-answers (s .args .statement) n leaves openings _ table z (search needs)
+      disagree-answers (s .args .edition) (s .args .statement) n leaves openings _ table z (search needs)
           (fill-table .ensures) _ _ _ _ _
           (sym (c .before .before .before .before .before .before .before .first-pair .ensures) ∙
           c .before .before .before .before .before .pair .given .1) (c .before .before .input-at .ensures) (c .input-at2 .ensures),

@@ -4,6 +4,7 @@ use mathlib.Core.Path.{_≡_, refl, sym}
 use Prim.Native.Nat.{ℕ, _<_}
 use lib.ListN.{length, getD, take}
 use lib.Seq.{length-take-le}
+use Rattle.base.specs.Limits.{edition}
 use Rattle.proof_file.specs.Head.{lengthFrom}
 use Rattle.check_theory.specs.IsProof.{IsProof}
 use Rattle.check_theory.proofs.Soundness.{accepted-proof}
@@ -19,7 +20,7 @@ bytes : (c : tie.After-shared-slice-known) (j : ℕ) → getD (c .before .args .
 bytes c j = c .shared-slice-known .given j .fits
 
 known : (c : tie.After-shared-slice-known)
-    → IsProof (c .before .args .file .now) (c .before .args .statement) (c .before .args .depth) (c .before .args .count)
+    → IsProof edition (c .before .args .file .now) (c .before .args .statement) (c .before .args .depth) (c .before .args .count)
 known c = accepted-proof _ _ _ _ (bytes c) (c .before .pre)
 
 size : (c : tie.After-numbers-end)

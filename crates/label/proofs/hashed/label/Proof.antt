@@ -1,55 +1,51 @@
--- `label::hashed::label` meets its contract: the five parts stand in the buffer one after another, and the number of parents gives their length.
-use mathlib.Core.Path.{ap, _∙_}
-use Prim.Native.Nat.{_+_, _*_}
+-- `label::hashed::label` meets its contract: the number of parents gives the length of the input, and zeros follow it.
+use mathlib.Core.Path.{_≡_, refl, ap, _∙_}
+use Prim.Native.Nat.{_+_, _-_, _*_}
+use mathlib.Core.List.{_++_}
 use native.Mathlib.Omega.{arith}
 use borrow.Author.Needs.{needs}
+use lib.ListN.{length, take}
+use Rattle.base.specs.Bytes.{zeros}
 use Rattle.sha256.specs.Digest.{digest}
-use Rattle.label.proofs.Filled.{Filled, filled}
+use Rattle.tree.specs.Nodes.{node}
+use Rattle.tree.specs.Labels.{documentInput, inLabels}
+use Rattle.label.specs.Buffer.{inputSpace}
+use Rattle.label.proofs.Filled.{input-length, front-of}
 use Rattle.label.proofs.hashed.label.Statement.{statement}
 use Rattle.label.proofs.hashed.label.Tie as tie
 
-all-put :
-    (c : tie.After-put5)
-    → Filled
-    (c .before .before .before .before .before .before .before .before .before .before .before .before .before .before .before .before .before .before .before .before .args .t1)
-    (c .before .before .before .before .before .before .before .before .before .before .before .before .before .before .before .before .before .before .before .before .args .level)
-    (c .before .before .before .before .before .before .before .before .before .before .before .before .before .before .before .before .before .before .before .before .args .position)
-    (c .before .before .before .before .before .before .before .before .before .before .before .before .before .before .before .before .before .before .before .before .args .front .now)
-    (c .before .before .before .before .before .before .before .before .before .before .before .before .before .before .before .before .before .before .before .before .args .rest .now)
-    (41 + 32 *
-    c .before .before .before .before .before .before .before .before .before .before .before .before .before .before .before .before .before .before .before .before .args .parents)
-    (c .put5 .last .0)
-all-put c =
-    let s =
-    c .before .before .before .before .before .before .before .before .before .before .before .before .before .before .before .before .before .before .before .before in
-    filled (s .args .t1) (s .args .level) (s .args .position) (s .args .front .now) (s .args .rest .now) (search needs)
-    (s .pre .0 .0) (41 + 32 * s .args .parents) (omega (arith, s .pre .1)) (omega (arith, s .pre .0 .1)) _ _ _ _
-    (c .before .before .before .before .before .before .before .before .before .before .before .before .before .before .before .before .before .big-endian .ensures)
-    (c .before .before .before .before .before .before .before .before .before .before .before .before .before .before .put .ensures)
-    (c .before .before .before .before .before .before .before .before .before .before .put2 .ensures)
-    (c .before .before .before .before .before .before .put3 .ensures)
-    _
-    _
-    (c .before .before .before .put4 .ensures)
-    (c .put5 .ensures)
+in-front :
+    (c : tie.After-put-input)
+    → (take (41 + 32 * c .before .before .before .before .args .parents) (c .put-input .last .0)
+    ≡ documentInput (c .before .before .before .before .args .edition) (c .before .before .before .before .args .depth) (c .before .before .before .before .args .statement)
+    (node (c .before .before .before .before .args .level) (c .before .before .before .before .args .position)) (inLabels (c .before .before .before .before .args .front .now ++ c .before .before .before .before .args .rest .now)))
+    × (c .put-input .last .0
+    ≡ take (41 + 32 * c .before .before .before .before .args .parents) (c .put-input .last .0) ++ zeros (inputSpace - (41 + 32 * c .before .before .before .before .args .parents)))
+in-front c =
+    let s = c .before .before .before .before in
+    let a = s .args in
+    let size : 41 + 32 * a .parents ≡ 41 + length (a .front .now) + length (a .rest .now) = omega (arith, s .pre .1) in
+    rw size
+    (front-of _ _ inputSpace _
+    (input-length (a .edition) (a .depth) (a .statement) (a .level) (a .position) (a .front .now) (a .rest .now) (search needs)
+    (omega (arith, s .pre .1)))
+    (c .put-input .ensures))
+
+put-input-requires : tie.Need-put-input-requires
+put-input-requires c κs =
+    let s = c .before .before .before in (
+      (s .pre .0 .0, s .pre .0 .1, omega (arith, s .pre .1)),
+      (refl, omega (arith, s .pre)),
+    )
 
 hash-front-requires : tie.Need-hash-front-requires
-hash-front-requires c κs = (
-  omega (
-    arith,
-    c .before .before .before .before .before .before .before .before .before .before .before .before .before .before .before .before .before .before .before .before .before .before .pre .0 .1,
-  ),
-  all-put (c .before .before) .zeroed,
-)
+hash-front-requires c κs = (omega (arith, c .before .before .before .before .before .before .pre .0), in-front (c .before .before) .1)
 
 returns : tie.Need-returns
-returns c = c .before .hash-front .ensures .0 ∙ ap digest (all-put (c .before .before .before .before) .input)
+returns c = c .before .hash-front .ensures .0 ∙ ap digest (in-front (c .before .before .before .before) .0)
 
 pub label-spec : {M : Type 1} → statement M
 label-spec =
     tie.close
     (tie.spec
-    (λ c κs. search needs) (λ c. search needs) (λ c. search needs) (λ c κs. search needs) (λ c. search needs)
-    (λ c. search needs) (λ c. search needs) (λ c κs. search needs) (λ c. search needs) (λ c. search needs)
-    (λ c κs. search needs) (λ c. search needs) (λ c κs. search needs) (λ c. search needs) (λ c. search needs)
-    (λ c κs. search needs) (λ c. search needs) (λ c. search needs) (λ c. search needs) hash-front-requires returns)
+    (λ c. search needs) put-input-requires (λ c. search needs) (λ c. search needs) (λ c. search needs) hash-front-requires returns)

@@ -1,8 +1,9 @@
 -- `label::next::label_inner` meets its contract: its two labels are all that is hashed.
-use mathlib.Core.Path.{_∙_}
+use mathlib.Core.Path.{ap, _∙_}
 use borrow.Author.Needs.{needs}
 use Rattle.tree.specs.Nodes.{node}
-use Rattle.tree.specs.Labels.{inputHead}
+use Rattle.tree.specs.Labels.{labelBy}
+use Rattle.label.specs.Rule.{stampRule}
 use Rattle.label.proofs.OneStep.{two-hashed}
 use Rattle.label.proofs.next.label_inner.Statement.{statement}
 use Rattle.label.proofs.next.label_inner.Tie as tie
@@ -11,8 +12,9 @@ returns : tie.Need-returns
 returns c =
     let s = c .before .before .before .before .before .before .before .before .before .before .before .before .before .before .before in (
       c .before .before .before .before .before .before .before .before .before .before .label .ensures
-          ∙ two-hashed (inputHead (s .args .statement) (node (s .args .w .level) (s .args .w .position))) (s .args .held .now)
-          (s .args .at),
+          ∙ ap
+          (labelBy (stampRule (s .args .edition) (s .args .depth) (s .args .statement)) (node (s .args .w .level) (s .args .w .position)))
+          (two-hashed (s .args .held .now) (s .args .at)),
       cc,
     )
 

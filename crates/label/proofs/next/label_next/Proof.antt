@@ -41,7 +41,12 @@ label-leaf-requires c κs =
     let f =
     next-few (a .height) (a .level) (a .position) (a .made) (w .result .level) (w .result .position) (s .pre .0 .2)
     (w .ensures) (s .pre .0 .1) in (
-      (omega (arith, at-level (c .before .before .before)), omega (arith, at-level (c .before .before .before)), s .pre .1 .1),
+      (
+        omega (arith, at-level (c .before .before .before)),
+        s .pre .0 .0,
+        omega (arith, at-level (c .before .before .before)),
+        s .pre .1 .1,
+      ),
       omega (arith, s .pre .1 .0),
     )
 
@@ -72,11 +77,11 @@ returns c =
       (
         c .before .before .label-leaf .ensures .0
             ∙ leaf-label (s .args .height) (s .args .level) (s .args .position) (s .args .made) (w .result .level)
-            (w .result .position) (s .pre .0 .2) (w .ensures) (s .args .statement) (s .args .front .now) (s .args .held .now)
+            (w .result .position) (s .pre .0 .2) (w .ensures) (s .args .edition) (s .args .statement) (s .args .front .now) (s .args .held .now)
             (if1 .taken) (s .pre .1 .0),
         c .before .before .label-leaf .ensures .1
             ∙ leaf-held (s .args .height) (s .args .level) (s .args .position) (s .args .made) (w .result .level)
-            (w .result .position) (s .pre .0 .2) (w .ensures) (s .args .statement) (s .args .front .now) (s .args .held .now)
+            (w .result .position) (s .pre .0 .2) (w .ensures) (s .args .edition) (s .args .statement) (s .args .front .now) (s .args .held .now)
             (if1 .taken) (s .pre .1 .0) (c .before .before .label-leaf .result),
       ),
     )
@@ -91,11 +96,11 @@ returns-2 c =
       (
         c .before .before .label-inner .ensures .0
             ∙ inner-label (s .args .height) (s .args .level) (s .args .position) (s .args .made) (w .result .level)
-            (w .result .position) (s .pre .0 .2) (w .ensures) (s .args .statement) (s .args .front .now) (s .args .held .now)
+            (w .result .position) (s .pre .0 .2) (w .ensures) (s .args .edition) (s .args .statement) (s .args .front .now) (s .args .held .now)
             (if1 .left) _ (place .ensures),
         c .before .before .label-inner .ensures .1
             ∙ inner-held (s .args .height) (s .args .level) (s .args .position) (s .args .made) (w .result .level)
-            (w .result .position) (s .pre .0 .2) (w .ensures) (s .args .statement) (s .args .front .now) (s .args .held .now)
+            (w .result .position) (s .pre .0 .2) (w .ensures) (s .args .edition) (s .args .statement) (s .args .front .now) (s .args .held .now)
             (if1 .left) _ (place .ensures) (c .before .before .label-inner .result),
       ),
     )

@@ -3,7 +3,7 @@ use mathlib.Core.Path.{sym, _∙_}
 use Prim.Native.Nat.{_≤_}
 use native.Mathlib.Omega.{arith}
 use borrow.Author.Needs.{needs}
-use Rattle.base.specs.Limits.{maxDepth}
+use Rattle.base.specs.Limits.{edition, maxDepth}
 use Rattle.label.proofs.Walking.{full}
 use Rattle.opening_check.proofs.OneOpening.{depth-refused, leaf-refused, short-refused, long-refused, rest-right}
 use Rattle.refusal.proofs.Ranges.{range-of}
@@ -13,7 +13,7 @@ use Rattle.opening_check.proofs.way.check_opening.Tie as tie
 returns : tie.Need-returns
 returns c =
     let a = c .before .before .before .args in
-    depth-refused (a .statement) (a .depth) (a .leaf) (a .root) (a .bytes .now) (sym (c .before .beyond .ensures) ∙ c .if1 .taken)
+    depth-refused edition (a .statement) (a .depth) (a .leaf) (a .root) (a .bytes .now) (sym (c .before .beyond .ensures) ∙ c .if1 .taken)
 
 within-depth : (c : tie.Else1) → (1 ≤ c .before .before .before .args .depth) × (c .before .before .before .args .depth ≤ maxDepth)
 within-depth c = range-of 1 maxDepth (c .before .before .before .args .depth) (sym (c .before .beyond .ensures) ∙ c .if1 .left)
@@ -24,7 +24,7 @@ shl-if2 c = omega (arith, within-depth c)
 returns-2 : tie.Need-returns-2
 returns-2 c =
     let a = c .before .before .before .before .args in
-    leaf-refused (a .statement) (a .depth) (a .leaf) (a .root) (a .bytes .now)
+    leaf-refused edition (a .statement) (a .depth) (a .leaf) (a .root) (a .bytes .now)
     (sym (c .before .before .beyond .ensures) ∙ c .before .if1 .left) (within-depth (c .before) .1) (c .if2 .taken)
 
 add-size : tie.Need-add-size
@@ -36,14 +36,14 @@ mul-size c = omega (arith, within-depth (c .before))
 returns-3 : tie.Need-returns-3
 returns-3 c =
     let a = c .before .before .before .before .before .args in
-    short-refused (a .statement) (a .depth) (a .leaf) (a .root) (a .bytes .now)
+    short-refused edition (a .statement) (a .depth) (a .leaf) (a .root) (a .bytes .now)
     (sym (c .before .before .before .beyond .ensures) ∙ c .before .before .if1 .left) (within-depth (c .before .before) .1)
     (c .before .if2 .left) (c .if3 .taken)
 
 returns-4 : tie.Need-returns-4
 returns-4 c =
     let a = c .before .before .before .before .before .before .args in
-    long-refused (a .statement) (a .depth) (a .leaf) (a .root) (a .bytes .now)
+    long-refused edition (a .statement) (a .depth) (a .leaf) (a .root) (a .bytes .now)
     (sym (c .before .before .before .before .beyond .ensures) ∙ c .before .before .before .if1 .left)
     (within-depth (c .before .before .before) .1) (c .before .before .if2 .left) (c .before .if3 .left) (c .if4 .taken)
 
@@ -56,7 +56,7 @@ returns-5 : tie.Need-returns-5
 returns-5 c =
     let a = c .before .before .before .before .before .before .before .args in
     c .right .ensures
-    ∙ rest-right (a .statement) (a .depth) (a .leaf) (a .root) (a .bytes .now)
+    ∙ rest-right edition (a .statement) (a .depth) (a .leaf) (a .root) (a .bytes .now)
     (sym (c .before .before .before .before .before .beyond .ensures) ∙ c .before .before .before .before .if1 .left)
     (within-depth (c .before .before .before .before) .1) (c .before .before .before .if2 .left) (c .before .before .if3 .left)
     (c .before .if4 .left)

@@ -14,11 +14,11 @@ use Rattle.opening_check.proofs.way.climb.Statement.{statement}
 use Rattle.opening_check.proofs.way.climb.Tie as tie
 
 abbrev Inv-loop : tie.InvT-loop
-Inv-loop statement n leaf bytes label₀ height₀ label height =
-    (height ≤ n) × (length label ≡ 32) × (label ≡ computed (stampRule statement) n leaf (givenBy bytes) height)
+Inv-loop edition statement n leaf bytes label₀ height₀ label height =
+    (height ≤ n) × (length label ≡ 32) × (label ≡ computed (stampRule edition n statement) n leaf (givenBy bytes) height)
 
 abbrev μ-loop : tie.MeasureT-loop
-μ-loop statement n leaf bytes label₀ height₀ label height = n - height
+μ-loop edition statement n leaf bytes label₀ height₀ label height = n - height
 
 loop-holds : tie.Need-loop-holds Inv-loop μ-loop
 unfolding computed
@@ -29,6 +29,7 @@ label-above-requires c κs =
     let a = c .before .before .before .before .before .args in
     let l = c .before .before .loop in (
       omega arith,
+      c .before .before .before .before .before .pre .1,
       ap length (part-size (a .bytes .now) (32 * (l .height + 1)) 32) ∙ part-length (a .bytes .now)
           (32 * (l .height + 1)) 32 (omega arith),
     )
@@ -39,7 +40,7 @@ loop-again c =
     let l = c .before .before .before .loop in (
       omega arith,
       search needs,
-      climbed (a .statement) (a .bytes .now) (a .n) (a .leaf) (l .height) _ _ (l .inv .2)
+      climbed (a .edition) (a .statement) (a .bytes .now) (a .n) (a .leaf) (l .height) _ _ (l .inv .2)
           (c .label-above .ensures),
     )
 

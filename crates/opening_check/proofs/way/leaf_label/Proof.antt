@@ -8,15 +8,15 @@ use lib.Count.{ones, ones-le}
 use lib.Seq.{length-take-le}
 use lib.ListN.{length}
 use Rattle.opening_check.specs.OpeningCheck.{givenBy}
-use Rattle.opening_check.proofs.OneOpening.{Gathered, gathered-none, gathered-few, gathered-more, gathered-all, leaf-hash}
+use Rattle.opening_check.proofs.OneOpening.{Gathered, gathered-none, gathered-few, gathered-more, gathered-all, given-labels, leaf-hash}
 use Rattle.opening_check.proofs.way.leaf_label.Statement.{statement}
 use Rattle.opening_check.proofs.way.leaf_label.Tie as tie
 
 abbrev Inv-loop : tie.InvT-loop
-Inv-loop statement n leaf bytes parents size gathered₀ len₀ height₀ t10 gathered len height = (height ≤ n) × Gathered n leaf bytes height len gathered
+Inv-loop edition statement n leaf bytes parents size gathered₀ len₀ height₀ t10 gathered len height = (height ≤ n) × Gathered n leaf bytes height len gathered
 
 abbrev μ-loop : tie.MeasureT-loop
-μ-loop statement n leaf bytes parents size gathered₀ len₀ height₀ t10 gathered len height = height
+μ-loop edition statement n leaf bytes parents size gathered₀ len₀ height₀ t10 gathered len height = height
 
 -- a leaf has at most n parents
 few-parents : (c : tie.Start Inv-loop μ-loop) → ones (c .args .leaf) ≤ c .args .n
@@ -79,7 +79,7 @@ label-requires c κs =
     let entry = c .before .before .before .before .before in
     let few = few-parents (c .before .before .before .before .before) in
     let n = entry .pre .0 in (
-      (omega arith, omega arith),
+      (omega arith, omega arith, omega arith),
       omega (
         arith,
         length-take-le (32 * ones (entry .args .leaf)) (c .before .before .before .loop .gathered)
@@ -92,7 +92,8 @@ returns c =
     let a = c .before .before .before .before .before .before .args in
     let l = c .before .before .before .before .loop in
     c .label .ensures
-    ∙ leaf-hash (a .n) (a .leaf) (givenBy (a .bytes .now)) (a .statement) _ (l .height) (c .before .before .before .loop-test .left)
+    ∙ leaf-hash (a .n) (a .leaf) (givenBy (a .bytes .now)) (a .edition) (a .statement) _ (l .height)
+    (given-labels (a .n) (a .bytes .now) (omega (arith, c .before .before .before .before .before .before .pre .2))) (c .before .before .before .loop-test .left)
     (rw (all-gathered (c .before .before .before)) (l .inv .1 .labels))
 
 pub leaf-label-spec : {M : Type 1} → statement M

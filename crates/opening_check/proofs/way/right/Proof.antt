@@ -17,13 +17,13 @@ same-requires c κs = rw (length-take-le 32 (c .before .before .before .before .
 returns : tie.Need-returns
 returns c =
     let a = c .before .before .before .before .before .before .args in
-    wrong-leaf (a .statement) (a .n) (a .leaf) (a .t4) (a .bytes .now) _ (c .before .before .before .before .leaf-label .ensures)
+    wrong-leaf (a .edition) (a .statement) (a .n) (a .leaf) (a .t5) (a .bytes .now) _ (c .before .before .before .before .leaf-label .ensures)
     (sym (c .before .same .ensures) ∙ not-true _ (c .if1 .taken))
 
 returns-2 : tie.Need-returns-2
 returns-2 c =
     let a = c .before .before .before .before .before .before .before .before .before .before .before .args in
-    wrong-root (a .statement) (a .n) (a .leaf) (a .t4) (a .bytes .now) _
+    wrong-root (a .edition) (a .statement) (a .n) (a .leaf) (a .t5) (a .bytes .now) _
     (c .before .before .before .before .before .before .before .before .before .leaf-label .ensures)
     (sym (c .before .before .before .before .before .before .same .ensures) ∙ not-false _
     (c .before .before .before .before .before .if1 .left))
@@ -32,7 +32,7 @@ returns-2 c =
 returns-3 : tie.Need-returns-3
 returns-3 c =
     let a = c .before .before .before .before .before .before .before .before .before .before .before .args in
-    both-right (a .statement) (a .n) (a .leaf) (a .t4) (a .bytes .now) _
+    both-right (a .edition) (a .statement) (a .n) (a .leaf) (a .t5) (a .bytes .now) _
     (c .before .before .before .before .before .before .before .before .before .leaf-label .ensures)
     (sym (c .before .before .before .before .before .before .same .ensures) ∙ not-false _
     (c .before .before .before .before .before .if1 .left))

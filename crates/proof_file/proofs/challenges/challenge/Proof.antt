@@ -1,7 +1,7 @@
 -- `proof_file::challenge` meets its contract: one law for each return.
 use mathlib.Core.Path.{sym, _∙_}
 use borrow.Author.Needs.{needs}
-use Rattle.base.specs.Limits.{maxDepth}
+use Rattle.base.specs.Limits.{maxDepth, edition}
 use Rattle.refusal.proofs.Ranges.{range-of}
 use Rattle.proof_file.proofs.ChallengeLaws.{depth-refused, number-refused, leaf-answered}
 use Rattle.proof_file.proofs.challenges.challenge.Statement.{statement}
@@ -10,12 +10,12 @@ use Rattle.proof_file.proofs.challenges.challenge.Tie as tie
 returns : tie.Need-returns
 returns c =
     let a = c .before .before .args in
-    depth-refused (a .depth) (a .statement) (a .root) (a .i) (sym (c .before .beyond .ensures) ∙ c .if1 .taken)
+    depth-refused edition (a .depth) (a .statement) (a .root) (a .i) (sym (c .before .beyond .ensures) ∙ c .if1 .taken)
 
 returns-2 : tie.Need-returns-2
 returns-2 c =
     let a = c .before .before .before .before .args in
-    number-refused (a .depth) (a .statement) (a .root) (a .i)
+    number-refused edition (a .depth) (a .statement) (a .root) (a .i)
     (sym (c .before .before .before .beyond .ensures) ∙ c .before .before .if1 .left)
     (sym (c .before .beyond2 .ensures) ∙ c .if2 .taken)
 
@@ -27,7 +27,7 @@ challenge-leaf-requires c κs =
 returns-3 : tie.Need-returns-3
 returns-3 c =
     let a = c .before .before .before .before .before .args in
-    leaf-answered (a .depth) (a .statement) (a .root) (a .i)
+    leaf-answered edition (a .depth) (a .statement) (a .root) (a .i)
     (sym (c .before .before .before .before .beyond .ensures) ∙ c .before .before .before .if1 .left) _
     (sym (c .before .before .beyond2 .ensures) ∙ c .before .if2 .left) (c .challenge-leaf .ensures)
 

@@ -10,7 +10,7 @@ returns : tie.Need-returns
 returns c =
     let a = c .before .before .before .before .before .before .before .before .before .before .before .before .before .before
     .before .before .before .before .before .before .before .args in
-    let laid = input-laid (a .t1) (a .t2) (a .i) _ _ _ _ _ (search needs) (search needs)
+    let laid = input-laid (a .edition) (a .depth) (a .t3) (a .t4) (a .i) _ _ _ _ _ (search needs) (search needs)
     (c .before .before .before .before .before .before .before .before .before .before .before .before .before .before .before
     .before .before .before .before .before .big-endian .ensures)
     (c .before .before .before .before .before .before .before .before .before .before .before .before .before .before .before

@@ -7,7 +7,7 @@ use Rattle.proof_file.proofs.challenges.challenge_leaf.Tie as tie
 returns : tie.Need-returns
 returns c =
     let a = c .before .before .args in
-    leaf-bits (a .depth) (a .statement) (a .root) (a .i) _ _ (c .before .before .pre .1) (c .before .challenge-hash .ensures)
+    leaf-bits (a .edition) (a .depth) (a .statement) (a .root) (a .i) _ _ (c .before .before .pre .1) (c .before .challenge-hash .ensures)
     (c .first-word .ensures)
 
 pub challenge-leaf-spec : {M : Type 1} → statement M

@@ -15,10 +15,10 @@ use Rattle.proof_file.proofs.file.check_openings.Statement.{statement}
 use Rattle.proof_file.proofs.file.check_openings.Tie as tie
 
 abbrev Inv-loop : tie.InvT-loop
-Inv-loop bytes statement n t at root i₀ i = (1 ≤ i) × (i ≤ t + 1) × (openingsFrom bytes n at 1 t ≡ openingsFrom bytes n at i (t + 1 - i))
+Inv-loop bytes edition statement n t at root i₀ i = (1 ≤ i) × (i ≤ t + 1) × (openingsFrom edition bytes n at 1 t ≡ openingsFrom edition bytes n at i (t + 1 - i))
 
 abbrev μ-loop : tie.MeasureT-loop
-μ-loop bytes statement n t at root i₀ i = t + 1 - i
+μ-loop bytes edition statement n t at root i₀ i = t + 1 - i
 
 label-at-requires : tie.Need-label-at-requires Inv-loop μ-loop
 label-at-requires c κs = omega (arith, c .before .pre)
@@ -74,14 +74,14 @@ right-requires c κs =
     let start = c .before .opening-start .result in (
       entry .pre .0 .0,
       entry .pre .0 .1,
-      rw (c .before .before .challenge-leaf .ensures) (challengeLeaf-small (a .n) _ _ _ (omega (arith, entry .pre .0 .1))),
+      rw (c .before .before .challenge-leaf .ensures) (challengeLeaf-small (a .edition) (a .n) _ _ _ (omega (arith, entry .pre .0 .1))),
       ap length
           (part-size (a .bytes .now) start (openingSize (a .n))) ∙ part-length (a .bytes .now) start (openingSize (a .n))
           (opening-fits (c .before) .0),
     )
 
-cast-t21 : tie.Need-cast-t21 Inv-loop μ-loop
-cast-t21 c =
+cast-t22 : tie.Need-cast-t22 Inv-loop μ-loop
+cast-t22 c =
     omega (
       arith,
       c .before .before .before .before .before .before .before .before .before .before .before .pre .0,
@@ -93,7 +93,7 @@ returns : tie.Need-returns Inv-loop μ-loop
 returns c =
     let o = c .before .before .before .before .before in
     let a = o .before .before .before .before .before .before .args in
-    sym (o .before .before .before .loop .inv .2 ∙ opening-refused (a .bytes .now) (a .statement)
+    sym (o .before .before .before .loop .inv .2 ∙ opening-refused (a .edition) (a .bytes .now) (a .statement)
     (o .before .before .before .before .label-at .result) (a .n) (a .at) (o .before .before .before .loop .i) (a .t)
     (o .opening-start .result) (o .before .challenge-leaf .result) _
     (o .before .before .before .before .before .before .pre .1 .1) (o .before .before .before .before .label-at .ensures)
@@ -118,7 +118,7 @@ loop-again c =
     let a = o .before .before .before .before .before .before .args in (
       omega arith,
       omega (arith, o .before .before .loop-test .taken),
-      o .before .before .before .loop .inv .2 ∙ opening-right
+      o .before .before .before .loop .inv .2 ∙ opening-right (a .edition)
           (a .bytes .now) (a .statement) (o .before .before .before .before .label-at .result) (a .n) (a .at)
           (o .before .before .before .loop .i) (a .t) (o .opening-start .result) (o .before .challenge-leaf .result) _
           (o .before .before .before .before .before .before .pre .1 .1) (o .before .before .before .before .label-at .ensures)
@@ -129,7 +129,7 @@ loop-again c =
 returns-2 : tie.Need-returns-2 Inv-loop μ-loop
 returns-2 c =
     let a = c .before .before .before .before .args in
-    sym (c .before .loop .inv .2 ∙ none-left (a .bytes .now) (a .n) (a .at) (c .before .loop .i) (a .t) (c .loop-test .left))
+    sym (c .before .loop .inv .2 ∙ none-left (a .edition) (a .bytes .now) (a .n) (a .at) (c .before .loop .i) (a .t) (c .loop-test .left))
 
 pub check-openings-spec : {M : Type 1} → statement M
 check-openings-spec =
@@ -137,4 +137,4 @@ check-openings-spec =
     (tie.spec
     Inv-loop μ-loop (λ c. search needs) label-at-requires loop-holds challenge-leaf-requires opening-start-requires
     add-end mul-end add-end-2 (λ c. omega arith) (λ c. omega arith) part-right-end right-requires (λ c. search needs)
-    cast-t21 returns (λ c. search needs) add-i loop-less loop-again returns-2)
+    cast-t22 returns (λ c. search needs) add-i loop-less loop-again returns-2)

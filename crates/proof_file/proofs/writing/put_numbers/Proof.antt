@@ -9,14 +9,14 @@ use Rattle.proof_file.proofs.writing.put_numbers.Tie as tie
 
 put-number-requires : tie.Need-put-number-requires
 put-number-requires c κs =
-    omega (arith, numbers-length (c .before .before .args .n) (c .before .before .args .t), c .before .before .pre)
+    omega (arith, numbers-length (c .before .before .args .edition) (c .before .before .args .n) (c .before .before .args .t), c .before .before .pre)
 
 put-number-requires-2 : tie.Need-put-number-requires-2
 put-number-requires-2 c κs =
     let entry = c .before .before .before .before .before .before in
     omega (
       arith,
-      numbers-length (entry .args .n)
+      numbers-length (entry .args .edition) (entry .args .n)
           (entry .args .t),
       entry .pre,
       c
@@ -30,7 +30,7 @@ put-number-requires-3 c κs =
     let put-number2 = c .before .before .before .put-number2 in
     omega (
       arith,
-      numbers-length (entry .args .n)
+      numbers-length (entry .args .edition) (entry .args .n)
           (entry .args .t),
       c .before .before .before
           .before .before .before .before .before .before .before .pre,
@@ -50,7 +50,7 @@ returns c =
     let a = entry .args in (
       omega (
         arith,
-        numbers-length
+        numbers-length (entry .args .edition)
             (entry .args .n)
             (entry .args .t),
         c
@@ -61,7 +61,7 @@ returns c =
         c .before
             .before .before .before .before .before .before .before .before .before .put-number .ensures .0,
       ),
-      numbers-put (a .n) (a .t)
+      numbers-put (a .edition) (a .n) (a .t)
           (a .out .now) _ _ _ _ _
           (put-number .ensures .1)
           (put-number2 .ensures .1) (c .before .before .put-number3 .ensures .1)

@@ -1,8 +1,9 @@
 -- `proof_file::write_head` meets its contract: one law for each return.
 use mathlib.Core.Path.{sym, _∙_}
+use native.Mathlib.Omega.{arith}
 use borrow.Author.Needs.{needs}
 use lib.ListN.{length}
-use Rattle.base.specs.Limits.{maxDepth, maxChallenges}
+use Rattle.base.specs.Limits.{maxDepth, maxChallenges, edition}
 use Rattle.refusal.proofs.Ranges.{range-of}
 use Rattle.proof_file.proofs.WritingLaws.{depth-refused, count-refused, short-refused, head-fits, head-written}
 use Rattle.proof_file.proofs.writing.write_head.Statement.{statement}
@@ -11,12 +12,12 @@ use Rattle.proof_file.proofs.writing.write_head.Tie as tie
 returns : tie.Need-returns
 returns c =
     let a = c .before .before .before .args in
-    depth-refused (a .statement) (a .root) (a .depth) (a .count) (a .out .now) (sym (c .before .beyond .ensures) ∙ c .if1 .taken)
+    depth-refused edition (a .statement) (a .root) (a .depth) (a .count) (a .out .now) (sym (c .before .beyond .ensures) ∙ c .if1 .taken)
 
 returns-2 : tie.Need-returns-2
 returns-2 c =
     let a = c .before .before .before .before .before .args in
-    count-refused (a .statement) (a .root) (a .depth) (a .count) (a .out .now)
+    count-refused edition (a .statement) (a .root) (a .depth) (a .count) (a .out .now)
     (sym (c .before .before .before .beyond .ensures) ∙ c .before .before .if1 .left)
     (sym (c .before .beyond2 .ensures) ∙ c .if2 .taken)
 
@@ -31,7 +32,7 @@ file-size-requires c κs =
 returns-3 : tie.Need-returns-3
 returns-3 c =
     let a = c .before .before .before .before .before .before .before .args in
-    short-refused (a .statement) (a .root) (a .depth) (a .count) (a .out .now)
+    short-refused edition (a .statement) (a .root) (a .depth) (a .count) (a .out .now)
     (sym (c .before .before .before .before .before .beyond .ensures) ∙ c .before .before .before .before .if1 .left)
     (sym (c .before .before .before .beyond2 .ensures) ∙ c .before .before .if2 .left) _ (c .before .file-size .ensures)
     (c .if3 .taken)
@@ -39,6 +40,7 @@ returns-3 c =
 put-head-requires : tie.Need-put-head-requires
 put-head-requires c κs =
     let a = c .before .before .before .before .before .before .before .before .args in (
+      omega arith,
       range-of 1 maxDepth (a .depth) (sym (c .before .before .before .before .before .before .beyond .ensures) ∙ c .before .before
           .before .before .before .if1 .left) .1,
       range-of 1 maxChallenges (a .count)
@@ -50,7 +52,7 @@ put-head-requires c κs =
 returns-4 : tie.Need-returns-4
 returns-4 c =
     let a = c .before .before .before .before .before .before .before .before .before .before .before .args in
-    head-written (a .statement) (a .root) (a .depth) (a .count) (a .out .now)
+    head-written edition (a .statement) (a .root) (a .depth) (a .count) (a .out .now)
     (sym (c .before .before .before .before .before .before .before .before .before .beyond .ensures) ∙ c .before .before .before
     .before .before .before .before .before .if1 .left)
     (sym (c .before .before .before .before .before .before .before .beyond2 .ensures) ∙ c .before .before .before .before .before
