@@ -1,5 +1,5 @@
 -- Document 01's limits, each named once, and the sizes that follow from them.
-use Prim.Native.Nat.{ℕ, _+_, _-_, _*_, _^_}
+use Prim.Native.Nat.{ℕ, _+_, _-_, _*_, _^_, _≤_, min}
 
 -- the greatest depth n
 abbrev pub maxDepth : ℕ
@@ -50,3 +50,16 @@ ownLevel = 14
 
 abbrev pub ownStore : ℕ
 ownStore = 32 * (2 ^ (ownLevel + 1) - 1)
+
+-- ---- within the limits
+-- n from 1 to 40
+abbrev pub IsDepth : ℕ → Type 0
+IsDepth n = (1 ≤ n) × (n ≤ maxDepth)
+
+-- m at most min(n, 20)
+abbrev pub IsMemory : ℕ → ℕ → Type 0
+IsMemory n m = m ≤ min n maxMemory
+
+-- t from 1 to 200
+abbrev pub IsCount : ℕ → Type 0
+IsCount t = (1 ≤ t) × (t ≤ maxChallenges)

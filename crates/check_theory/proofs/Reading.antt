@@ -7,7 +7,7 @@ use mathlib.Core.List.{List, [], _++_, append-assoc}
 use lib.ListN.{length, length-append}
 use lib.Seq.{take-at, drop-at, drop-append-add}
 use Rattle.base.specs.Bytes.{joined}
-use Rattle.base.specs.Limits.{maxDepth, maxChallenges}
+use Rattle.base.specs.Limits.{maxDepth, maxChallenges, IsDepth, IsCount}
 use Rattle.base.specs.Limits as limits
 use Rattle.base.specs.Lists.{EachOf}
 use Rattle.base.proofs.BytesLaws.{length-joined, joined-at}
@@ -18,7 +18,7 @@ use Rattle.tree.specs.Openings.{openingSize}
 use Rattle.proof_file.specs.Layout.{numberGroups, headNumbers, head, fileSize, file, headSize}
 use Rattle.proof_file.specs.Head.{numbers, headOf, statementAt, rootAt, openingAt, lengthFrom}
 use Rattle.proof_file.proofs.WritingLaws.{size-numbers}
-use Rattle.check_theory.specs.IsProof.{IsDepth, IsCount, nth}
+use Rattle.check_theory.specs.IsProof.{nth}
 use Rattle.check_theory.specs.Heads.{IsHead, SameHead}
 use Rattle.check_theory.proofs.RowLaws.{within}
 

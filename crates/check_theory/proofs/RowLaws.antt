@@ -9,7 +9,7 @@ use lib.ListN.{length}
 use borrow.Author.Tests.{leb-true, leb-false, le-leb, lt-leb, ltb-false, le-ltb, not-false}
 use Rattle.base.specs.Choice.{pick, both}
 use Rattle.base.specs.Lists.{sameBytes}
-use Rattle.base.specs.Limits.{maxDepth, maxChallenges}
+use Rattle.base.specs.Limits.{maxDepth, maxChallenges, IsDepth, IsCount}
 use Rattle.base.proofs.ChoiceLaws.{both-first, both-second}
 use Rattle.base.proofs.ListsLaws.{test-same, tells-bytes}
 use Rattle.refusal.proofs.RowLaws.{NoneHolds, none-holds}
@@ -19,7 +19,7 @@ use Rattle.label.specs.Rule.{stampRule}
 use Rattle.proof_file.specs.Challenge.{challengeRow}
 use Rattle.proof_file.specs.Layout.{fileSize, headRow}
 use Rattle.opening_check.specs.OpeningCheck.{givenBy, leafWrong, rootWrong, rightRow, openingRow}
-use Rattle.check_theory.specs.IsProof.{IsDepth, IsCount, OpeningRight, RightAlone}
+use Rattle.check_theory.specs.IsProof.{OpeningRight, RightAlone}
 
 -- a choice that gives another value than its first is its second
 pub second-picked {ℓ} : {A : Type ℓ} (b : Bool) (x y z : A) → (x ≡ z → ⊥) → pick b x y ≡ z → (b ≡ false) × (y ≡ z)

@@ -9,7 +9,7 @@ use lib.ListN.{length, drop, getD, length-append, length-drop, take-append-drop}
 use lib.Seq.{drop-drop, length-take-le}
 use borrow.Author.Tests.{ltb-false, eqb-true, not-false}
 use Rattle.base.specs.Choice.{both}
-use Rattle.base.specs.Limits.{maxDepth, maxChallenges}
+use Rattle.base.specs.Limits.{maxDepth, maxChallenges, IsDepth, IsCount}
 use Rattle.base.specs.Limits as limits
 use Rattle.base.specs.Lists.{EachOf, sameBytes}
 use Rattle.base.proofs.ChoiceLaws.{both-first, both-second}
@@ -24,7 +24,7 @@ use Rattle.proof_file.specs.Layout.{numberGroups, headNumbers, head, file}
 use Rattle.proof_file.specs.Head.{HeadAnswer, numbers, notRead, headOf, lengthFrom, statementAt, rootAt, openingAt}
 use Rattle.proof_file.specs.FileCheck.{foundIn, openingsFrom, wanted, fileRest, fileCheck}
 use Rattle.proof_file.proofs.HeadLaws.{passed, head-number}
-use Rattle.check_theory.specs.IsProof.{IsDepth, IsCount, OpeningRight, nth, IsProof}
+use Rattle.check_theory.specs.IsProof.{OpeningRight, nth, IsProof}
 use Rattle.check_theory.specs.Heads.{NumbersRead}
 use Rattle.check_theory.proofs.RowLaws.{second-picked, bounds, done-right}
 use Rattle.check_theory.proofs.Parts.{cut, length-cut, cut-sizes, joined-cut}

@@ -8,6 +8,7 @@ use mathlib.Core.List.{List, [], _++_, map, append-nil}
 use mathlib.Core.Logic.{⊎-elim}
 use lib.ListN.{length, getD, length-append, length-map, List·getD-append}
 use lib.Seq.{getD-at}
+use Rattle.base.specs.Limits.{IsDepth, IsCount}
 use Rattle.base.specs.Bytes.{joined}
 use Rattle.base.specs.Lists.{EachOf}
 use Rattle.base.specs.Limits as limits
@@ -24,7 +25,7 @@ use Rattle.proof_file.specs.Challenge.{challengeLeaf}
 use Rattle.proof_file.specs.Layout.{fileSize}
 use Rattle.opening_check.specs.OpeningCheck.{givenBy}
 use Rattle.proof_file.specs.FileCheck.{fileCheck}
-use Rattle.check_theory.specs.IsProof.{IsDepth, IsCount, OpeningRight, nth, IsProof}
+use Rattle.check_theory.specs.IsProof.{OpeningRight, nth, IsProof}
 use Rattle.check_theory.specs.TreeFile.{rootOf, openingOf, challengedOpening, treeOpenings, treeFile}
 use Rattle.check_theory.proofs.Parts.{each-by}
 use Rattle.check_theory.proofs.Reading.{file-size-is}

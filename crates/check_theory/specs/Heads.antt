@@ -3,8 +3,8 @@ use mathlib.Core.Path.{_≡_}
 use Prim.Native.Nat.{ℕ}
 use mathlib.Core.List.{List, _++_}
 use lib.ListN.{length, drop}
+use Rattle.base.specs.Limits.{IsDepth, IsCount}
 use Rattle.proof_file.specs.Layout.{headNumbers}
-use Rattle.check_theory.specs.IsProof.{IsDepth, IsCount}
 
 pub record IsHead (statement root : List ℕ) (n t : ℕ) : Type 0 where
   pub statementSize : length statement ≡ 32

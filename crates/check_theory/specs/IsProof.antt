@@ -3,20 +3,13 @@ use mathlib.Core.Path.{_≡_}
 use Prim.Native.Nat.{ℕ, _-_, _^_, _≤_, _<_}
 use mathlib.Core.List.{List, []}
 use lib.ListN.{length, getD}
-use Rattle.base.specs.Limits.{maxDepth, maxChallenges}
+use Rattle.base.specs.Limits.{IsDepth, IsCount}
 use Rattle.base.specs.Lists.{EachOf}
 use Rattle.tree.specs.Openings.{Right, openingSize}
 use Rattle.label.specs.Rule.{stampRule}
 use Rattle.proof_file.specs.Challenge.{challengeLeaf}
 use Rattle.proof_file.specs.Layout.{file}
 use Rattle.opening_check.specs.OpeningCheck.{givenBy}
-
--- a depth is 1 to 40, a count of challenges 1 to 200
-abbrev pub IsDepth : ℕ → Type 0
-IsDepth n = (1 ≤ n) × (n ≤ maxDepth)
-
-abbrev pub IsCount : ℕ → Type 0
-IsCount t = (1 ≤ t) × (t ≤ maxChallenges)
 
 -- an opening's bytes give labels that are right at a leaf, by an edition's rule
 abbrev pub OpeningRight : ℕ → List ℕ → ℕ → ℕ → List ℕ → List ℕ → Type 0

@@ -8,7 +8,7 @@ use mathlib.Core.List.{List, [], _∷_, _++_}
 use lib.Dec.{ltb}
 use lib.ListN.{length}
 use borrow.Author.Tests.{lt-ltb, le-ltb, ltb-false}
-use Rattle.base.specs.Limits.{maxDepth, maxChallenges, maxOpenings}
+use Rattle.base.specs.Limits.{maxDepth, maxChallenges, maxOpenings, IsDepth, IsCount}
 use Rattle.refusal.specs.declared.Refusal.{Refusal}
 use Rattle.refusal.specs.Number.{numberOf}
 use Rattle.refusal.specs.Row.{firstOf, isDone}
@@ -31,10 +31,10 @@ module _ (n : ℕ) (leaves : List ℕ) (size : ℕ) where
   leaves-refused r e = e ∙ sym (row-refused (leavesChecks n leaves) (sizeChecks n leaves size) (not-done r (leavesRow n leaves) e))
 
   module _ (done : leavesRow n leaves ≡ 0) where
-    pub depth-known : (1 ≤ n) × (n ≤ maxDepth)
+    pub depth-known : IsDepth n
     depth-known = range-of 1 maxDepth n (passed n leaves done .0)
 
-    pub count-known : (1 ≤ length leaves) × (length leaves ≤ maxChallenges)
+    pub count-known : IsCount (length leaves)
     count-known = range-of 1 maxChallenges (length leaves) (passed n leaves done .1 .0)
 
     -- the size of all openings

@@ -6,7 +6,7 @@ use mathlib.Core.List.{List, _++_, flatten}
 use lib.ListN.{length, drop}
 use lib.Seq.{take-at, drop-at}
 use borrow.Author.Tests.{lt-leb}
-use Rattle.base.specs.Limits.{edition, maxHashed}
+use Rattle.base.specs.Limits.{edition, maxHashed, IsDepth, IsCount}
 use Rattle.sha256.specs.Digest.{digest}
 use Rattle.sha256.specs.Portions.{digestRow, digestAnswer}
 use Rattle.sha256.proofs.Portions.{in-portions}
@@ -26,7 +26,6 @@ use Rattle.run_theory.specs.Openings.{Openable, newOpen}
 use Rattle.run_theory.proofs.RunLaws.{run-reached, called-cut, finished-store}
 use Rattle.run_theory.proofs.OpeningCalls.{started-fits, startedOut-fits}
 use Rattle.run_theory.proofs.Finished.{finished-length, finished-opening}
-use Rattle.check_theory.specs.IsProof.{IsDepth, IsCount}
 use Rattle.check_theory.specs.TreeFile.{treeFile, openingOf}
 use Rattle.proof_file.proofs.Leaves.{challengeLeaf-small}
 use Rattle.check_theory.proofs.RowLaws.{challenge-done, opening-done, done-opening}

@@ -14,10 +14,10 @@ use Rattle.base.specs.Lists.{sameBytes}
 use Rattle.base.proofs.ChoiceLaws.{both-first, both-second, both-false, true-false}
 use Rattle.base.proofs.ListsLaws.{tells-bytes, test-same}
 use Rattle.refusal.specs.Row.{outside}
-use Rattle.groups.specs.Reading.{Answer, value, refused, ended, readFrom, readAt}
+use Rattle.groups.specs.Reading.{Answer, value, refused, ended, readFrom, readAt, checked}
 use Rattle.groups.proofs.Steps.{read-none, read-end, read-last, read-more, lt-or-le}
 use Rattle.opening_check.specs.OpeningCheck.{rightRow}
-use Rattle.proof_file.specs.Head.{HeadAnswer, numbers, notRead, checked, headOf, lengthFrom, statementAt}
+use Rattle.proof_file.specs.Head.{HeadAnswer, numbers, notRead, headOf, lengthFrom, statementAt}
 use Rattle.proof_file.specs.HeadSteps.{countFrom, depthFrom}
 use Rattle.proof_file.specs.FileCheck as files
 use Rattle.proof_file.specs.FileCheck.{opened, openingsFrom, wanted, fileCheck}
@@ -98,7 +98,7 @@ numberRow mark bytes at row =
 module _
     (mark : ℕ → ℕ) (answer : HeadAnswer → ℕ) (refusals : (number : ℕ) → answer (notRead number) ≡ mark number) (bad : ℕ → Bool)
     (Bad : ℕ → Type 0) (decides : (x : ℕ) → Decides (bad x) (Bad x)) (refusal : ℕ) (next : ℕ → ℕ → HeadAnswer) where
-  refused-answer : (number : Answer) (r : ℕ) → number ≡ refused r → answer (checked number bad refusal next) ≡ mark r
+  refused-answer : (number : Answer) (r : ℕ) → number ≡ refused r → answer (checked notRead number bad refusal next) ≡ mark r
   refused-answer number r e = rw e (refusals r)
 
   value-by :
@@ -109,14 +109,14 @@ module _
 
   value-first :
       (number : Answer) (x end : ℕ) (row : Row) → number ≡ value x end → IsFirst row (answer (next x end))
-      → IsFirst ((Bad x, mark refusal) ∷ row) (answer (checked number bad refusal next))
+      → IsFirst ((Bad x, mark refusal) ∷ row) (answer (checked notRead number bad refusal next))
   value-first number x end row e rest = rw e (value-by x end row (bad x) (decides x) rest)
 
   module _ (bytes : List ℕ) (at : ℕ) (row : Row) (rest : IsFirst row (answer (next (valueAt bytes at) (behind bytes at)))) where
     abbrev NumberFirst : Type 0
     NumberFirst =
         IsFirst (numberRow mark bytes at ((Bad (valueAt bytes at), mark refusal) ∷ row))
-        (answer (checked (readAt bytes at 2) bad refusal next))
+        (answer (checked notRead (readAt bytes at 2) bad refusal next))
 
     -- bytes end, in the first or the second
     first-ends : length bytes ≤ at → NumberFirst

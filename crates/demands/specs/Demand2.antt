@@ -22,7 +22,8 @@ use Rattle.proof_file.specs.Layout.{fileSize, file}
 use Rattle.proof_file.specs.FileCheck.{fileCheck}
 use Rattle.run_theory.specs.Reached.{runAfter, storeAfter}
 use Rattle.machine.specs.Calls.{total, afterCalls}
-use Rattle.check_theory.specs.IsProof.{IsDepth, IsCount, RightAlone, IsProof}
+use Rattle.base.specs.Limits.{IsDepth, IsCount}
+use Rattle.check_theory.specs.IsProof.{RightAlone, IsProof}
 use Rattle.check_theory.specs.TreeFile.{treeOpenings}
 use Rattle.writing_theory.specs.Filed.{fileFrom}
 use Rattle.demands.specs.Demand1.{InBounds, startedRun, startedOpening}

@@ -8,7 +8,7 @@ use lib.ListN.{length, getD, take, drop, length-drop}
 use lib.Seq.{take-all}
 use Rattle.base.specs.Choice.{every}
 use Rattle.base.specs.Bytes.{zeros}
-use Rattle.base.specs.Limits.{edition, maxDepth, maxChallenges}
+use Rattle.base.specs.Limits.{edition, maxDepth, maxChallenges, IsDepth, IsCount}
 use Rattle.refusal.specs.declared.Refusal.{Refusal}
 use Rattle.refusal.specs.declared.Check.{Check}
 use Rattle.refusal.specs.declared.Check.the-variants.{Rejected}
@@ -23,7 +23,7 @@ use Rattle.refusal.proofs.Ranges.{in-range}
 use Rattle.proof_file.specs.Layout.{headNumbers}
 use Rattle.proof_file.specs.Head.{headOf, lengthFrom, rootAt}
 use Rattle.proof_file.specs.FileCheck.{foundIn, fileCheck}
-use Rattle.check_theory.specs.IsProof.{IsDepth, IsCount, IsProof}
+use Rattle.check_theory.specs.IsProof.{IsProof}
 use Rattle.check_theory.proofs.Soundness.{accepted-proof}
 use Rattle.check_theory.proofs.Completeness.{file-head, file-size}
 use Rattle.chain.specs.Place.{leavesRow}

@@ -9,7 +9,7 @@ use borrow.Author.Tests.{lt-ltb}
 use lib.ListN.{length, take, drop, set}
 use lib.Seq.{take-suc-set, append-snoc, drop-set-lt, drop-drop}
 use Rattle.base.specs.Choice.{every}
-use Rattle.base.specs.Limits.{maxDepth, maxChallenges}
+use Rattle.base.specs.Limits.{maxDepth, maxChallenges, IsDepth}
 use Rattle.base.specs.Bytes.{zeros}
 use Rattle.base.proofs.Zeros.{drop-zeros}
 use Rattle.chain_theory.specs.Planning.{isLeaf}
@@ -17,7 +17,6 @@ use Rattle.chain_theory.proofs.Lists.{every-both}
 use Rattle.proof_file.specs.declared.HeadNumbers.{HeadNumbers}
 use Rattle.proof_file.specs.Challenge.{challengeLeaf, challenged}
 use Rattle.proof_file.specs.Head.{HeadAnswer, headAnswer}
-use Rattle.check_theory.specs.IsProof.{IsDepth}
 use Rattle.check_theory.proofs.RowLaws.{challenge-done}
 use Rattle.proof_file.proofs.Leaves.{challengeLeaf-small}
 use Rattle.draw.specs.Drawing.{leavesFrom, numbersEnd}

@@ -3,3 +3,4 @@ pub mod Sizes
 pub mod Output
 pub mod ReadBack
 pub mod ShortestOnly
+pub mod Checked

@@ -1,5 +1,6 @@
 -- Document 01's row 'File, each number in turn': '10: bytes end; 11: last of several bytes 0, or the last allowed byte above 127'.
 use Prim.Native.Nat.{ℕ, zero, suc, _+_, _*_, _%_, _^_}
+use mathlib.Core.Bool.{Bool}
 use mathlib.Core.List.{List}
 use lib.Dec.{ltb, leb, eqb}
 use lib.ListN.{length, getD}
@@ -35,3 +36,9 @@ readFrom bytes at i low (suc left) =
 -- the number at a place, of at most `most` bytes
 unfoldable pub readAt : List ℕ → ℕ → ℕ → Answer
 readAt bytes at most = readFrom bytes at 0 0 most
+
+-- A number that was read, tested: refused with a number, or followed by what comes next. Numbers that stand one after the other are
+-- read so, each in turn, whatever is answered in the end.
+abbrev pub checked : {A : Type 0} → (ℕ → A) → Answer → (ℕ → Bool) → ℕ → (ℕ → ℕ → A) → A
+checked refuse (value x at) bad number next = pick (bad x) (refuse number) (next x at)
+checked refuse (refused r) bad number next = refuse r

@@ -4,11 +4,11 @@ use mathlib.Core.List.{List, _++_}
 use lib.ListN.{length}
 use Rattle.base.specs.Bytes.{zeros}
 use Rattle.base.specs.Limits.{maxLabelInput}
-use Rattle.sha256.specs.Padding.{padded}
+use Rattle.sha256.specs.Padding.{padded, blocksOf}
 
 -- the buffer that the longest input fits with its padding: 1,344 bytes
 abbrev pub inputSpace : ℕ
-inputSpace = 64 * ((maxLabelInput + 8) / 64 + 1)
+inputSpace = 64 * blocksOf maxLabelInput
 
 -- a buffer of this width with the padded message in front, and zeros behind
 abbrev pub paddedIn : ℕ → List ℕ → List ℕ

@@ -13,6 +13,7 @@ ghost use Rattle.label.specs.Buffer.{inputSpace, paddedIn};
 use base::HELD_SIZE;
 use base::big_endian;
 use base::put;
+use sha256::block_count;
 use sha256::digest_padded;
 
 // The longest input with its padding: specs/Buffer.antt.
@@ -25,7 +26,7 @@ fn hash_front(input: &mut [u8], len: usize) -> [u8; 32]
     ensures { λ r. ⌜ r ≡ digest (take len (now (input .entry))) ⌝ }
     ensures { λ _. ⌜ now (input .exit) ≡ paddedIn inputSpace (take len (now (input .entry))) ⌝ }
 {
-    let end = 64 * ((len + 8) / 64 + 1);
+    let end = 64 * block_count(len);
     let count = big_endian(8 * len as u64);
     put(input, len, &[128]);
     put(input, end - 8, &count);

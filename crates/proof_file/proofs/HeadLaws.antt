@@ -8,76 +8,66 @@ use native.Mathlib.Omega.{arith}
 use borrow.Author.Tests.{eq-eqb, ne-eqb, eqb-true, not-true}
 use lib.Dec.{eqb}
 use lib.ListN.{length, take, drop, getD}
-use Rattle.base.specs.Limits.{maxDepth, maxChallenges, maxOpenings}
+use Rattle.base.specs.Limits.{maxDepth, maxChallenges, maxOpenings, IsDepth, IsCount}
 use Rattle.base.proofs.ChoiceLaws.{both-first, both-second}
 use Rattle.refusal.specs.Row.{outside}
-use Rattle.groups.specs.Reading.{Answer, value, refused, readAt}
+use Rattle.groups.specs.Reading.{Answer, value, refused, readAt, checked}
+use Rattle.groups.proofs.Checked.{checked-refused, checked-bad, checked-next}
 use Rattle.groups.proofs.Sizes.{length-groups-le}
 use Rattle.groups.proofs.Steps.{read-number}
 use Rattle.groups.proofs.ShortestOnly.{only-shortest}
 use Rattle.tree.specs.Openings.{openingSize}
-use Rattle.proof_file.specs.Head.{HeadAnswer, numbers, notRead, checked, headOf, lengthFrom, hasOpening, partStart, partLength, openingPart}
+use Rattle.proof_file.specs.Head.{HeadAnswer, numbers, notRead, headOf, lengthFrom, hasOpening, partStart, partLength, openingPart}
 use Rattle.proof_file.specs.HeadSteps.{countFrom, depthFrom}
 use Rattle.base.proofs.Parts.{part-size}
 use Rattle.refusal.proofs.Ranges.{range-of}
 
--- ---- a number: refused, bad, or followed by the next
-module _ (number : Answer) (bad : ℕ → Bool) (refusal : ℕ) (next : ℕ → ℕ → HeadAnswer) where
-  checked-refused : (r : ℕ) → number ≡ refused r → notRead r ≡ checked number bad refusal next
-  checked-refused r e = rw e
-
-  checked-bad : (x end : ℕ) → number ≡ value x end → bad x ≡ true → notRead refusal ≡ checked number bad refusal next
-  checked-bad x end e b = rw (e, b)
-
-  checked-next : (x end : ℕ) → number ≡ value x end → bad x ≡ false → next x end ≡ checked number bad refusal next
-  checked-next x end e b = rw (e, b)
-
 module _ (bytes : List ℕ) (n at : ℕ) where
   pub count-refused : (r : ℕ) → readAt bytes at 2 ≡ refused r → notRead r ≡ countFrom bytes n at
   unfolding countFrom
-  count-refused r e = checked-refused (readAt bytes at 2) _ _ _ r e
+  count-refused r e = checked-refused notRead (readAt bytes at 2) _ _ _ r e
 
   pub count-bad : (t end : ℕ) → readAt bytes at 2 ≡ value t end → outside 1 maxChallenges t ≡ true → notRead 8 ≡ countFrom bytes n at
   unfolding countFrom
-  count-bad t end e b = checked-bad (readAt bytes at 2) (outside 1 maxChallenges) _ _ t end e b
+  count-bad t end e b = checked-bad notRead (readAt bytes at 2) (outside 1 maxChallenges) _ _ t end e b
 
   pub count-read : (t end : ℕ) → readAt bytes at 2 ≡ value t end → outside 1 maxChallenges t ≡ false
       → numbers n t end ≡ countFrom bytes n at
   unfolding countFrom
-  count-read t end e b = checked-next (readAt bytes at 2) (outside 1 maxChallenges) 8 (λ t at. numbers n t at) t end e b
+  count-read t end e b = checked-next notRead (readAt bytes at 2) (outside 1 maxChallenges) 8 (λ t at. numbers n t at) t end e b
 
 module _ (bytes : List ℕ) (at : ℕ) where
   pub depth-refused : (r : ℕ) → readAt bytes at 2 ≡ refused r → notRead r ≡ depthFrom bytes at
   unfolding depthFrom
-  depth-refused r e = checked-refused (readAt bytes at 2) _ _ _ r e
+  depth-refused r e = checked-refused notRead (readAt bytes at 2) _ _ _ r e
 
   pub depth-bad : (n end : ℕ) → readAt bytes at 2 ≡ value n end → outside 1 maxDepth n ≡ true → notRead 1 ≡ depthFrom bytes at
   unfolding depthFrom
-  depth-bad n end e b = checked-bad (readAt bytes at 2) (outside 1 maxDepth) _ _ n end e b
+  depth-bad n end e b = checked-bad notRead (readAt bytes at 2) (outside 1 maxDepth) _ _ n end e b
 
   pub depth-read : (n end : ℕ) → readAt bytes at 2 ≡ value n end → outside 1 maxDepth n ≡ false
       → countFrom bytes n end ≡ depthFrom bytes at
   unfolding depthFrom
-  depth-read n end e b = checked-next (readAt bytes at 2) (outside 1 maxDepth) 1 (countFrom bytes) n end e b
+  depth-read n end e b = checked-next notRead (readAt bytes at 2) (outside 1 maxDepth) 1 (countFrom bytes) n end e b
 
 abbrev notEdition : ℕ → Bool
 notEdition e = not (eqb e 1)
 
 module _ (bytes : List ℕ) where
-  by-steps : headOf bytes ≡ checked (readAt bytes 0 2) notEdition 12 (λ e at. depthFrom bytes at)
+  by-steps : headOf bytes ≡ checked notRead (readAt bytes 0 2) notEdition 12 (λ e at. depthFrom bytes at)
   unfolding headOf depthFrom countFrom
   by-steps = refl
 
   pub edition-refused : (r : ℕ) → readAt bytes 0 2 ≡ refused r → notRead r ≡ headOf bytes
-  edition-refused r e = checked-refused (readAt bytes 0 2) notEdition 12 (λ e at. depthFrom bytes at) r e ∙ sym by-steps
+  edition-refused r e = checked-refused notRead (readAt bytes 0 2) notEdition 12 (λ e at. depthFrom bytes at) r e ∙ sym by-steps
 
   pub edition-bad : (x end : ℕ) → readAt bytes 0 2 ≡ value x end → (x ≡ 1 → ⊥) → notRead 12 ≡ headOf bytes
   edition-bad x end e b =
-      checked-bad (readAt bytes 0 2) notEdition 12 (λ e at. depthFrom bytes at) x end e (rw (ne-eqb x 1 b)) ∙ sym by-steps
+      checked-bad notRead (readAt bytes 0 2) notEdition 12 (λ e at. depthFrom bytes at) x end e (rw (ne-eqb x 1 b)) ∙ sym by-steps
 
   pub edition-read : (x end : ℕ) → readAt bytes 0 2 ≡ value x end → x ≡ 1 → depthFrom bytes end ≡ headOf bytes
   edition-read x end e b =
-      checked-next (readAt bytes 0 2) notEdition 12 (λ e at. depthFrom bytes at) x end e (rw (eq-eqb x 1 b)) ∙ sym by-steps
+      checked-next notRead (readAt bytes 0 2) notEdition 12 (λ e at. depthFrom bytes at) x end e (rw (eq-eqb x 1 b)) ∙ sym by-steps
 
 -- ---- the numbers of a head that was read
 -- a number that was not refused
@@ -92,7 +82,7 @@ not-numbers : {A : Type 0} {r n t at : ℕ} → notRead r ≡ numbers n t at →
 not-numbers e = let no : _≡_ {A = ℕ} 0 1 = cc in absurd (omega arith)
 
 pub passed : (number : Answer) (bad : ℕ → Bool) (refusal : ℕ) (next : ℕ → ℕ → HeadAnswer) (n t at : ℕ)
-    → checked number bad refusal next ≡ numbers n t at → Passed number bad next n t at
+    → checked notRead number bad refusal next ≡ numbers n t at → Passed number bad next n t at
 passed (refused r) bad refusal next n t at e = not-numbers e
 passed (value x end) bad refusal next n t at e = cases (bad x) refl
   where
@@ -105,8 +95,8 @@ two-bytes : (bytes : List ℕ) (at x end : ℕ) → ((j : ℕ) → getD bytes j 
 two-bytes bytes at x end b e = omega (arith, only-shortest bytes at 2 x end b e .ends, length-groups-le 2 x)
 
 pub record Within (n t at : ℕ) : Type 0 where
-  pub depth : (1 ≤ n) × (n ≤ maxDepth)
-  pub count : (1 ≤ t) × (t ≤ maxChallenges)
+  pub depth : IsDepth n
+  pub count : IsCount t
   pub place : at ≤ 6
 
 pub head-within : (bytes : List ℕ) (n t at : ℕ) → ((j : ℕ) → getD bytes j 0 < 256) → headOf bytes ≡ numbers n t at → Within n t at
@@ -145,7 +135,7 @@ head-number bytes r e =
 
     refusal-of : (number : Answer) (bad : ℕ → Bool) (refusal : ℕ) (next : ℕ → ℕ → HeadAnswer) (r : ℕ)
         → ((k : ℕ) → number ≡ refused k → 1 ≤ k) → 1 ≤ refusal → ((x end : ℕ) → next x end ≡ notRead r → 1 ≤ r)
-        → checked number bad refusal next ≡ notRead r → 1 ≤ r
+        → checked notRead number bad refusal next ≡ notRead r → 1 ≤ r
     refusal-of (refused k) bad refusal next r some given rest e = let same : k ≡ r = cc in omega (arith, some k refl)
     refusal-of (value x end) bad refusal next r some given rest e = cases (bad x) refl
       where

@@ -8,7 +8,7 @@ use Rattle.base.specs.Choice.{pick, both}
 use Rattle.base.specs.Limits.{maxDepth, maxChallenges, edition}
 use Rattle.refusal.specs.Number.{numberOf}
 use Rattle.refusal.specs.Row.{outside}
-use Rattle.groups.specs.Reading.{Answer, value, refused, readAt}
+use Rattle.groups.specs.Reading.{readAt, checked}
 use Rattle.tree.specs.Openings.{openingSize}
 use Rattle.proof_file.specs.declared.HeadNumbers.{HeadNumbers}
 use Rattle.proof_file.specs.declared.HeadNumbers.the-variants.{Numbers, NotRead}
@@ -36,17 +36,12 @@ abbrev pub headCount : HeadAnswer → ℕ
 headCount (numbers n t at) = t
 headCount (notRead r) = 0
 
--- a number that was read, tested; then what follows it
-abbrev pub checked : Answer → (ℕ → Bool) → ℕ → (ℕ → ℕ → HeadAnswer) → HeadAnswer
-checked (value x at) bad number next = pick (bad x) (notRead number) (next x at)
-checked (refused r) bad number next = notRead r
-
 -- Row 'File, each number in turn': 10 and 11 by the groups; then 12: edition not 1, or 1, or 8.
 unfoldable pub headOf : List ℕ → HeadAnswer
 headOf bytes =
-    checked (readAt bytes 0 numberGroups) (λ e. not (eqb e edition)) 12
-    (λ e at. checked (readAt bytes at numberGroups) (outside 1 maxDepth) 1
-    (λ n at. checked (readAt bytes at numberGroups) (outside 1 maxChallenges) 8 (λ t at. numbers n t at)))
+    checked notRead (readAt bytes 0 numberGroups) (λ e. not (eqb e edition)) 12
+    (λ e at. checked notRead (readAt bytes at numberGroups) (outside 1 maxDepth) 1
+    (λ n at. checked notRead (readAt bytes at numberGroups) (outside 1 maxChallenges) 8 (λ t at. numbers n t at)))
 
 -- the length of a file whose numbers end at a place
 abbrev pub lengthFrom : ℕ → ℕ → ℕ → ℕ

@@ -5,7 +5,7 @@ use mathlib.Core.List.{List, [], _∷_, _++_}
 use lib.Dec.{eqb}
 use lib.ListN.{take}
 use Rattle.base.specs.Choice.{pick}
-use Rattle.base.specs.Limits.{maxDepth, maxMemory}
+use Rattle.base.specs.Limits.{maxDepth, maxMemory, IsDepth, IsMemory}
 use Rattle.tree.specs.Nodes.{Node, node, InTree, orderBelow}
 use Rattle.tree.specs.Openings.{sibling, openingSize}
 use Rattle.tree.specs.Store.{storeSize}
@@ -19,8 +19,8 @@ HoldsLabels edition statement n m store = (u : Node) → InTree m u → labelIn 
 
 -- the five conditions of a start, over the lengths of store and output
 pub record Openable (n m leaf store out : ℕ) : Type 0 where
-  pub depth : (1 ≤ n) × (n ≤ maxDepth)
-  pub memory : m ≤ min n maxMemory
+  pub depth : IsDepth n
+  pub memory : IsMemory n m
   pub storeFits : storeSize m ≤ store
   pub position : leaf < 2 ^ n
   pub outFits : openingSize n ≤ out

@@ -1,7 +1,7 @@
 -- A run that is not refused at its start, the state that k labels give, and calls with budgets.
 use Prim.Native.Nat.{ℕ, _≤_, min}
 use mathlib.Core.List.{List}
-use Rattle.base.specs.Limits.{maxDepth, maxMemory}
+use Rattle.base.specs.Limits.{maxDepth, maxMemory, IsMemory}
 use Rattle.machine.specs.Calls.{afterCalls, labelsOver}
 use Rattle.tree.specs.Store.{storeSize}
 use Rattle.run.specs.Steps.{newRun, Stamped, labelsIn, advanced}
@@ -11,7 +11,7 @@ use Rattle.run_theory.specs.Reached.{runAfter, storeAfter}
 pub record Startable (n m size : ℕ) : Type 0 where
   pub positive : 1 ≤ n
   pub shallow : n ≤ maxDepth
-  pub memory : m ≤ min n maxMemory
+  pub memory : IsMemory n m
   pub enough : storeSize m ≤ size
 
 -- a new run with its store, and what they are to be after k labels

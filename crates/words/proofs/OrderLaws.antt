@@ -8,7 +8,7 @@ use lib.Dec.{ltb, leb, eqb}
 use lib.ListN.{length}
 use borrow.Author.Tests.{ltb-false, leb-true, not-false}
 use Rattle.base.specs.Choice.{pick, both}
-use Rattle.base.specs.Limits.{maxDepth, maxChallenges, ownLevel}
+use Rattle.base.specs.Limits.{maxDepth, maxChallenges, ownLevel, IsDepth, IsCount}
 use Rattle.base.proofs.ChoiceLaws.{both-first, both-second}
 use Rattle.refusal.specs.Row.{outside}
 use Rattle.words.specs.Parting.{wordAt, wordCount}
@@ -88,8 +88,8 @@ module _ (n t m : ℕ) where
 
 -- depth, challenges, memory level
 pub record Sealing (n t m : ℕ) : Type 0 where
-  pub depth : (1 ≤ n) × (n ≤ maxDepth)
-  pub count : (1 ≤ t) × (t ≤ maxChallenges)
+  pub depth : IsDepth n
+  pub count : IsCount t
   pub memory : (m ≤ n) × (m ≤ ownLevel)
 
 inside : (low high x : ℕ) → outside low high x ≡ false → (low ≤ x) × (x ≤ high)

@@ -6,7 +6,7 @@ use Prim.Native.Nat.{ℕ, _^_, _≤_, _<_, min}
 use borrow.Author.Tests.{ltb-false, leb-false}
 use lib.Dec.{ltb, leb}
 use lib.ListN.{length}
-use Rattle.base.specs.Limits.{maxDepth, maxMemory, maxChallenges}
+use Rattle.base.specs.Limits.{maxDepth, maxMemory, maxChallenges, IsDepth, IsCount}
 use Rattle.refusal.specs.Row.{outside, either, isDone, memoryOver}
 use Rattle.run.specs.Rows.{impossible}
 use Rattle.refusal.proofs.Ranges.{neither}
@@ -22,11 +22,11 @@ use Rattle.writing.specs.Steps.{mayFollow, newWriting, noWriting, starte
 
 -- what the first condition of continuing leaves
 pub record Bounded (w : Writing) : Type 0 where
-  pub depth : (1 ≤ w .opening .depth) × (w .opening .depth ≤ maxDepth)
+  pub depth : IsDepth (w .opening .depth)
   pub memory : w .opening .memory ≤ min (w .opening .depth) maxMemory
   pub few : w .opening .made ≤ nodesAnew (w .opening .depth) (w .opening .memory)
   pub position : w .opening .leaf < 2 ^ (w .opening .depth)
-  pub count : (1 ≤ w .count) × (w .count ≤ maxChallenges)
+  pub count : IsCount (w .count)
   pub number : (1 ≤ w .number) × (w .number ≤ w .count)
   pub under : mayFollow w ≡ false
 

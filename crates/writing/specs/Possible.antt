@@ -4,7 +4,7 @@ use Prim.Native.Nat.{ℕ, _+_, _^_, _≤_, _<_, min}
 use mathlib.Core.Bool.{Bool, false}
 use mathlib.Core.List.{List}
 use lib.Dec.{leb}
-use Rattle.base.specs.Limits.{maxDepth, maxMemory, maxChallenges}
+use Rattle.base.specs.Limits.{maxDepth, maxMemory, maxChallenges, IsDepth, IsMemory}
 use Rattle.refusal.specs.Row.{outside, either}
 use Rattle.tree.specs.Store.{storeSize}
 use Rattle.run.specs.Rows.{impossible}
@@ -33,8 +33,8 @@ stateOutside w =
 
 -- opening i of t at depth n can be written: over the lengths of store and file
 pub record Room (n m t i store file : ℕ) : Type 0 where
-  pub depth : (1 ≤ n) × (n ≤ maxDepth)
-  pub memory : m ≤ min n maxMemory
+  pub depth : IsDepth n
+  pub memory : IsMemory n m
   pub storeFits : storeSize m ≤ store
   pub number : (1 ≤ i) × (i ≤ t)
   pub count : t ≤ maxChallenges

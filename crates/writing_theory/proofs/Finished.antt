@@ -5,7 +5,7 @@ use Prim.Native.Nat.{ℕ, _-_, _≤_}
 use mathlib.Core.List.{List, _++_}
 use lib.ListN.{length, take, drop}
 use lib.Seq.{take-at}
-use Rattle.base.specs.Limits.{edition, heldSize}
+use Rattle.base.specs.Limits.{edition, heldSize, IsCount}
 use Rattle.base.specs.Bytes.{zeros}
 use Rattle.machine.specs.Calls.{total, afterCalls}
 use Rattle.machine.proofs.CallLaws.{calls-end}
@@ -19,7 +19,6 @@ use Rattle.run_theory.specs.Runs.{Startable, atStart, called}
 use Rattle.run_theory.proofs.Step.{label-size}
 use Rattle.run_theory.proofs.RunLaws.{finished-held, run-goes}
 use Rattle.run_theory.proofs.Finished.{finished-holds, finished-length}
-use Rattle.check_theory.specs.IsProof.{IsCount}
 use Rattle.check_theory.specs.TreeFile.{rootOf, treeFile}
 use Rattle.writing.specs.Steps.{Written, started, advanced}
 use Rattle.writing_theory.specs.Filed.{Writable, labelsAnew, fileFrom}

@@ -8,14 +8,13 @@ use mathlib.Core.List.{List, _++_, append-assoc, append-nil}
 use lib.ListN.{length, take, drop, length-append, length-drop, take-append-drop}
 use lib.Seq.{take-at, length-take-le, drop-drop}
 use Rattle.base.specs.Limits as limits
-use Rattle.base.specs.Limits.{maxDepth}
+use Rattle.base.specs.Limits.{maxDepth, IsDepth, IsCount}
 use Rattle.base.specs.Bytes.{joined, written}
 use Rattle.tree.specs.Nodes.{root}
 use Rattle.tree.specs.Openings.{openingSize}
 use Rattle.proof_file.specs.Layout.{head, headSize, openingFrom, fileSize, file}
 use Rattle.proof_file.specs.FileCheck.{fileCheck}
 use Rattle.run_theory.proofs.Step.{label-size}
-use Rattle.check_theory.specs.IsProof.{IsDepth, IsCount}
 use Rattle.check_theory.specs.TreeFile.{rootOf, challengedOpening, treeOpenings, treeFile}
 use Rattle.proof_file.proofs.Leaves.{challengeLeaf-small}
 use Rattle.check_theory.proofs.Reading.{length-head}

@@ -6,7 +6,7 @@ use mathlib.Core.List.{List, [], _∷_}
 use lib.Dec.{ltb}
 use lib.ListN.{length}
 use borrow.Author.Tests.{le-ltb, lt-leb}
-use Rattle.base.specs.Limits.{maxDepth, maxMemory, maxChallenges}
+use Rattle.base.specs.Limits.{maxDepth, maxMemory, maxChallenges, IsDepth, IsCount}
 use Rattle.refusal.specs.Row.{outside, memoryOver}
 use Rattle.refusal.proofs.RowLaws.{none-holds, NoneHolds}
 use Rattle.tree.specs.Store.{storeSize}
@@ -15,7 +15,6 @@ use Rattle.opening.specs.Rows.{nodesAnew}
 use Rattle.proof_file.specs.Layout.{fileSize, headRow}
 use Rattle.run_theory.specs.Runs.{Startable}
 use Rattle.run_theory.proofs.StartLaws.{start-bounds}
-use Rattle.check_theory.specs.IsProof.{IsDepth, IsCount}
 use Rattle.check_theory.proofs.RowLaws.{within, done-head}
 use Rattle.writing.specs.declared.Writing.{Writing}
 use Rattle.writing.specs.Rows.{writeRow, rewriteRow}

@@ -6,7 +6,7 @@ use lib.ListN.{take, drop}
 use Rattle.base.specs.Choice.{pick}
 use Rattle.base.specs.Bytes.{joined}
 use Rattle.base.specs.Limits as limits
-use Rattle.base.specs.Limits.{maxMemory}
+use Rattle.base.specs.Limits.{maxMemory, IsDepth, IsMemory, IsCount}
 use Rattle.machine.specs.Calls.{afterCalls}
 use Rattle.tree.specs.Store.{storeSize}
 use Rattle.tree.specs.Openings.{openingSize}
@@ -16,14 +16,13 @@ use Rattle.opening.specs.Steps.{Open}
 use Rattle.proof_file.specs.Challenge.{challengeLeaf}
 use Rattle.proof_file.specs.Layout.{head, headSize, fileSize}
 use Rattle.run_theory.specs.Openings.{openAfter}
-use Rattle.check_theory.specs.IsProof.{IsDepth, IsCount}
 use Rattle.check_theory.specs.TreeFile.{rootOf, treeOpenings}
 use Rattle.writing.specs.Steps.{Written, newWriting, started, advanced}
 
 -- the five conditions of a start, over the lengths of store and file
 pub record Writable (n m t store file : ℕ) : Type 0 where
   pub depth : IsDepth n
-  pub memory : m ≤ min n maxMemory
+  pub memory : IsMemory n m
   pub storeFits : storeSize m ≤ store
   pub count : IsCount t
   pub fileFits : fileSize n t ≤ file

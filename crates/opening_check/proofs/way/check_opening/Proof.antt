@@ -3,7 +3,7 @@ use mathlib.Core.Path.{sym, _∙_}
 use Prim.Native.Nat.{_≤_}
 use native.Mathlib.Omega.{arith}
 use borrow.Author.Needs.{needs}
-use Rattle.base.specs.Limits.{edition, maxDepth}
+use Rattle.base.specs.Limits.{edition, maxDepth, IsDepth}
 use Rattle.label.proofs.Walking.{full}
 use Rattle.opening_check.proofs.OneOpening.{depth-refused, leaf-refused, short-refused, long-refused, rest-right}
 use Rattle.refusal.proofs.Ranges.{range-of}
@@ -15,7 +15,7 @@ returns c =
     let a = c .before .before .before .args in
     depth-refused edition (a .statement) (a .depth) (a .leaf) (a .root) (a .bytes .now) (sym (c .before .beyond .ensures) ∙ c .if1 .taken)
 
-within-depth : (c : tie.Else1) → (1 ≤ c .before .before .before .args .depth) × (c .before .before .before .args .depth ≤ maxDepth)
+within-depth : (c : tie.Else1) → IsDepth (c .before .before .before .args .depth)
 within-depth c = range-of 1 maxDepth (c .before .before .before .args .depth) (sym (c .before .beyond .ensures) ∙ c .if1 .left)
 
 shl-if2 : tie.Need-shl-if2

@@ -5,7 +5,7 @@ use Prim.Native.Nat.{ℕ, _≤_, min}
 use native.Mathlib.Omega.{arith}
 use borrow.Author.Tests.{ltb-false}
 use lib.Dec.{ltb}
-use Rattle.base.specs.Limits.{maxDepth, maxMemory, maxChallenges}
+use Rattle.base.specs.Limits.{maxDepth, maxMemory, maxChallenges, IsCount}
 use Rattle.refusal.specs.Row.{outside, memoryOver}
 use Rattle.refusal.proofs.RowLaws.{NoneHolds, none-holds, is-done, is-refused}
 use Rattle.tree.specs.Store.{storeSize}
@@ -33,7 +33,7 @@ write-room n m t store file e =
     ∷ (ltb file (fileSize n t), 7)
     ∷ [] in
     let none : NoneHolds row = none-holds row refl e in
-    let count : (1 ≤ t) × (t ≤ maxChallenges) = bounds 1 maxChallenges t (none .1 .1 .1 .0) in
+    let count : IsCount t = bounds 1 maxChallenges t (none .1 .1 .1 .0) in
     record {
       depth = bounds 1 maxDepth n (none .0);
       memory = ltb-false (min n maxMemory) m (none .1 .0);
