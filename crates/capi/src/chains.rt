@@ -90,8 +90,12 @@ pub extern "C" fn mastdock_compare(
     ensures { λ r. ⌜ r .clash .i ≡ firstOf (compared edition (now (statement .entry)) depth (now (leaves .entry)) (now (openings .entry))) ⌝ }
     ensures { λ r. ⌜ r .clash .j ≡ secondOf (compared edition (now (statement .entry)) depth (now (leaves .entry)) (now (openings .entry))) ⌝ }
     ensures { λ r. ⌜ r .clash .level ≡ levelOf (compared edition (now (statement .entry)) depth (now (leaves .entry)) (now (openings .entry))) ⌝ }
-    ensures { λ r. ⌜ r .clash .first ≡ firstInput edition (now (statement .entry)) depth (now (leaves .entry)) (now (openings .entry)) (compared edition (now (statement .entry)) depth (now (leaves .entry)) (now (openings .entry))) ⌝ }
-    ensures { λ r. ⌜ r .clash .second ≡ secondInput edition (now (statement .entry)) depth (now (leaves .entry)) (now (openings .entry)) (compared edition (now (statement .entry)) depth (now (leaves .entry)) (now (openings .entry))) ⌝ }
+    ensures { λ r. ⌜ r .clash .first
+        ≡ firstInput edition (now (statement .entry)) depth (now (leaves .entry)) (now (openings .entry))
+        (compared edition (now (statement .entry)) depth (now (leaves .entry)) (now (openings .entry))) ⌝ }
+    ensures { λ r. ⌜ r .clash .second
+        ≡ secondInput edition (now (statement .entry)) depth (now (leaves .entry)) (now (openings .entry))
+        (compared edition (now (statement .entry)) depth (now (leaves .entry)) (now (openings .entry))) ⌝ }
     ensures { λ r. ⌜ r .clash .zero ≡ zeros 6 ⌝ }
 {
     let c = compare::compare(*statement, depth, leaves, openings);
@@ -112,7 +116,8 @@ struct Parts {
 }
 
 fn drawing_numbers(drawing: Drawing) -> Parts
-    ensures { λ r. ⌜ (r .kind ≡ kindOf (drawingAnswer drawing)) × ((r .code ≡ refusalOf (drawingAnswer drawing)) × (r .count ≡ countOf (drawingAnswer drawing))) ⌝ }
+    ensures { λ r. ⌜ (r .kind ≡ kindOf (drawingAnswer drawing))
+        × ((r .code ≡ refusalOf (drawingAnswer drawing)) × (r .count ≡ countOf (drawingAnswer drawing))) ⌝ }
 {
     match drawing {
         Drawing::NotDrawn(why, opening) => Parts {

@@ -62,7 +62,8 @@ pub struct HeadRead {
 
 // The head's numbers, or the refusal beside 0 and 0.
 fn head_read(numbers: HeadNumbers) -> HeadRead
-    ensures { λ r. ⌜ (r .refusal ≡ headRefusal (headAnswer numbers)) × ((r .depth ≡ headDepth (headAnswer numbers)) × (r .count ≡ headCount (headAnswer numbers))) ⌝ }
+    ensures { λ r. ⌜ (r .refusal ≡ headRefusal (headAnswer numbers))
+        × ((r .depth ≡ headDepth (headAnswer numbers)) × (r .count ≡ headCount (headAnswer numbers))) ⌝ }
 {
     match numbers {
         HeadNumbers::Numbers(depth, count, _) => HeadRead {

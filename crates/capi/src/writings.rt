@@ -33,7 +33,8 @@ pub extern "C" fn mastdock_writing_start(
 ) -> WritingStarted
     ensures { λ r. ⌜ r .refusal ≡ writeRow depth memory count (length (now (store .entry))) (length (now (file .entry))) ⌝ }
     ensures { λ r. ⌜ r .writing ≡ started (now (statement .entry)) (now (root .entry)) depth memory count (now (store .entry)) (now (file .entry)) .writing ⌝ }
-    ensures { λ _. ⌜ now (file .exit) ≡ started (now (statement .entry)) (now (root .entry)) depth memory count (now (store .entry)) (now (file .entry)) .file ⌝ }
+    ensures { λ _. ⌜ now (file .exit)
+        ≡ started (now (statement .entry)) (now (root .entry)) depth memory count (now (store .entry)) (now (file .entry)) .file ⌝ }
 {
     let s = Writing::start(*statement, *root, depth, memory, count, store, file);
     let outcome = s.outcome;

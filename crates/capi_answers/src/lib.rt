@@ -14,7 +14,8 @@ ghost use Rattle.writing.specs.Possible.{writtenOf};
 ghost use Rattle.writing.specs.Steps as writings;
 ghost use Rattle.chain.specs.PlanRow.{plannedList};
 ghost use Rattle.draw.specs.Drawing.{drawnList};
-ghost use Rattle.capi_answers.specs.Answers.{hashUpdate, hashFinish, digest, runStart, runAdvance, openingStart, openingAdvance, challenge, readHead, openingPlace, writingStart, writingAdvance, plan, compare, draw};
+ghost use Rattle.capi_answers.specs.Answers.{hashUpdate, hashFinish, digest, runStart, runAdvance, openingStart, openingAdvance, challenge};
+ghost use Rattle.capi_answers.specs.Answers.{readHead, openingPlace, writingStart, writingAdvance, plan, compare, draw};
 use capi::Challenged;
 use capi::Compared;
 use capi::Drawn;
@@ -157,7 +158,9 @@ pub fn writing_start(
     file: &mut [u8],
 ) -> WritingStarted
     ensures { λ r. ⌜ r ≡ writingStart (now (statement .entry)) (now (root .entry)) depth memory count (now (store .entry)) (now (file .entry)) ⌝ }
-    ensures { λ _. ⌜ now (file .exit) ≡ writings.started (now (statement .entry)) (now (root .entry)) depth memory count (now (store .entry)) (now (file .entry)) .file ⌝ }
+    ensures { λ _. ⌜ now (file .exit)
+        ≡ writings.started (now (statement .entry)) (now (root .entry)) depth memory count (now (store .entry))
+        (now (file .entry)) .file ⌝ }
 {
     capi::mastdock_writing_start(statement, root, depth, memory, count, store, file)
 }

@@ -10,7 +10,8 @@ use Rattle.chain_theory.specs.Ways.{onSomeWay, chain}
 use Rattle.chain_theory.specs.Planning.{increasing, isLeaf}
 use Rattle.chain_theory.proofs.Lists.{clash, passing-one, passing-append, passing-passing, passing-every}
 use Rattle.chain_theory.proofs.OrderLaws.{order-zero, order-suc}
-use Rattle.chain_theory.proofs.Subtrees.{under, under-half, LeavesOf, leftLeaves, rightLeaves, left-leaves, right-leaves, leaves-halves, single, nonEmpty, someWay-under, leaves-under}
+use Rattle.chain_theory.proofs.Subtrees.{under, under-half, LeavesOf, leftLeaves, rightLeaves, left-leaves, right-leaves, leaves-halves}
+use Rattle.chain_theory.proofs.Subtrees.{single, nonEmpty, someWay-under, leaves-under}
 
 -- the nodes on the ways of the leaves of the subtree of height h at level l, position p
 unfoldable pub chainBelow : ℕ → ℕ → ℕ → List ℕ → List Node

@@ -11,7 +11,8 @@ use Rattle.chain_theory.specs.Ways.{onSomeWay, chain}
 use Rattle.chain_theory.specs.Counts.{leavesOpened, holdsNone, insideEmpty, isLargestEmpty, largestEmpty}
 use Rattle.chain_theory.specs.Planning.{isLeaf, sorted}
 use Rattle.chain_theory.proofs.Lists.{both-false, pick-true, length-pick, passing-one, passing-append, passing-passing, passing-every}
-use Rattle.chain_theory.proofs.Subtrees.{LeavesOf, left-leaves, right-leaves, under, leftLeaves, rightLeaves, under-half, nonEmpty, single, someWay-under, leaves-halves, leaves-under}
+use Rattle.chain_theory.proofs.Subtrees.{LeavesOf, left-leaves, right-leaves, under, leftLeaves, rightLeaves, under-half, nonEmpty, single}
+use Rattle.chain_theory.proofs.Subtrees.{someWay-under, leaves-halves, leaves-under}
 use Rattle.chain_theory.proofs.ChainBelow.{chainBelow, chain-chainBelow}
 use Rattle.chain_theory.proofs.OrderLaws.{order-zero, order-suc}
 use Rattle.chain_theory.proofs.Sorting.{increasing-sorted, every-sorted, onSomeWay-sorted, chain-sorted, length-sorted}

@@ -10,7 +10,8 @@ use lib.ListN.{length, getD, length-append}
 use borrow.Author.Tests.{eqb-true, eqb-false, le-leb, lt-leb, eq-eqb, ne-eqb}
 use Rattle.base.specs.Choice.{pick, both, passing}
 use Rattle.tree.specs.Nodes.{Node, node, sameNode, orderBelow}
-use Rattle.chain_theory.proofs.Lists.{Order, less, same, more, order, length-pick, both-left, both-right, passing-yes, passing-no, passing-one, passing-append}
+use Rattle.chain_theory.proofs.Lists.{Order, less, same, more, order, length-pick, both-left, both-right, passing-yes, passing-no}
+use Rattle.chain_theory.proofs.Lists.{passing-one, passing-append}
 use Rattle.chain_theory.proofs.Subtrees.{halved, div-zero}
 
 pub order-zero : (v : Node) → orderBelow zero v ≡ v ∷ []

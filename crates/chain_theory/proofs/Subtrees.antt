@@ -13,7 +13,8 @@ use Rattle.base.specs.Choice.{pick, passing, every}
 use Rattle.tree.specs.Nodes.{node, onWay}
 use Rattle.chain_theory.specs.Ways.{onSomeWay}
 use Rattle.chain_theory.specs.Planning.{increasing, isLeaf}
-use Rattle.chain_theory.proofs.Lists.{same-test, passing-yes, passing-no, halves, every-first, every-rest, every-imp, every-passing, increasing-first, increasing-kept}
+use Rattle.chain_theory.proofs.Lists.{same-test, passing-yes, passing-no, halves, every-first, every-rest, every-imp, every-passing}
+use Rattle.chain_theory.proofs.Lists.{increasing-first, increasing-kept}
 
 -- the leaf lies in the subtree of height h at position p
 unfoldable pub under : ℕ → ℕ → ℕ → Bool

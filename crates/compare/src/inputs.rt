@@ -49,7 +49,9 @@ pub fn input_at(
     level: u64,
 ) -> [u8; 105]
     requires { ⌜ Inside n (now leaves) (now table) × (1 ≤ i) × (i ≤ length (now leaves)) × (level < n) ⌝ }
-    ensures { λ r. ⌜ r ≡ documentInput edition n statement (wayNode n (leafOf (now (leaves .entry)) i) level) (inLabels (cell n (now (table .entry)) i level)) ⌝ }
+    ensures { λ r. ⌜ r
+        ≡ documentInput edition n statement (wayNode n (leafOf (now (leaves .entry)) i) level)
+        (inLabels (cell n (now (table .entry)) i level)) ⌝ }
 {
     let position = way_position(n, leaves, i, level);
     inner_input(

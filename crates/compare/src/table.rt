@@ -110,7 +110,8 @@ pub fn fill_table(
     openings: &[u8],
 )
     requires { ⌜ Sized n (now leaves) (now openings) × (length (now table) ≡ tableSize) ⌝ }
-    ensures { λ _. ⌜ TableOf edition statement n (now (leaves .entry)) (now (openings .entry)) (length (now (leaves .entry))) (now (table .entry)) (now (table .exit)) ⌝ }
+    ensures { λ _. ⌜ TableOf edition statement n (now (leaves .entry)) (now (openings .entry)) (length (now (leaves .entry))) (now (table .entry))
+        (now (table .exit)) ⌝ }
 {
     let size = 32 * (n + 1) as usize;
     let mut i: usize = 0;

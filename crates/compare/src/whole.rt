@@ -45,8 +45,12 @@ fn compare_all(
     requires { ⌜ compareRow depth (now leaves) (length (now openings)) ≡ 0 ⌝ }
     ensures { λ r. ⌜ outcomeNumber (r .outcome) ≡ 0 ⌝ }
     ensures { λ r. ⌜ r .pair ≡ firstDisagreement edition statement depth (now (leaves .entry)) (now (openings .entry)) ⌝ }
-    ensures { λ r. ⌜ r .first ≡ firstInput edition statement depth (now (leaves .entry)) (now (openings .entry)) (firstDisagreement edition statement depth (now (leaves .entry)) (now (openings .entry))) ⌝ }
-    ensures { λ r. ⌜ r .second ≡ secondInput edition statement depth (now (leaves .entry)) (now (openings .entry)) (firstDisagreement edition statement depth (now (leaves .entry)) (now (openings .entry))) ⌝ }
+    ensures { λ r. ⌜ r .first
+        ≡ firstInput edition statement depth (now (leaves .entry)) (now (openings .entry))
+        (firstDisagreement edition statement depth (now (leaves .entry)) (now (openings .entry))) ⌝ }
+    ensures { λ r. ⌜ r .second
+        ≡ secondInput edition statement depth (now (leaves .entry)) (now (openings .entry))
+        (firstDisagreement edition statement depth (now (leaves .entry)) (now (openings .entry))) ⌝ }
 {
     let mut table = empty_table();
     fill_table(&mut table, edition, statement, depth, leaves, openings);
@@ -79,8 +83,12 @@ fn compare_all(
 pub fn compare(statement: [u8; 32], depth: u64, leaves: &[u64], openings: &[u8]) -> Compared
     ensures { λ r. ⌜ outcomeNumber (r .outcome) ≡ compareRow depth (now (leaves .entry)) (length (now (openings .entry))) ⌝ }
     ensures { λ r. ⌜ r .pair ≡ compared edition statement depth (now (leaves .entry)) (now (openings .entry)) ⌝ }
-    ensures { λ r. ⌜ r .first ≡ firstInput edition statement depth (now (leaves .entry)) (now (openings .entry)) (compared edition statement depth (now (leaves .entry)) (now (openings .entry))) ⌝ }
-    ensures { λ r. ⌜ r .second ≡ secondInput edition statement depth (now (leaves .entry)) (now (openings .entry)) (compared edition statement depth (now (leaves .entry)) (now (openings .entry))) ⌝ }
+    ensures { λ r. ⌜ r .first
+        ≡ firstInput edition statement depth (now (leaves .entry)) (now (openings .entry))
+        (compared edition statement depth (now (leaves .entry)) (now (openings .entry))) ⌝ }
+    ensures { λ r. ⌜ r .second
+        ≡ secondInput edition statement depth (now (leaves .entry)) (now (openings .entry))
+        (compared edition statement depth (now (leaves .entry)) (now (openings .entry))) ⌝ }
 {
     let checked = check(depth, leaves, openings.len());
     match checked {

@@ -107,7 +107,8 @@ fn push(list: &mut [u64], count: usize, value: u64, within: bool, digit: bool) -
 // The first numbers of an input that can be read, and zeros after them.
 pub fn read_numbers(input: &[u8]) -> Numbers
     requires { ⌜ allFit false 0 (now input) ≡ true ⌝ }
-    ensures { λ r. ⌜ (r .list ≡ written (zeros maxNumbers) 0 (take maxNumbers (numbers (now (input .entry))))) × (r .count ≡ length (take maxNumbers (numbers (now (input .entry))))) ⌝ }
+    ensures { λ r. ⌜ (r .list ≡ written (zeros maxNumbers) 0 (take maxNumbers (numbers (now (input .entry)))))
+        × (r .count ≡ length (take maxNumbers (numbers (now (input .entry))))) ⌝ }
 {
     let mut list = [0u64; MAX_NUMBERS];
     let mut count: usize = 0;

@@ -16,7 +16,8 @@ pub struct Spelled {
 
 // A number in decimal.
 pub fn spell(x: u64) -> Spelled
-    ensures { λ r. ⌜ ((drop (r .start) (r .text) ≡ decimal x) × (take (r .start) (r .text) ≡ zeros (r .start))) × ((r .start < 20) × (length (r .text) ≡ 20)) ⌝ }
+    ensures { λ r. ⌜ ((drop (r .start) (r .text) ≡ decimal x) × (take (r .start) (r .text) ≡ zeros (r .start)))
+        × ((r .start < 20) × (length (r .text) ≡ 20)) ⌝ }
 {
     let mut text = [0u8; 20];
     let mut i: usize = 19;

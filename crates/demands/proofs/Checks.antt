@@ -42,8 +42,10 @@ use Rattle.writing.specs.Steps as writings
 use Rattle.writing.specs.Steps.{writingMachine}
 use Rattle.demands.specs.Rows.{IsFirst, Outside, Impossible, planningChain, ImpossibleFile}
 use Rattle.run_theory.proofs.Idle.{run-none, run-same, opening-none, opening-same}
-use Rattle.demands.specs.Demand1.{HashingPortion, HashingEnd, HashingWhole, StartingRun, ContinuingRun, StartingOpening, ContinuingOpening, AChallenge, WritingHead, OneOpening, PlanningChain, StartingFile, ContinuingFile}
-use Rattle.demands.proofs.Decisions.{Decides, decides-outside, decides-lt, decides-le, decides-eq, decides-differ, decides-both, decides-either, decides-some, decides-under, Decided, is-first}
+use Rattle.demands.specs.Demand1.{HashingPortion, HashingEnd, HashingWhole, StartingRun, ContinuingRun, StartingOpening, ContinuingOpening}
+use Rattle.demands.specs.Demand1.{AChallenge, WritingHead, OneOpening, PlanningChain, StartingFile, ContinuingFile}
+use Rattle.demands.proofs.Decisions.{Decides, decides-outside, decides-lt, decides-le, decides-eq, decides-differ, decides-both}
+use Rattle.demands.proofs.Decisions.{decides-either, decides-some, decides-under, Decided, is-first}
 
 -- ---- conditions that stand in several rows
 abbrev pub depth : ℕ → Decided

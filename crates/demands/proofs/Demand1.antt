@@ -3,7 +3,8 @@ use Rattle.demands.specs.Demand1.{Demand1}
 use Rattle.demands.proofs.Carrying.{labelling-ends}
 use Rattle.demands.proofs.Openings.{opening-ends}
 use Rattle.demands.proofs.Writings.{writing-ends}
-use Rattle.demands.proofs.Checks.{hashing-portion, hashing-end, hashing-whole, starting-run, continuing-run, starting-opening, continuing-opening, a-challenge, writing-head, one-opening, planning-chain, starting-file, continuing-file}
+use Rattle.demands.proofs.Checks.{hashing-portion, hashing-end, hashing-whole, starting-run, continuing-run, starting-opening}
+use Rattle.demands.proofs.Checks.{continuing-opening, a-challenge, writing-head, one-opening, planning-chain, starting-file, continuing-file}
 use Rattle.demands.proofs.Programs.{planning-program, comparing-openings, writing-number}
 use Rattle.demands.proofs.Numbers.{reading-number}
 use Rattle.demands.proofs.Files.{a-head, a-file}

@@ -2,7 +2,8 @@
 use Prim.Native.Nat.{ℕ, _<_}
 use mathlib.Core.List.{List}
 use lib.ListN.{length, getD}
-use Rattle.draw_theory.proofs.Demand3.{chain-exactly, chain-counted, chain-hashes, chain-ends, chain-nodes, chain-list, clash-exactly, clash-inputs, drawn-planned, refused-exactly, clash-untouched, refused-untouched, chain-inputs}
+use Rattle.draw_theory.proofs.Demand3.{chain-exactly, chain-counted, chain-hashes, chain-ends, chain-nodes, chain-list, clash-exactly, clash-inputs}
+use Rattle.draw_theory.proofs.Demand3.{drawn-planned, refused-exactly, clash-untouched, refused-untouched, chain-inputs}
 use Rattle.demands.specs.Demand3.{Drawn, Demand3}
 
 drawn-from : (bytes statement : List ℕ) (n t : ℕ) (list : List ℕ) → ((j : ℕ) → getD bytes j 0 < 256) → Drawn bytes statement n t list

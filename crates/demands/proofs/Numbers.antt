@@ -150,7 +150,8 @@ module _ (bytes : List ℕ) (at i left : ℕ) (here : at < length bytes) (low : 
     last-zero z =
         ⊎-elim
         (λ (none : i < 1). rw (is-read (rw (le-ltb 0 i (omega arith)) (single (eqb (byteAt bytes at) 0))) (few (omega arith)))
-        (first-good (λ l. ⊎-elim (λ (b : (0 < i) × (byteAt bytes at ≡ 0)). omega (arith, b .0)) (λ (b : (9 ≤ i) × (1 < byteAt bytes at)). omega (arith, b .0)) (l .1))))
+        (first-good (λ l. ⊎-elim (λ (b : (0 < i) × (byteAt bytes at ≡ 0)). omega (arith, b .0)) (λ (b : (9 ≤ i) ×
+        (1 < byteAt bytes at)). omega (arith, b .0)) (l .1))))
         (λ some. rw (is-zero z some) (first-bad (low, inl (some, z))))
         (lt-or-le i 1)
 
@@ -159,11 +160,13 @@ module _ (bytes : List ℕ) (at i left : ℕ) (here : at < length bytes) (low : 
         let several : both (eqb (byteAt bytes at) 0) (ltb 0 i) ≡ false = rw (ne-eqb (byteAt bytes at) 0 (omega arith)) in
         ⊎-elim
         (λ before. rw (is-read several (few before))
-        (first-good (λ l. ⊎-elim (λ (b : (0 < i) × (byteAt bytes at ≡ 0)). omega (arith, b .1)) (λ (b : (9 ≤ i) × (1 < byteAt bytes at)). omega (arith, b .0)) (l .1))))
+        (first-good (λ l. ⊎-elim (λ (b : (0 < i) × (byteAt bytes at ≡ 0)). omega (arith, b .1)) (λ (b : (9 ≤ i) ×
+        (1 < byteAt bytes at)). omega (arith, b .0)) (l .1))))
         (λ tenth.
         ⊎-elim
         (λ one. rw (is-read several (omega (arith, in-tenth tenth, tenth-sum tenth)))
-        (first-good (λ l. ⊎-elim (λ (b : (0 < i) × (byteAt bytes at ≡ 0)). omega (arith, b .1)) (λ (b : (9 ≤ i) × (1 < byteAt bytes at)). omega (arith, b .1)) (l .1))))
+        (first-good (λ l. ⊎-elim (λ (b : (0 < i) × (byteAt bytes at ≡ 0)). omega (arith, b .1)) (λ (b : (9 ≤ i) ×
+        (1 < byteAt bytes at)). omega (arith, b .1)) (l .1))))
         (λ two. rw (is-long tenth two) (first-bad (low, inr (tenth, two))))
         (lt-or-le (byteAt bytes at) 2))
         (lt-or-le i 9)

@@ -18,7 +18,8 @@ use Rattle.planning.specs.Output.{places, planText, printed}
 use Rattle.compare.specs.Comparison.{compareRow, compared}
 use Rattle.demands.specs.Rows.{OtherByte, Unreadable}
 use Rattle.demands.specs.Demand1.{PlanningProgram, Comparing, WritingNumber}
-use Rattle.demands.proofs.Decisions.{Decides, decides-lt, decides-eq, decides-between, decides-not, decides-under, decides-either, decides-some, is-first}
+use Rattle.demands.proofs.Decisions.{Decides, decides-lt, decides-eq, decides-between, decides-not, decides-under, decides-either}
+use Rattle.demands.proofs.Decisions.{decides-some, is-first}
 use Rattle.demands.proofs.Checks.{depth, count, someLeaf, planning-row}
 
 -- ---- comparing

@@ -39,7 +39,9 @@ use Rattle.planning.specs.Output.{refusedText, headText, nodesText, printed}
 use Rattle.compare.specs.declared.Pair.the-variants.{Agree}
 use Rattle.compare.specs.Comparison.{compareRow, compared}
 use Rattle.draw.specs.Drawing.{DrawingAnswer, notDrawn, drawnChain, drawnClash, drawingOf, drawnList, firstDrawn, secondDrawn}
-use Rattle.demands.specs.Rows.{IsFirst, hashing, startingRun, continuingRun, startingOpening, continuingOpening, aChallenge, writingHead, oneOpening, aHead, aFile, planningChain, drawingChain, planningProgram, comparing, readingNumber, writingNumber, startingFile, continuingFile}
+use Rattle.demands.specs.Rows.{IsFirst, hashing, startingRun, continuingRun, startingOpening, continuingOpening, aChallenge, writingHead}
+use Rattle.demands.specs.Rows.{oneOpening, aHead, aFile, planningChain, drawingChain, planningProgram, comparing, readingNumber, writingNumber}
+use Rattle.demands.specs.Rows.{startingFile, continuingFile}
 
 -- ---- 'Labelling, opening and writing can be carried to their end for every depth 1..40, memory level 0..min(depth, 20) ..'
 

@@ -6,7 +6,8 @@ use mathlib.Core.List.{List}
 use lib.ListN.{length, getD}
 use Rattle.proof_file.specs.FileCheck.{fileCheck}
 use Rattle.draw.specs.Drawing.{notDrawn, drawnChain, drawnClash, drawingOf, drawnList, firstDrawn, secondDrawn}
-use Rattle.draw_theory.specs.Demand3.{IsAccepted, NoneDisagree, SomeDisagree, chainLength, drawnNodes, Counted, HashChain, EndsAtRoot, OnTheWays, ListDrawn, IsClash, AsPlanned, ListShort, ListUntouched, NoInputs}
+use Rattle.draw_theory.specs.Demand3.{IsAccepted, NoneDisagree, SomeDisagree, chainLength, drawnNodes, Counted, HashChain, EndsAtRoot, OnTheWays}
+use Rattle.draw_theory.specs.Demand3.{ListDrawn, IsClash, AsPlanned, ListShort, ListUntouched, NoInputs}
 
 -- 'a chain of hashes'
 pub record ChainDrawn (bytes statement : List ℕ) (n t : ℕ) (list : List ℕ) (count : ℕ) : Type 0 where

@@ -31,7 +31,8 @@ use Rattle.chain.proofs.Rows.{row-done}
 use Rattle.compare.specs.declared.Pair.{Pair}
 use Rattle.compare.specs.Comparison.{compared, firstInput, secondInput}
 use Rattle.compare.proofs.Checks.{size-right, compared-done}
-use Rattle.draw.specs.Drawing.{DrawingAnswer, notDrawn, leavesFrom, numbersEnd, leavesOf, openingsOf, pairOf, drawnFrom, drawingOf, drawnList, clashPair, firstDrawn, secondDrawn}
+use Rattle.draw.specs.Drawing.{DrawingAnswer, notDrawn, leavesFrom, numbersEnd, leavesOf, openingsOf, pairOf, drawnFrom, drawingOf, drawnList}
+use Rattle.draw.specs.Drawing.{clashPair, firstDrawn, secondDrawn}
 use Rattle.draw.proofs.LeavesOpened.{length-leaves, leaves-inside}
 use Rattle.draw.proofs.Chains.{DrawnFrom, clash-pair}
 

@@ -65,7 +65,9 @@ module _ (edition n : ℕ) (statement root : List ℕ) where
         sym (append-nil (take count leaves)) ∙ (rw (none, all) at e)
 
 -- the places behind them stay zero
-pub zeros-more : (leaves : List ℕ) (i leaf : ℕ) → i < maxChallenges → drop i leaves ≡ zeros (maxChallenges - i) → drop (i + 1) (set leaves i leaf) ≡ zeros (maxChallenges - (i + 1))
+pub zeros-more :
+    (leaves : List ℕ) (i leaf : ℕ) → i < maxChallenges → drop i leaves ≡ zeros (maxChallenges - i)
+    → drop (i + 1) (set leaves i leaf) ≡ zeros (maxChallenges - (i + 1))
 zeros-more leaves i leaf h before =
     let e : maxChallenges - i - 1 ≡ maxChallenges - (i + 1) = omega arith in
     drop-set-lt (i + 1) leaves i leaf (omega arith)

@@ -10,12 +10,14 @@ use Rattle.proof_file.specs.FileCheck.{fileCheck}
 use Rattle.check_theory.specs.IsProof.{IsProof}
 use Rattle.check_theory.proofs.Accepted.{exactly-proofs}
 use Rattle.draw.specs.Drawing.{notDrawn, drawnChain, drawnClash, drawingOf, drawnList, firstDrawn, secondDrawn}
-use Rattle.draw_theory.specs.Demand3.{IsAccepted, NoneDisagree, SomeDisagree, chainLength, drawnNodes, Counted, HashChain, EndsAtRoot, OnTheWays, ListDrawn, IsClash, AsPlanned, ListShort, ListUntouched, NoInputs}
+use Rattle.draw_theory.specs.Demand3.{IsAccepted, NoneDisagree, SomeDisagree, chainLength, drawnNodes, Counted, HashChain, EndsAtRoot}
+use Rattle.draw_theory.specs.Demand3.{OnTheWays, ListDrawn, IsClash, AsPlanned, ListShort, ListUntouched, NoInputs}
 use Rattle.draw_theory.proofs.Openings.{agree-none, disagree-first, first-some}
 use Rattle.draw_theory.proofs.Hashes.{ends-at-root, hash-chain}
 use Rattle.draw_theory.proofs.Nodes.{leaves-some, nodes-count, on-the-ways, list-drawn}
 use Rattle.draw_theory.proofs.Clashes.{first-clash}
-use Rattle.draw_theory.proofs.Answers.{none-agree, some-pair, chain-given, given-chain, clash-given, given-clash, refusal-given, given-refusal, given-short, as-planned}
+use Rattle.draw_theory.proofs.Answers.{none-agree, some-pair, chain-given, given-chain, clash-given, given-clash, refusal-given}
+use Rattle.draw_theory.proofs.Answers.{given-refusal, given-short, as-planned}
 
 module _ (bytes statement : List ℕ) (n t : ℕ) (small : (j : ℕ) → getD bytes j 0 < 256) where
   proof-of : IsAccepted bytes statement n t → IsProof edition bytes statement n t

@@ -25,7 +25,8 @@ use Rattle.chain_theory.proofs.Parents.{chain-parents, chain-root, among-place}
 use Rattle.chain_theory.proofs.Once.{chain-at}
 use Rattle.check_theory.specs.IsProof.{IsProof}
 use Rattle.draw.specs.Drawing.{leavesOf}
-use Rattle.draw_theory.specs.Demand3.{proofRoot, openedLeaf, openedGiven, Passes, openedInput, openedHash, disagreeing, NoneDisagree, drawnNodes, hashedParents, StandsWhole, HashChain, EndsAtRoot}
+use Rattle.draw_theory.specs.Demand3.{proofRoot, openedLeaf, openedGiven, Passes, openedInput, openedHash, disagreeing, NoneDisagree}
+use Rattle.draw_theory.specs.Demand3.{drawnNodes, hashedParents, StandsWhole, HashChain, EndsAtRoot}
 use Rattle.draw_theory.proofs.Openings.{passes-some, right-of, sized-of, leaf-inside, all-inside, some-leaf}
 use Rattle.draw_theory.proofs.Parents.{WayChild, parent-way-child, on-way-child, agree-known, parents-sized}
 

@@ -55,7 +55,9 @@ pub fn put_input(
 )
     requires { ⌜ (level ≤ depth) × (depth ≤ maxDepth) × ((length (now front) + length (now rest)) % 32 ≡ 0) ⌝ }
     requires { ⌜ (now input ≡ zeros (length (now input))) × (41 + length (now front) + length (now rest) ≤ length (now input)) ⌝ }
-    ensures { λ _. ⌜ now (input .exit) ≡ documentInput edition depth statement (node level position) (inLabels (now (front .entry) ++ now (rest .entry))) ++ zeros (length (now (input .entry)) - (41 + length (now (front .entry)) + length (now (rest .entry)))) ⌝ }
+    ensures { λ _. ⌜ now (input .exit)
+        ≡ documentInput edition depth statement (node level position) (inLabels (now (front .entry) ++ now (rest .entry)))
+        ++ zeros (length (now (input .entry)) - (41 + length (now (front .entry)) + length (now (rest .entry)))) ⌝ }
 {
     let place = big_endian(position);
     let byte = tag(edition, depth, level);

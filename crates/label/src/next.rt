@@ -44,7 +44,9 @@ fn label_leaf(
 ) -> [u8; 32]
     requires { ⌜ (w .level ≤ depth) × (depth ≤ maxDepth) × (ones (w .position) ≤ maxDepth) × (length (now held) ≡ heldSize) ⌝ }
     requires { ⌜ length (now front) ≤ 32 * ones (w .position) ⌝ }
-    ensures { λ r. ⌜ r ≡ labelBy (stampRule edition depth statement) (node (w .level) (w .position)) (inLabels (now (front .entry) ++ take (32 * ones (w .position) - length (now (front .entry))) (now (held .entry)))) ⌝ }
+    ensures { λ r. ⌜ r
+        ≡ labelBy (stampRule edition depth statement) (node (w .level) (w .position))
+        (inLabels (now (front .entry) ++ take (32 * ones (w .position) - length (now (front .entry))) (now (held .entry)))) ⌝ }
     ensures { λ r. ⌜ now (held .exit) ≡ written (now (held .entry)) (32 * ones (w .position) - length (now (front .entry))) r ⌝ }
 {
     let parents = u64::count_ones(w.position) as usize;

@@ -29,8 +29,12 @@ fn label_one(
 )
     requires { ⌜ Possible depth memory leaf × (made < nodesAnew depth memory) ⌝ }
     requires { ⌜ (length (now front) ≡ 32 * ones (leaf / 2 ^ (depth - memory))) × (length (now held) ≡ heldSize) × (openingSize depth ≤ length (now out)) ⌝ }
-    ensures { λ _. ⌜ now (held .exit) ≡ heldWith (depth - memory) (ancestor depth leaf memory) (now (held .entry)) (nextAnew depth memory leaf made) (labelAnew statement depth memory leaf (now (front .entry)) (now (held .entry)) made) ⌝ }
-    ensures { λ _. ⌜ now (out .exit) ≡ placed depth leaf (now (out .entry)) (nextAnew depth memory leaf made) (labelAnew statement depth memory leaf (now (front .entry)) (now (held .entry)) made) ⌝ }
+    ensures { λ _. ⌜ now (held .exit)
+        ≡ heldWith (depth - memory) (ancestor depth leaf memory) (now (held .entry)) (nextAnew depth memory leaf made)
+        (labelAnew statement depth memory leaf (now (front .entry)) (now (held .entry)) made) ⌝ }
+    ensures { λ _. ⌜ now (out .exit)
+        ≡ placed depth leaf (now (out .entry)) (nextAnew depth memory leaf made)
+        (labelAnew statement depth memory leaf (now (front .entry)) (now (held .entry)) made) ⌝ }
 {
     let height = depth - memory;
     let position = leaf >> height;

@@ -25,7 +25,8 @@ use refusal::beyond;
 // The label of the sibling of this height is put behind len gathered bytes where it is a left one. How many are gathered then.
 fn gather(gathered: &mut [u8], len: usize, leaf: u64, height: u64, bytes: &[u8]) -> usize
     requires { ⌜ (height < maxDepth) × (len + 32 ≤ length (now gathered)) × (openingSize (height + 1) ≤ length (now bytes)) ⌝ }
-    ensures { λ _. ⌜ now (gathered .exit) ≡ written (now (gathered .entry)) len (pick (odd (leaf / 2 ^ height)) (givenBy (now (bytes .entry)) (height + 1)) []) ⌝ }
+    ensures { λ _. ⌜ now (gathered .exit)
+        ≡ written (now (gathered .entry)) len (pick (odd (leaf / 2 ^ height)) (givenBy (now (bytes .entry)) (height + 1)) []) ⌝ }
     ensures { λ r. ⌜ r ≡ len + 32 * (leaf / 2 ^ height % 2) ⌝ }
 {
     if (leaf >> height) % 2 == 1 {

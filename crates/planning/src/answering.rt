@@ -61,7 +61,9 @@ fn put_answer(depth: u64, leaves: &[u64], out: &mut [u8]) -> usize
 // they are. An output with fewer than 287,992 bytes is left as it was, and the answer is 0.
 pub fn answer(input: &[u8], out: &mut [u8]) -> usize
     ensures { λ r. ⌜ r ≡ pick (leb maxOutput (length (now (out .entry)))) (length (printed (now (input .entry)))) 0 ⌝ }
-    ensures { λ _. ⌜ now (out .exit) ≡ pick (leb maxOutput (length (now (out .entry)))) (written (now (out .entry)) 0 (printed (now (input .entry)))) (now (out .entry)) ⌝ }
+    ensures { λ _. ⌜ now (out .exit)
+        ≡ pick (leb maxOutput (length (now (out .entry)))) (written (now (out .entry)) 0 (printed (now (input .entry))))
+        (now (out .entry)) ⌝ }
 {
     if out.len() < MAX_OUTPUT {
         return 0;

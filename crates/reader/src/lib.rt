@@ -72,7 +72,8 @@ pub fn head<'a>(r: Reader<'a>) -> HeadNumbers
 
 // Opening i, from 1, as that part of the caller's bytes; empty where there is none.
 pub fn opening<'a>(r: Reader<'a>, i: u64) -> &'a [u8]
-    ensures { λ s. ⌜ (now s ≡ openingPart (now (r .entry .src)) i) × (s .ptr ≡ (r .entry .src .ptr .0, r .entry .src .ptr .1 + partStart (now (r .entry .src)) i (headOf (now (r .entry .src))))) ⌝ }
+    ensures { λ s. ⌜ (now s ≡ openingPart (now (r .entry .src)) i)
+        × (s .ptr ≡ (r .entry .src .ptr .0, r .entry .src .ptr .1 + partStart (now (r .entry .src)) i (headOf (now (r .entry .src))))) ⌝ }
 {
     proof_file::opening_part(r.src, i)
 }
@@ -86,7 +87,8 @@ pub fn first_number(bytes: &[u8], most: usize) -> Number
 
 // Opening i of the bytes, through a reader.
 pub fn opening_of(bytes: &[u8], i: u64) -> &[u8]
-    ensures { λ r. ⌜ (now r ≡ openingPart (now (bytes .entry)) i) × (r .ptr ≡ (bytes .entry .ptr .0, bytes .entry .ptr .1 + partStart (now (bytes .entry)) i (headOf (now (bytes .entry))))) ⌝ }
+    ensures { λ r. ⌜ (now r ≡ openingPart (now (bytes .entry)) i)
+        × (r .ptr ≡ (bytes .entry .ptr .0, bytes .entry .ptr .1 + partStart (now (bytes .entry)) i (headOf (now (bytes .entry))))) ⌝ }
 {
     opening(begin(bytes), i)
 }

@@ -25,7 +25,8 @@ pub fn write_openings(
     file: &mut [u8],
     err: i32,
 ) -> u64
-    requires { ⌜ Writable depth memory challenges (length (now store)) (length (now file)) × (root ≡ rootOf edition statement depth) × HoldsLabels edition statement depth memory (now store) ⌝ }
+    requires { ⌜ Writable depth memory challenges (length (now store)) (length (now file)) × (root ≡ rootOf edition statement depth)
+        × HoldsLabels edition statement depth memory (now store) ⌝ }
     requires { ⌜ (1 ≤ portion) × (before < 2 ^ 50) ⌝ }
     ensures { λ r. ⌜ r ≡ labelsAnew depth memory challenges ⌝ }
     ensures { λ _. ⌜ now (file .exit) ≡ treeFile edition statement depth challenges ++ drop (fileSize depth challenges) (now (file .entry)) ⌝ }

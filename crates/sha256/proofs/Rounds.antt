@@ -78,11 +78,17 @@ extended-next w x f =
     grow (listOf w) 10 e10 (f .w10) in
     let e12 : extended (listOf w) 12 ≡ listOf w ++ (x .w0 ∷ x .w1 ∷ x .w2 ∷ x .w3 ∷ x .w4 ∷ x .w5 ∷ x .w6 ∷ x .w7 ∷ x .w8 ∷ x .w9 ∷ x .w10 ∷ x .w11 ∷ []) =
     grow (listOf w) 11 e11 (f .w11) in
-    let e13 : extended (listOf w) 13 ≡ listOf w ++ (x .w0 ∷ x .w1 ∷ x .w2 ∷ x .w3 ∷ x .w4 ∷ x .w5 ∷ x .w6 ∷ x .w7 ∷ x .w8 ∷ x .w9 ∷ x .w10 ∷ x .w11 ∷ x .w12 ∷ []) =
+    let e13 : extended (listOf w) 13
+    ≡ listOf w ++ (x .w0 ∷ x .w1 ∷ x .w2 ∷ x .w3 ∷ x .w4 ∷ x .w5 ∷ x .w6 ∷ x .w7 ∷ x .w8 ∷ x .w9 ∷ x .w10 ∷ x .w11 ∷ x .w12 ∷ []) =
     grow (listOf w) 12 e12 (f .w12) in
-    let e14 : extended (listOf w) 14 ≡ listOf w ++ (x .w0 ∷ x .w1 ∷ x .w2 ∷ x .w3 ∷ x .w4 ∷ x .w5 ∷ x .w6 ∷ x .w7 ∷ x .w8 ∷ x .w9 ∷ x .w10 ∷ x .w11 ∷ x .w12 ∷ x .w13 ∷ []) =
+    let e14 : extended (listOf w) 14
+    ≡ listOf w
+    ++ (x .w0 ∷ x .w1 ∷ x .w2 ∷ x .w3 ∷ x .w4 ∷ x .w5 ∷ x .w6 ∷ x .w7 ∷ x .w8 ∷ x .w9 ∷ x .w10 ∷ x .w11 ∷ x .w12 ∷ x .w13 ∷ []) =
     grow (listOf w) 13 e13 (f .w13) in
-    let e15 : extended (listOf w) 15 ≡ listOf w ++ (x .w0 ∷ x .w1 ∷ x .w2 ∷ x .w3 ∷ x .w4 ∷ x .w5 ∷ x .w6 ∷ x .w7 ∷ x .w8 ∷ x .w9 ∷ x .w10 ∷ x .w11 ∷ x .w12 ∷ x .w13 ∷ x .w14 ∷ []) =
+    let e15 : extended (listOf w) 15
+    ≡ listOf w
+    ++ (x .w0 ∷ x .w1 ∷ x .w2 ∷ x .w3 ∷ x .w4 ∷ x .w5 ∷ x .w6 ∷ x .w7 ∷ x .w8 ∷ x .w9 ∷ x .w10 ∷ x .w11 ∷ x .w12 ∷ x .w13 ∷ x .w14 ∷ [])
+    =
     grow (listOf w) 14 e14 (f .w14) in
     grow (listOf w) 15 e15 (f .w15)
 

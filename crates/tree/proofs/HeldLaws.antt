@@ -17,9 +17,13 @@ use Rattle.base.specs.Choice.{pick, passing}
 use Rattle.tree.specs.Nodes.{Node, node, root, InTree, leftChild, rightChild, above, orderBelow, labellingOrder, leftSiblings, parents}
 use Rattle.tree.specs.Held.{among, isHeld, heldBelow, held}
 use Rattle.tree.specs.Walk.{nodesIn, below, leftSiblingsBelow}
-use Rattle.tree.proofs.Among.{among-append, among-one, among-here, among-left, among-right, among-take, either, false-if-not, true-not-false, passing-append, passing-same}
-use Rattle.tree.proofs.Order.{Inside, inside-level, inside-way, order-at, tree-at, AtPlace, Place, placeOf, place-top, place-small, place-right, Side, toLeft, toRight, sideOf, order-length, order-placed, left-below, right-below, above-below, nodesIn-suc, nodesIn-step}
-use Rattle.tree.proofs.Parents.{leftSiblingsBelow-split, leftSiblingsBelow-count, leftSiblings-all, leftSiblings-split, parents-of-leaf, parents-of-inner}
+use Rattle.tree.proofs.Among.{among-append, among-one, among-here, among-left, among-right, among-take, either, false-if-not, true-not-false}
+use Rattle.tree.proofs.Among.{passing-append, passing-same}
+use Rattle.tree.proofs.Order.{Inside, inside-level, inside-way, order-at, tree-at, AtPlace, Place, placeOf, place-top, place-small}
+use Rattle.tree.proofs.Order.{place-right, Side, toLeft, toRight, sideOf, order-length, order-placed, left-below, right-below, above-below}
+use Rattle.tree.proofs.Order.{nodesIn-suc, nodesIn-step}
+use Rattle.tree.proofs.Parents.{leftSiblingsBelow-split, leftSiblingsBelow-count, leftSiblings-all, leftSiblings-split, parents-of-leaf}
+use Rattle.tree.proofs.Parents.{parents-of-inner}
 
 -- every node of the order is of the subtree
 inside-top : (h : ℕ) (v u : Node) → u ≡ v → Inside h v u

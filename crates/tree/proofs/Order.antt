@@ -1,7 +1,8 @@
 -- Document 01, 'The tree': the labelling order has each node once, after its parents.
 use mathlib.Core.Path.{_≡_, refl, sym, ap, _∙_}
 use Prim.Native.Nat.{ℕ, zero, suc, _+_, _-_, _*_, _/_, _%_, _^_, _≤_, _<_}
-use native.Mathlib.Nat.{add-suc, mul-comm, mul-le-mul-right, one-mul, add-mul, add-zero, le-mul-of-pos-right, pow-succ', mul-assoc, mul-left-comm, mul-lt-mul-of-pos-right, zero-add, zero-mul}
+use native.Mathlib.Nat.{add-suc, mul-comm, mul-le-mul-right, one-mul, add-mul, add-zero, le-mul-of-pos-right, pow-succ', mul-assoc, mul-left-comm}
+use native.Mathlib.Nat.{mul-lt-mul-of-pos-right, zero-add, zero-mul}
 use native.Mathlib.Numerals.{add-one, add-one-le}
 use native.Mathlib.Omega.{arith}
 use mathlib.Core.Bool.{Bool, true, false}

@@ -44,7 +44,9 @@ leaves-more n statement root leaves i leaf h e f =
     ∙ take-suc-set leaves i leaf h
     ∙ rw (e, f) (sym (ap (λ (k : ℕ). leavesTo n statement root k) (add-one i)))
 
-pub leaves-all : (n : ℕ) (statement root leaves : List ℕ) (i : ℕ) → i ≡ maxChallenges → length leaves ≡ maxChallenges → take i leaves ≡ leavesTo n statement root i
+pub leaves-all :
+    (n : ℕ) (statement root leaves : List ℕ) (i : ℕ) → i ≡ maxChallenges → length leaves ≡ maxChallenges
+    → take i leaves ≡ leavesTo n statement root i
     → leaves ≡ leavesTo n statement root maxChallenges
 leaves-all n statement root leaves i all size e =
     sym (take-all i leaves (omega arith)) ∙ e ∙ ap (λ (k : ℕ). leavesTo n statement root k) all

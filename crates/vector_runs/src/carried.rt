@@ -52,7 +52,9 @@ pub fn finished(statement: [u8; 32], depth: u64, memory: u64) -> [u8; 4064]
 
 // So many calls with one budget; those that would find no label left are not made. How many labels they report, in 64 bits.
 pub fn open_to_end(opening: Opening, calls: u64, budget: u64, store: &[u8], out: &mut [u8]) -> u64
-    ensures { λ r. ⌜ r ≡ labelsOver (opens.advanced (now (store .entry))) (opens.labelsIn (now (store .entry))) (openOf opening (now (out .entry))) (replicate calls budget) % 2 ^ 64 ⌝ }
+    ensures { λ r. ⌜ r
+        ≡ labelsOver (opens.advanced (now (store .entry))) (opens.labelsIn (now (store .entry))) (openOf opening (now (out .entry)))
+        (replicate calls budget) % 2 ^ 64 ⌝ }
     ensures { λ _. ⌜ now (out .exit) ≡ afterCalls (opens.advanced (now (store .entry))) (openOf opening (now (out .entry))) (replicate calls budget) .out ⌝ }
 {
     let mut state = opening;

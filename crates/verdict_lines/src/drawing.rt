@@ -24,7 +24,8 @@ pub fn put_chain(
     codes: &[u64],
     out: &mut [u8],
 ) -> usize
-    requires { ⌜ (drawingOf (now file) statement depth count places ≡ drawnChain (length (now codes))) × (now codes ≡ chainCodes depth (leavesOf (now file) statement depth count)) × (maxOutput ≤ length (now out)) ⌝ }
+    requires { ⌜ (drawingOf (now file) statement depth count places ≡ drawnChain (length (now codes)))
+        × (now codes ≡ chainCodes depth (leavesOf (now file) statement depth count)) × (maxOutput ≤ length (now out)) ⌝ }
     ensures { λ r. ⌜ Wrote (now (out .entry)) 0 (planText depth (leavesOf (now (file .entry)) statement depth count)) (now (out .exit)) r ⌝ }
 {
     let at = draw::numbers_end(file);
@@ -60,7 +61,9 @@ pub fn put_drawing(
     out: &mut [u8],
 ) -> usize
     requires { ⌜ ChainIn (drawn .drawing) (now list) (now file) statement depth count × (maxOutput ≤ length (now out)) ⌝ }
-    ensures { λ r. ⌜ Wrote (now (out .entry)) 0 (chainText (drawn .drawing) (length (now (file .entry))) (planText depth (leavesOf (now (file .entry)) statement depth count)) (drawn .first) (drawn .second)) (now (out .exit)) r ⌝ }
+    ensures { λ r. ⌜ Wrote (now (out .entry)) 0
+        (chainText (drawn .drawing) (length (now (file .entry)))
+        (planText depth (leavesOf (now (file .entry)) statement depth count)) (drawn .first) (drawn .second)) (now (out .exit)) r ⌝ }
 {
     let drawing = drawn.drawing;
     match drawing {

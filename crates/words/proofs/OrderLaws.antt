@@ -19,7 +19,8 @@ use Rattle.words.specs.declared.Words.{Words}
 use Rattle.words.specs.declared.Words.the-variants.{Right, Wrong}
 use Rattle.words.specs.declared.Order.{Order}
 use Rattle.words.specs.declared.Order.the-variants.{Seal, Verify, VerifyAs, Chain, Refuse}
-use Rattle.words.specs.Orders.{firstOf, kindOf, wordRow, pathRow, sealRow, wantedRow, orderIf, challengesIn, memoryIn, wanted, sealOrder, verifyOrder, asked, orderOf}
+use Rattle.words.specs.Orders.{firstOf, kindOf, wordRow, pathRow, sealRow, wantedRow, orderIf, challengesIn, memoryIn, wanted, sealOrder}
+use Rattle.words.specs.Orders.{verifyOrder, asked, orderOf}
 
 wrong-right : (p : Problem) → Wrong p ≡ Right → ⊥
 wrong-right p e = let z : _≡_ {A = ℕ} 0 1 = cc in omega arith

@@ -28,7 +28,8 @@ use Rattle.check_theory.specs.TreeFile.{rootOf, treeFile}
 use Rattle.writing.specs.Steps.{begun, mayFollow, followed, stepped, newWriting, writingMachine, steps}
 use Rattle.writing.proofs.StepLaws.{followed-stays}
 use Rattle.writing_theory.specs.Filed.{laid, laidSize, underWay, leafAfter, writtenAt, Writable, newFile, labelsAnew}
-use Rattle.writing_theory.proofs.Laid.{size-from, laid-length, laid-next, size-all, laid-all, laid-head, leaf-inside, part-size, part-split, front-accepted}
+use Rattle.writing_theory.proofs.Laid.{size-from, laid-length, laid-next, size-all, laid-all, laid-head, leaf-inside, part-size, part-split}
+use Rattle.writing_theory.proofs.Laid.{front-accepted}
 use Rattle.writing_theory.proofs.Places.{last-size}
 
 -- a part of bytes
@@ -64,9 +65,12 @@ module _
 
     part-stepped :
         (r : ℕ) → r < nodesAnew n m
-        → stepped store (underWay (rootOf edition statement n) t q (laid edition statement n t q) (openAfter edition statement n m (leafAfter edition statement n q) r b) c)
+        → stepped store
+        (underWay (rootOf edition statement n) t q (laid edition statement n t q)
+        (openAfter edition statement n m (leafAfter edition statement n q) r b) c)
         ≡ followed store t
-        (underWay (rootOf edition statement n) t q (laid edition statement n t q) (openAfter edition statement n m (leafAfter edition statement n q) (r + 1) b) c)
+        (underWay (rootOf edition statement n) t q (laid edition statement n t q)
+        (openAfter edition statement n m (leafAfter edition statement n q) (r + 1) b) c)
     unfolding stepped underWay
     part-stepped r few =
         let leaf : ℕ = leafAfter edition statement n q in

@@ -18,7 +18,9 @@ returns-3 : tie.Need-returns-3
 returns-3 c = row-count _ _ (in-range 1 maxDepth _ (c .before .before .if1 .left) (c .before .if2 .left)) (below-range 1 maxChallenges _ (c .if3 .taken))
 
 returns-4 : tie.Need-returns-4
-returns-4 c = row-count _ _ (in-range 1 maxDepth _ (c .before .before .before .if1 .left) (c .before .before .if2 .left)) (above-range 1 maxChallenges _ (c .if4 .taken))
+returns-4 c =
+    row-count _ _ (in-range 1 maxDepth _ (c .before .before .before .if1 .left) (c .before .before .if2 .left))
+    (above-range 1 maxChallenges _ (c .if4 .taken))
 
 returns-5 : tie.Need-returns-5
 returns-5 c =

@@ -64,7 +64,8 @@ returns-2 c =
     let a = c .before .before .before .before .before .before .before .before .before .before .args in
     let l = c .before .before .before .before .before .before .before .loop in
     sym
-    (l .inv .1 ∙ turn-differs (a .n) (a .leaves .now) (a .table .now) (a .i) (a .j) (l .level) (c .before .before .before .before .before .before .loop-test .taken) _
+    (l .inv .1 ∙ turn-differs (a .n) (a .leaves .now) (a .table .now) (a .i) (a .j) (l .level)
+    (c .before .before .before .before .before .before .loop-test .taken) _
     (c .before .before .before .before .before .shares .ensures) (not-false _ (c .before .before .before .before .if1 .left)) _ _
     (c .before .before .before .cell-at .ensures)
     (c .before .before .cell-at2 .ensures)

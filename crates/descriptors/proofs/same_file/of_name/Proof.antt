@@ -1,4 +1,5 @@
--- `same_file::of_name` meets its contract: a walk of its MIR, by hand. The record is lent to `lstat` for a lifetime of the call, and comes back at some record; of the path a copy is passed.
+-- `same_file::of_name` meets its contract: a walk of its MIR, by hand. The record is lent to `lstat` for a lifetime of the call, and comes back at
+-- some record; of the path a copy is passed.
 -- Assumes nothing.
 use mathlib.Core.Path.{refl, ap}
 use Prim.Native.Nat.{ℕ}
@@ -16,8 +17,10 @@ use prog.Wp.{Heap, Calls, Loops, WpFn, Tables}
 use ghost.Atoms.{Atoms, sem}
 use contract.Monad.{Fun, fact}
 use contract.Running.{givenOf, tables, tablesOf}
-use types.Kit.{Given, ‵, raw, given, some, later, _⊛_, _$_, _∵_, !, qed, by, move, keep, drop, use1, use2, split, join, pick, learn, rewrite, fsplit, fjoin, fpick, suffices, frame, await, done}
-use types.Run.{look, init, forget, stop, from, load, addr, of-opd, and-then, no-more, assigns, land, returns, enter, alloc1, alloc0, params1, pass1, pass0, free1, free0}
+use types.Kit.{Given, ‵, raw, given, some, later, _⊛_, _$_, _∵_, !, qed, by, move, keep, drop, use1, use2, split, join, pick, learn, rewrite, fsplit}
+use types.Kit.{fjoin, fpick, suffices, frame, await, done}
+use types.Run.{look, init, forget, stop, from, load, addr, of-opd, and-then, no-more, assigns, land, returns, enter, alloc1, alloc0, params1, pass1}
+use types.Run.{pass0, free1, free0}
 use types.Part.{agg}
 use types.SemTy.{Body}
 use types.Tokens.{lft-new, lft-end, lent-back}
@@ -136,7 +139,8 @@ module _ {M : Type 1} (𝓤 : URA M) (H : Heap 𝓤) (A : Atoms 𝓤) (W : Given
         assigns ! (addr ! (from ! (stop !))) (from ! (stop !)) (init ! 2 refl (tt, tt)) $
         -- the record is lent for a lifetime ν of the call
         move ! (6 ∷ []) $ use1 W (‵ (mem S.the-row .lies h l₃ 0)) (lies-in 𝓤 H A W h l₃ is-h) $ lft-new ! tt (λ ν. move ! (1 ∷ []) $
-        use1 W (later (some (λ (γ : GName). ‵ (Lends ν l₃ γ) ⊛ ‵ (flent (ν ∷ []) (Body (mem S.the-row) l₃ 0 γ))))) (lends-ref 𝓤 H A W S.the-row (named 1) (ν ∷ []) h l₃ 0) $ await ! tt $ pick ! (λ γ. split ! $
+        use1 W (later (some (λ (γ : GName). ‵ (Lends ν l₃ γ) ⊛ ‵ (flent (ν ∷ []) (Body (mem S.the-row) l₃ 0 γ)))))
+        (lends-ref 𝓤 H A W S.the-row (named 1) (ν ∷ []) h l₃ 0) $ await ! tt $ pick ! (λ γ. split ! $
         -- [the reference; what was lent; ν's token; _6; …; _5; …; _4; …; …; _2; …; _1; …; _0; …; the token and true; what the parameters own]
         move ! (17 ∷ []) $ fsplit ! $ use1 W (‵ Named ⊛ ‵ Named) (shr-copy 𝓤 H A W (named 0) κ PathRow .twice x (vptr b o ∷ [])) $
         split ! $ move ! (19 ∷ []) $ split ! $
@@ -145,9 +149,14 @@ module _ {M : Type 1} (𝓤 : URA M) (H : Heap 𝓤) (A : Atoms 𝓤) (W : Given
         (raw (Lstat 𝓤 H A at-mem run .pre (to-lstat ν l₃ γ))) (goes last ν l₃ γ) $
         move ! (2 ∷ 3 ∷ []) $ fjoin ! $ move ! (1 ∷ 3 ∷ 0 ∷ 2 ∷ []) $
         -- [what `lstat` asks; what was lent; what the parameters own; true; _6; …; _5; …; _4; …; …; _2; …; _1; …; _0; …]
-        calls-at ! fm (Lstat 𝓤 H A at-mem run) cites (to-lstat ν l₃ γ) (and-then ! (load ! (from ! (stop !)) (look ! 13 refl)) (and-then ! (load ! (from ! (stop !)) (look ! 6 refl)) (no-more !))) (λ w.
-        use1 W (later (some (λ (r : ℤ). ((‵ (flft κ q) ⊛ (‵ (flft (ν ∷ []) fullShare) ⊛ ‵ ftrue)) ⊛ ‵ (i32 .own r (w ∷ []))) ⊛ raw (ensured 𝓤 H A lstat.ended (lstat.clauses 𝓤 H A at-mem run) (κ, (ν ∷ [], tt)) (x, (lent l₃ γ, tt)) tt r)))) (id⊢ 𝓤 _) $ await ! tt $ pick ! (λ r.
-        split ! $ move ! (1 ∷ []) $ use1 W (some (λ (ws : Unit {0} × (stat × Unit {0})). ‵ (lasts lstat.ended (κ, (ν ∷ [], tt)) (x, (lent l₃ γ, tt)) ws) ⊛ raw (fact 𝓤 (Status r)))) (id⊢ 𝓤 _) $ pick ! (λ ws.
+        calls-at ! fm (Lstat 𝓤 H A at-mem run) cites (to-lstat ν l₃ γ) (and-then ! (load ! (from ! (stop !)) (look ! 13 refl)) (and-then !
+        (load ! (from ! (stop !)) (look ! 6 refl)) (no-more !))) (λ w.
+        use1 W (later (some (λ (r : ℤ). ((‵ (flft κ q) ⊛ (‵ (flft (ν ∷ []) fullShare) ⊛ ‵ ftrue)) ⊛ ‵ (i32 .own r (w ∷ []))) ⊛ raw
+        (ensured 𝓤 H A lstat.ended (lstat.clauses 𝓤 H A at-mem run) (κ, (ν ∷ [], tt)) (x, (lent l₃ γ, tt)) tt r)))) (id⊢ 𝓤 _) $ await ! tt $ pick ! (λ r.
+        split ! $ move ! (1 ∷ []) $ use1 W (some (λ (ws : Unit {0} × (stat × Unit {0})). ‵ (lasts lstat.ended (κ, (ν ∷ [], tt)) (
+          x,
+          (lent l₃ γ, tt),
+        ) ws) ⊛ raw (fact 𝓤 (Status r)))) (id⊢ 𝓤 _) $ pick ! (λ ws.
         split ! $ drop ! $ heard ! (Status r) (λ e. split ! $ move ! (1 ∷ []) $ peeks ! i32 (Is i32) (shows 𝓤 H A i32) r (w ∷ []) (λ is.
         -- [what the answer owns; the tokens and true; what was lent; what the parameters own; true; _6; …; _5; …; _4; …; …; _2; …]
         land ! (from ! (stop !)) (init ! 9 refl (sint-lawful 𝓤 H A W w32 .typed r _ is .0)) $ rewrite ! 9

@@ -16,8 +16,10 @@ use prog.Wp.{Heap, Calls, Loops, WpFn, Tables}
 use ghost.Atoms.{Atoms, sem}
 use contract.Monad.{Fun, fact}
 use contract.Running.{givenOf, tables, tablesOf}
-use types.Kit.{Given, ‵, raw, given, some, later, _⊛_, _$_, _∵_, !, qed, by, move, keep, drop, use1, use2, split, join, pick, learn, rewrite, fsplit, fjoin, fpick, suffices, frame, await, done}
-use types.Run.{look, init, forget, stop, from, load, addr, of-opd, and-then, no-more, assigns, land, returns, enter, alloc1, alloc0, params1, pass1, pass0, free1, free0}
+use types.Kit.{Given, ‵, raw, given, some, later, _⊛_, _$_, _∵_, !, qed, by, move, keep, drop, use1, use2, split, join, pick, learn, rewrite, fsplit}
+use types.Kit.{fjoin, fpick, suffices, frame, await, done}
+use types.Run.{look, init, forget, stop, from, load, addr, of-opd, and-then, no-more, assigns, land, returns, enter, alloc1, alloc0, params1, pass1}
+use types.Run.{pass0, free1, free0}
 use types.Part.{agg}
 use types.SemTy.{Body}
 use types.Tokens.{lft-new, lft-end, lent-back}
@@ -117,12 +119,18 @@ module _ {M : Type 1} (𝓤 : URA M) (H : Heap 𝓤) (A : Atoms 𝓤) (W : Given
         assigns ! (addr ! (from ! (stop !))) (from ! (stop !)) (init ! 2 refl (tt, tt)) $
         -- the record is lent for a lifetime ν of the call
         move ! (6 ∷ []) $ use1 W (‵ (mem S.the-row .lies h l₃ 0)) (lies-in 𝓤 H A W h l₃ is-h) $ lft-new ! tt (λ ν. move ! (1 ∷ []) $
-        use1 W (later (some (λ (γ : GName). ‵ (MutRef (named 0) (ν ∷ []) S.the-row .own (lent l₃ γ) (vptr l₃ 0 ∷ [])) ⊛ ‵ (flent (ν ∷ []) (Body (mem S.the-row) l₃ 0 γ))))) (lends-ref 𝓤 H A W S.the-row (named 0) (ν ∷ []) h l₃ 0) $ await ! tt $ pick ! (λ γ. split ! $
+        use1 W (later (some (λ (γ : GName). ‵ (MutRef (named 0) (ν ∷ []) S.the-row .own (lent l₃ γ) (vptr l₃ 0 ∷ [])) ⊛ ‵ (flent (ν ∷ [])
+        (Body (mem S.the-row) l₃ 0 γ))))) (lends-ref 𝓤 H A W S.the-row (named 0) (ν ∷ []) h l₃ 0) $ await ! tt $ pick ! (λ γ. split ! $
         move ! (2 ∷ 0 ∷ []) $ use2 W (raw (Fstat 𝓤 H A at-mem run .pre (to-fstat ν l₃ γ))) (goes is-z ν l₃ γ) $
         -- [what `fstat` asks; what was lent; _6; …; _5; …; _4; …; …; _2; …; _1; …; _0; …; true; what the parameters own]
-        calls-at ! fm (Fstat 𝓤 H A at-mem run) cites (to-fstat ν l₃ γ) (and-then ! (load ! (from ! (stop !)) (look ! 11 refl)) (and-then ! (load ! (from ! (stop !)) (look ! 4 refl)) (no-more !))) (λ w.
-        use1 W (later (some (λ (r : ℤ). ((‵ (flft (ν ∷ []) fullShare) ⊛ ‵ ftrue) ⊛ ‵ (i32 .own r (w ∷ []))) ⊛ raw (ensured 𝓤 H A fstat.ended (fstat.clauses 𝓤 H A at-mem run) (ν ∷ [], tt) (z, (lent l₃ γ, tt)) tt r)))) (id⊢ 𝓤 _) $ await ! tt $ pick ! (λ r.
-        split ! $ move ! (1 ∷ []) $ use1 W (some (λ (ws : Unit {0} × (stat × Unit {0})). ‵ (lasts fstat.ended (ν ∷ [], tt) (z, (lent l₃ γ, tt)) ws) ⊛ raw (fact 𝓤 (Status r)))) (id⊢ 𝓤 _) $ pick ! (λ ws.
+        calls-at ! fm (Fstat 𝓤 H A at-mem run) cites (to-fstat ν l₃ γ) (and-then ! (load ! (from ! (stop !)) (look ! 11 refl)) (and-then !
+        (load ! (from ! (stop !)) (look ! 4 refl)) (no-more !))) (λ w.
+        use1 W (later (some (λ (r : ℤ). ((‵ (flft (ν ∷ []) fullShare) ⊛ ‵ ftrue) ⊛ ‵ (i32 .own r (w ∷ []))) ⊛ raw
+        (ensured 𝓤 H A fstat.ended (fstat.clauses 𝓤 H A at-mem run) (ν ∷ [], tt) (z, (lent l₃ γ, tt)) tt r)))) (id⊢ 𝓤 _) $ await ! tt $ pick ! (λ r.
+        split ! $ move ! (1 ∷ []) $ use1 W (some (λ (ws : Unit {0} × (stat × Unit {0})). ‵ (lasts fstat.ended (ν ∷ [], tt) (
+          z,
+          (lent l₃ γ, tt),
+        ) ws) ⊛ raw (fact 𝓤 (Status r)))) (id⊢ 𝓤 _) $ pick ! (λ ws.
         split ! $ drop ! $ heard ! (Status r) (λ e. split ! $ move ! (1 ∷ []) $ peeks ! i32 (Is i32) (shows 𝓤 H A i32) r (w ∷ []) (λ is.
         -- [what the answer owns; the token and true; what was lent; _6; …; _5; …; _4; …; …; _2; …]
         land ! (from ! (stop !)) (init ! 7 refl (sint-lawful 𝓤 H A W w32 .typed r _ is .0)) $ rewrite ! 7

@@ -17,10 +17,13 @@ use Rattle.label.proofs.hashed.label.Tie as tie
 in-front :
     (c : tie.After-put-input)
     → (take (41 + 32 * c .before .before .before .before .args .parents) (c .put-input .last .0)
-    ≡ documentInput (c .before .before .before .before .args .edition) (c .before .before .before .before .args .depth) (c .before .before .before .before .args .statement)
-    (node (c .before .before .before .before .args .level) (c .before .before .before .before .args .position)) (inLabels (c .before .before .before .before .args .front .now ++ c .before .before .before .before .args .rest .now)))
+    ≡ documentInput (c .before .before .before .before .args .edition) (c .before .before .before .before .args .depth)
+    (c .before .before .before .before .args .statement)
+    (node (c .before .before .before .before .args .level) (c .before .before .before .before .args .position)) (inLabels
+    (c .before .before .before .before .args .front .now ++ c .before .before .before .before .args .rest .now)))
     × (c .put-input .last .0
-    ≡ take (41 + 32 * c .before .before .before .before .args .parents) (c .put-input .last .0) ++ zeros (inputSpace - (41 + 32 * c .before .before .before .before .args .parents)))
+    ≡ take (41 + 32 * c .before .before .before .before .args .parents) (c .put-input .last .0) ++ zeros (inputSpace -
+    (41 + 32 * c .before .before .before .before .args .parents)))
 in-front c =
     let s = c .before .before .before .before in
     let a = s .args in

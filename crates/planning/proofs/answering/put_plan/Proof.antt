@@ -69,7 +69,9 @@ loop-again c =
     let the =
     the-node (a .depth) (a .leaves .now) (a .codes .now) (s .pre .1 .0) (l .i) (omega arith) (spot .result .level)
     (spot .result .position) (spot .ensures .0) (spot .ensures .1) in
-    let wrote = nodes-wrote (chain (a .depth) (a .leaves .now)) (l .i) (node (spot .result .level) (spot .result .position)) (l .out) (put .last .0) (l .at) (put .result) (omega arith) the (put .ensures) (omega (arith, l .inv .2, l .inv .3, head .ensures .next, head .kept .0, s .pre .1 .1)) in (
+    let wrote = nodes-wrote (chain (a .depth) (a .leaves .now)) (l .i) (node (spot .result .level) (spot .result .position)) (l .out)
+    (put .last .0) (l .at) (put .result) (omega arith) the (put .ensures) (omega
+    (arith, l .inv .2, l .inv .3, head .ensures .next, head .kept .0, s .pre .1 .1)) in (
       omega arith,
       wrote .0 ∙ l .inv .1,
       wrote .1 ∙ l .inv .2,

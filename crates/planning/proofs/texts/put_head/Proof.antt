@@ -54,7 +54,8 @@ returns c =
     let f =
     c .before .before .before .before .before .before .before .before .before .before .before .before .before .before .before .before .put-field in
     let s =
-    c .before .before .before .before .before .before .before .before .before .before .before .before .before .before .before .before .before .before .before .before in
+    c .before .before .before .before .before .before .before .before .before .before .before .before .before .before .before .before .before .before .before .before
+    in
     let a = s .args in
     then
     (then (then (f .ensures) (g .ensures) (omega (arith, head-one (a .depth) (a .different), s .pre))) (h .ensures)

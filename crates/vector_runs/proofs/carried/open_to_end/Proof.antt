@@ -9,7 +9,8 @@ use Rattle.opening.specs.Steps as opens
 use Rattle.opening.specs.Steps.{Open}
 use Rattle.opening.specs.Possible.{openOf}
 use Rattle.machine.specs.Calls.{afterCalls, labelsOver}
-use Rattle.vector_runs.proofs.CallLaws.{calls-idle, labels-idle, calls-more, labels-more, calls-none, labels-none, opening-idle, counted-more, counted-all}
+use Rattle.vector_runs.proofs.CallLaws.{calls-idle, labels-idle, calls-more, labels-more, calls-none, labels-none, opening-idle, counted-more}
+use Rattle.vector_runs.proofs.CallLaws.{counted-all}
 use Rattle.vector_runs.proofs.carried.open_to_end.Statement.{statement}
 use Rattle.vector_runs.proofs.carried.open_to_end.Tie as tie
 
