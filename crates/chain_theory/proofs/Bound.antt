@@ -68,7 +68,13 @@ pub chain-bound : (n : ℕ) (leaves : List ℕ) → every (isLeaf n) leaves ≡ 
     → length (chain n leaves) ≤ maxChain
 chain-bound n leaves h d k =
     let e : maxDepth - n + n ≡ maxDepth = omega arith in
-    omega (arith, chain-most n leaves h, most-leaves n (leavesOpened leaves) maxChallenges k, rw e at (most-depth (maxDepth - n) n maxChallenges), most-limits)
+    omega (
+      arith,
+      chain-most n leaves h,
+      most-leaves n (leavesOpened leaves) maxChallenges k,
+      rw e at (most-depth (maxDepth - n) n maxChallenges),
+      most-limits,
+    )
 
 pub leavesOpened-le : (leaves : List ℕ) → leavesOpened leaves ≤ length leaves
 unfolding different

@@ -52,7 +52,10 @@ module _ (edition : ℕ) (bytes statement : List ℕ) (n t : ℕ) (p : IsProof e
       i positive small)
 
   pub file-size : length bytes ≡ lengthFrom n t (length (headNumbers edition n t))
-  file-size = rw (p .isFile) (length-file edition statement (p .root) n t (p .statementSize) (p .rootSize) (p .openings) (p .openingCount) (p .openingSizes))
+  file-size =
+      rw (p .isFile)
+      (length-file edition statement (p .root) n t (p .statementSize) (p .rootSize) (p .openings) (p .openingCount)
+      (p .openingSizes))
 
   pub file-sized : (i : ℕ) → 1 ≤ i → i ≤ t → Given32 n (givenBy (openingAt bytes n (length (headNumbers edition n t)) i))
   file-sized i positive small =
@@ -62,7 +65,8 @@ module _ (edition : ℕ) (bytes statement : List ℕ) (n t : ℕ) (p : IsProof e
 
   pub file-right :
       (i : ℕ) → 1 ≤ i → i ≤ t
-      → OpeningRight edition statement n (challengeLeaf edition n statement (p .root) i) (p .root) (openingAt bytes n (length (headNumbers edition n t)) i)
+      → OpeningRight edition statement n (challengeLeaf edition n statement (p .root) i) (p .root)
+      (openingAt bytes n (length (headNumbers edition n t)) i)
   file-right i positive small = rw (file-opening i positive small) (p .allRight i positive small)
 
   file-row : (i : ℕ) → 1 ≤ i → i < 1 + t → rowOf edition bytes n (length (headNumbers edition n t)) i ≡ 0

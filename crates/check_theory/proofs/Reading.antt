@@ -91,10 +91,16 @@ module _ (edition : ℕ) (statement root : List ℕ) (n t : ℕ) (statementSize 
     unfolding fileSize
     file-size-is small = length-file ∙ ap (λ (k : ℕ). k + t * openingSize n) (size-numbers edition n t small)
 
-    pub opening-back : (i : ℕ) → 1 ≤ i → i ≤ t → openingAt (file edition statement root n t openings) n (length (headNumbers edition n t)) i ≡ nth openings i
+    pub opening-back :
+        (i : ℕ) → 1 ≤ i → i ≤ t
+        → openingAt (file edition statement root n t openings) n (length (headNumbers edition n t)) i ≡ nth openings i
     unfolding file
     opening-back i positive small =
-        rw (← head-length, drop-append-add (head edition statement root n t) (joined openings) ((i - 1) * openingSize n), mul-comm (i - 1) (openingSize n))
+        rw (
+          ← head-length,
+          drop-append-add (head edition statement root n t) (joined openings) ((i - 1) * openingSize n),
+          mul-comm (i - 1) (openingSize n),
+        )
         (joined-at (openingSize n) openings sizes (i - 1) (omega arith))
 
 -- ---- no two heads have the same bytes
@@ -127,5 +133,7 @@ module _
           counts = cc;
         }
 
-    pub one-head : head limits.edition statement root n t ≡ head limits.edition statement′ root′ n′ t′ → SameHead statement root n t statement′ root′ n′ t′
+    pub one-head :
+        head limits.edition statement root n t ≡ head limits.edition statement′ root′ n′ t′
+        → SameHead statement root n t statement′ root′ n′ t′
     one-head e = same-heads [] [] (ap (λ (l : List ℕ). l ++ []) e)

@@ -76,7 +76,9 @@ module _ (edition : ℕ) (statement : List ℕ) (n leaf : ℕ) (root bytes : Lis
   leaf-passes : LeafRight (stampRule edition n statement) n leaf (givenBy bytes) → leafWrong (stampRule edition n statement) n leaf bytes ≡ false
   leaf-passes = same-passes _ _
 
-  root-passes : RootRight (stampRule edition n statement) n leaf (givenBy bytes) root → rootWrong (stampRule edition n statement) n leaf bytes root ≡ false
+  root-passes :
+      RootRight (stampRule edition n statement) n leaf (givenBy bytes) root
+      → rootWrong (stampRule edition n statement) n leaf bytes root ≡ false
   root-passes = same-passes _ _
 
   passes-right :

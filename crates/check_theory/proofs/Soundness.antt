@@ -34,7 +34,8 @@ use Rattle.check_theory.proofs.Openings.{rowOf, accepted-rows}
 -- ---- the head
 numbers-of :
     (edition : ℕ) (bytes : List ℕ) (n t a b c : ℕ) → IsDepth n → IsCount t
-    → Shortest bytes 0 numberGroups edition a → Shortest bytes a numberGroups n b → Shortest bytes b numberGroups t c → NumbersRead edition bytes n t c
+    → Shortest bytes 0 numberGroups edition a → Shortest bytes a numberGroups n b → Shortest bytes b numberGroups t c →
+    NumbersRead edition bytes n t c
 unfolding headNumbers
 numbers-of edition bytes n t a b c depth count s₁ s₂ s₃ =
     record {
@@ -116,7 +117,8 @@ module _ (edition : ℕ) (bytes : List ℕ) (n t at : ℕ) (read : NumbersRead e
 
   right-at :
       (i : ℕ) → 1 ≤ i → i ≤ t → rowOf edition bytes n at i ≡ 0
-      → OpeningRight edition (statementAt bytes at) n (challengeLeaf edition n (statementAt bytes at) (rootAt bytes at) i) (rootAt bytes at) (nth openingsIn i)
+      → OpeningRight edition (statementAt bytes at) n (challengeLeaf edition n (statementAt bytes at) (rootAt bytes at) i)
+      (rootAt bytes at) (nth openingsIn i)
   right-at i positive small e =
       rw (← opening-at i positive small)
       (done-right edition (statementAt bytes at) n (challengeLeaf edition n (statementAt bytes at) (rootAt bytes at) i) (rootAt bytes at)
@@ -144,7 +146,8 @@ not-accepted number some e = omega arith
 
 module _ (bytes statement : List ℕ) (n t : ℕ) (small : (j : ℕ) → getD bytes j 0 < 256) where
   from-numbers :
-      (n′ t′ at : ℕ) → headOf bytes ≡ numbers n′ t′ at → fileRest bytes statement n t (numbers n′ t′ at) ≡ 0 → IsProof limits.edition bytes statement n t
+      (n′ t′ at : ℕ) → headOf bytes ≡ numbers n′ t′ at → fileRest bytes statement n t (numbers n′ t′ at) ≡ 0
+      → IsProof limits.edition bytes statement n t
   from-numbers n′ t′ at h e =
       let p₁ = second-picked (ltb (length bytes) (lengthFrom n′ t′ at)) (foundIn 0 10) _ 0 (not-accepted 10 (omega arith)) e in
       let p₂ = second-picked (ltb (lengthFrom n′ t′ at) (length bytes)) (foundIn 0 13) _ 0 (not-accepted 13 (omega arith)) (p₁ .1) in

@@ -70,7 +70,9 @@ module _ (edition : ℕ) (statement : List ℕ) (n : ℕ) where
       i
       (omega (arith, labels-count leaf)))
 
-  pub opening-right : (leaf : ℕ) → leaf < 2 ^ n → OpeningRight edition statement n leaf (rootOf edition statement n) (openingOf edition statement n leaf)
+  pub opening-right :
+      (leaf : ℕ) → leaf < 2 ^ n
+      → OpeningRight edition statement n leaf (rootOf edition statement n) (openingOf edition statement n leaf)
   opening-right leaf inside =
       right-same
       (stampRule edition n statement)
@@ -99,12 +101,14 @@ module _ (edition : ℕ) (statement : List ℕ) (n : ℕ) where
 
   pub openings-size : (t : ℕ) → EachOf (openingSize n) (treeOpenings edition statement n t)
   openings-size t =
-      each-by (openingSize n) (treeOpenings edition statement n t) (λ i small. rw (openings-at t i (omega (arith, openings-count t))) (opening-size _))
+      each-by (openingSize n) (treeOpenings edition statement n t)
+      (λ i small. rw (openings-at t i (omega (arith, openings-count t))) (opening-size _))
 
   -- one opening more, as a writer lays them
   pub openings-grow :
       (t : ℕ)
-      → joined (treeOpenings edition statement n (suc t)) ≡ joined (treeOpenings edition statement n t) ++ challengedOpening edition statement n (suc t)
+      → joined (treeOpenings edition statement n (suc t))
+      ≡ joined (treeOpenings edition statement n t) ++ challengedOpening edition statement n (suc t)
   unfolding treeOpenings joined
   openings-grow t = rw (joined-append (treeOpenings edition statement n t)) (rw append-nil)
 

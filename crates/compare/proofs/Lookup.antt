@@ -39,7 +39,8 @@ part-inside size from most bytes h k =
     ∙ ap (take size) (sym (drop-append-le from (take most bytes) (drop most bytes) (omega arith)))
     ∙ ap (λ (l : List ℕ). take size (drop from l)) (take-append-drop most bytes)
 
-module _ (edition : ℕ) (statement : List ℕ) (n : ℕ) (leaves openings first table : List ℕ) (sized : Sized n leaves openings) (wide : length table ≡ tableSize)
+module _ (edition : ℕ) (statement : List ℕ) (n : ℕ) (leaves openings first table : List ℕ) (sized : Sized n leaves openings)
+    (wide : length table ≡ tableSize)
     (full : TableOf edition statement n leaves openings (length leaves) first table) where
   abbrev r : Rule
   r = stampRule edition n statement
@@ -115,9 +116,11 @@ module _ (edition : ℕ) (statement : List ℕ) (n : ℕ) (leaves openings first
       by-shared i j l a (omega arith) (omega arith) c h (shared n (leafOf leaves i) (leafOf leaves j) l) refl)
 
   pub input-known : (i l : ℕ) → 1 ≤ i → i ≤ length leaves → l < n
-      → documentInput edition n statement (wayNode n (leafOf leaves i) l) (inLabels (cell n table i l)) ≡ inputOf edition statement n leaves openings i l
+      → documentInput edition n statement (wayNode n (leafOf leaves i) l) (inLabels (cell n table i l))
+      ≡ inputOf edition statement n leaves openings i l
   input-known i l a b h =
-      rw (cell-known i l a b h, labels-back (known i l) (known-sized i l a b h)) (sym (input-children r n (leafOf leaves i) (givenOf n openings i) l h))
+      rw (cell-known i l a b h, labels-back (known i l) (known-sized i l a b h))
+      (sym (input-children r n (leafOf leaves i) (givenOf n openings i) l h))
 
   -- what is answered when the table shows no pair, and when it shows one
   abbrev pub Answers : Pair → List ℕ → List ℕ → Type 0

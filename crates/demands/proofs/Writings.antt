@@ -226,7 +226,8 @@ module _
       follows statement root n m t (length file) store bounds fits t 0 0 0
       (begun statement root n m t store 1 (written file 0 (head edition statement root n t))) (omega (arith, count .0)) (omega arith)
       (omega arith) (omega arith)
-      (begun-at statement root n m t (length file) store bounds fits 0 (written file 0 (head edition statement root n t)) (omega (arith, count .0)) head-fits)
+      (begun-at statement root n m t (length file) store bounds fits 0 (written file 0 (head edition statement root n t))
+      (omega (arith, count .0)) head-fits)
 
   start-reached : Reached statement root n m t (length file) store bounds fits 0 start
   start-reached = rw (started-done statement root n m t store file writable) new-reached

@@ -87,7 +87,9 @@ filedFrom statement n m t store file labelling budgets = fileFrom (runFrom state
 
 -- the tree's root and its openings of the challenged leaves, laid out as document 01 says; no other byte is written
 pub record FileIs (statement : List ℕ) (n t : ℕ) (bytes after : List ℕ) : Type 0 where
-  pub same : take (fileSize n t) after ≡ file edition statement (label (stampRule edition n statement) n root) n t (treeOpenings edition statement n t)
+  pub same :
+      take (fileSize n t) after
+      ≡ file edition statement (label (stampRule edition n statement) n root) n t (treeOpenings edition statement n t)
   pub behind : drop (fileSize n t) after ≡ drop (fileSize n t) bytes
   pub accepted : fileCheck (take (fileSize n t) after) statement n t ≡ 0
 

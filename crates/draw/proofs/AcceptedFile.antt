@@ -131,7 +131,9 @@ module _ (bytes statement : List ℕ) (n t : ℕ) (small : (j : ℕ) → getD by
   pub all-drawn : (leaves openings list after first second : List ℕ) (pair : Pair) (drawing : DrawingAnswer) → leaves ≡ leavesOf bytes statement n t
       → openings ≡ openingsOf bytes → pair ≡ compared edition statement n leaves openings
       → first ≡ firstInput edition statement n leaves openings (compared edition statement n leaves openings)
-      → second ≡ secondInput edition statement n leaves openings (compared edition statement n leaves openings) → DrawnFrom pair n leaves list drawing after
+      → second
+      ≡ secondInput edition statement n leaves openings (compared edition statement n leaves openings)
+      → DrawnFrom pair n leaves list drawing after
       → Answers bytes statement n t list drawing after first second
   unfolding drawnList firstDrawn secondDrawn
   all-drawn leaves openings list after first second pair drawing el eo p f g d =

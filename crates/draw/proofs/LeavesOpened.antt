@@ -47,7 +47,8 @@ module _ (edition n : ℕ) (statement root : List ℕ) where
         (leaves : List ℕ) (i leaf : ℕ) → IsDepth n → count ≤ maxChallenges → length leaves ≡ maxChallenges → i < count
         → leaf ≡ challenged edition n statement root (i + 1)
         → take i leaves ++ leavesFrom edition n statement root (i + 1) (count - i) ≡ leavesFrom edition n statement root 1 count
-        → take (i + 1) (set leaves i leaf) ++ leavesFrom edition n statement root (i + 1 + 1) (count - (i + 1)) ≡ leavesFrom edition n statement root 1 count
+        → take (i + 1) (set leaves i leaf) ++ leavesFrom edition n statement root (i + 1 + 1) (count - (i + 1))
+        ≡ leavesFrom edition n statement root 1 count
     unfolding leavesFrom challenged
     leaves-more leaves i leaf depth few wide h e before =
         let more : count - i ≡ suc (count - (i + 1)) = omega arith in

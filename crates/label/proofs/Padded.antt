@@ -46,7 +46,8 @@ module _ (input : List ℕ) (len : ℕ) (small : len ≤ maxLabelInput) (front :
   zeros-behind : drop (paddedSize len) laid ≡ zeros (inputSpace - paddedSize len)
   zeros-behind =
       let n : length (take len input) ≡ len = length-take len input ∙ omega (arith, length-front) in
-      let marked : length (written input len (128 ∷ [])) ≡ inputSpace = length-written input len (128 ∷ []) (omega (arith, length-front)) ∙ length-front in
+      let marked : length (written input len (128 ∷ [])) ≡ inputSpace =
+      length-written input len (128 ∷ []) (omega (arith, length-front)) ∙ length-front in
       let bits : length (bigEndian 8 (8 * len)) ≡ 8 = length-bigEndian 8 (8 * len) in
       let at : length (take len input) + (paddedSize len - len) ≡ paddedSize len = omega arith in
       let rest : inputSpace - len - (paddedSize len - len) ≡ inputSpace - paddedSize len = omega arith in
@@ -60,7 +61,8 @@ module _ (input : List ℕ) (len : ℕ) (small : len ≤ maxLabelInput) (front :
 
   pub laid-padded : laid ≡ paddedIn inputSpace (take len input)
   laid-padded =
-      let marked : length (written input len (128 ∷ [])) ≡ inputSpace = length-written input len (128 ∷ []) (omega (arith, length-front)) ∙ length-front in
+      let marked : length (written input len (128 ∷ [])) ≡ inputSpace =
+      length-written input len (128 ∷ []) (omega (arith, length-front)) ∙ length-front in
       let bits : length (bigEndian 8 (8 * len)) ≡ 8 = length-bigEndian 8 (8 * len) in
       let whole : length laid ≡ inputSpace =
       length-written (written input len (128 ∷ [])) (paddedSize len - 8) (bigEndian 8 (8 * len)) (omega arith) ∙ marked in

@@ -149,7 +149,9 @@ climbed edition statement bytes n leaf height label above e a =
 
 -- ---- the two refusals
 module _ (edition : ℕ) (statement : List ℕ) (n leaf : ℕ) (root bytes : List ℕ) where
-  module _ (hash : Label) (h : hash ≡ stampRule edition n statement .hash (inputAt (stampRule edition n statement) n leaf (givenBy bytes) (node n leaf))) where
+  module _ (hash : Label)
+      (h : hash
+      ≡ stampRule edition n statement .hash (inputAt (stampRule edition n statement) n leaf (givenBy bytes) (node n leaf))) where
     pub wrong-leaf : sameBytes (take 32 bytes) hash ≡ false → 14 ≡ rightRow edition statement n leaf root bytes
     unfolding rightRow
     wrong-leaf f = rw (← h, f)

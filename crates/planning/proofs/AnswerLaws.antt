@@ -39,7 +39,9 @@ module _ (n : ℕ) (leaves codes : List ℕ) (done : planRow n leaves places ≡
   all-passed = none-holds checks refl done
 
   pub few-leaves : length leaves ≤ maxChallenges
-  few-leaves = leb-true (length leaves) maxChallenges (both-second (leb 1 (length leaves)) (leb (length leaves) maxChallenges) (not-false _ (all-passed .1 .0)))
+  few-leaves =
+      leb-true (length leaves) maxChallenges
+      (both-second (leb 1 (length leaves)) (leb (length leaves) maxChallenges) (not-false _ (all-passed .1 .0)))
 
   pub codes-count : length codes ≡ length (chain n leaves)
   unfolding chainCodes
@@ -134,7 +136,9 @@ refused-text n leaves o why list k a p q r =
     let row : planRow n leaves places ≡ k = rw (← a) (sym (refused-number o (planRow n leaves list) why p q) ∙ sym r) in
     rw (row, not-done why k (sym r))
 
-pub refused-wrote : (n : ℕ) (leaves d e : List ℕ) (o : Outcome) (why : Refusal) (list k m : ℕ) → list ≡ maxChain → outcomeNumber o ≡ planRow n leaves list
+pub refused-wrote :
+    (n : ℕ) (leaves d e : List ℕ) (o : Outcome) (why : Refusal) (list k m : ℕ) → list ≡ maxChain
+    → outcomeNumber o ≡ planRow n leaves list
     → o ≡ Refused why → k ≡ numberOf why → Wrote d 0 (refusedText k) e m → Wrote d 0 (planText n leaves) e m
 refused-wrote n leaves d e o why list k m a p q r w = rw (refused-text n leaves o why list k a p q r) w
 

@@ -73,7 +73,8 @@ cut n ys = go (leb (length ys) (maxChallenges + 1)) refl
     go true e = ap (planText n) (take-all (maxChallenges + 1) ys (leb-true (length ys) (maxChallenges + 1) e))
     go false e =
         let h : (maxChallenges + 1) < length ys = leb-false (length ys) (maxChallenges + 1) e in
-        too-many n (take (maxChallenges + 1) ys) (omega (arith, length-take-le (maxChallenges + 1) ys (omega arith))) ∙ sym (too-many n ys (omega arith))
+        too-many n (take (maxChallenges + 1) ys) (omega (arith, length-take-le (maxChallenges + 1) ys (omega arith)))
+        ∙ sym (too-many n ys (omega arith))
 
 cut-rest : (n : ℕ) (xs : List ℕ) → planText n (drop 1 (take maxNumbers xs)) ≡ planText n (drop 1 xs)
 cut-rest n [] = refl

@@ -130,7 +130,9 @@ pub leaf-bits : (edition n : ℕ) (statement root : List ℕ) (i word : ℕ) (ha
     → word ≡ bigEndianValue (take 8 hash) → word / 2 ^ (64 - n) ≡ challengeLeaf edition n statement root i
 unfolding challengeLeaf
 leaf-bits edition n statement root i word hash h e w =
-    rw (w, e) (first-bits (digest (challengeInput edition n statement root i)) n (digest-split (challengeInput edition n statement root i)) (omega arith))
+    rw (w, e)
+    (first-bits (digest (challengeInput edition n statement root i)) n
+    (digest-split (challengeInput edition n statement root i)) (omega arith))
 
 -- reading the number byte by byte
 pub byte-more : (bytes : List ℕ) (i value byte : ℕ) → i < length bytes → value ≡ bigEndianValue (take i bytes) → byte ≡ getD bytes i 0

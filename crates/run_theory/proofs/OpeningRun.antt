@@ -36,7 +36,8 @@ use Rattle.run_theory.proofs.Places.{cell, outWith-append, length-with,
 use Rattle.run_theory.proofs.Anew.{anew-count, way-inside, beside-inside, opening-within, opening-made}
 
 -- ---- the start
-module _ (edition : ℕ) (statement : List ℕ) (n m leaf : ℕ) (store : List ℕ) (holds : HoldsLabels edition statement n m store) (inside : leaf < 2 ^ n) where
+module _ (edition : ℕ) (statement : List ℕ) (n m leaf : ℕ) (store : List ℕ) (holds : HoldsLabels edition statement n m store)
+    (inside : leaf < 2 ^ n) where
   -- the labels in front are read from the store
   pub front-labels : m ≤ n → front n m leaf store ≡ labelsOf edition statement n (leftSiblings m (leaf / 2 ^ (n - m)))
   unfolding front
@@ -119,7 +120,8 @@ module _
       ≡ openAfter limits.edition statement n m leaf k out
   unfolding openingMachine
   opening-reached =
-      steps-reach (openingMachine store) (λ k. openAfter limits.edition statement n m leaf k out) (nodesAnew n m) (newOpen statement n m leaf store out)
+      steps-reach (openingMachine store) (λ k. openAfter limits.edition statement n m leaf k out) (nodesAnew n m)
+      (newOpen statement n m leaf store out)
       (opening-start limits.edition statement n m leaf store holds inside out le) opening-step
 
 -- ---- the output

@@ -30,7 +30,9 @@ use Rattle.label.specs.Rule.{stampRule}
 use Rattle.label.specs.Step.{nextNode, placeOf, isLeaf, hashedLabels, nextLabel, heldWith}
 use Rattle.run_theory.specs.Reached.{labelOf, labelsOf, heldBytes}
 
-below-size : (edition n : ℕ) (statement : List ℕ) (h : ℕ) (w : Node) (aboves : List Label) → length (labelBelow (stampRule edition n statement) h w aboves) ≡ 32
+below-size :
+    (edition n : ℕ) (statement : List ℕ) (h : ℕ) (w : Node) (aboves : List Label)
+    → length (labelBelow (stampRule edition n statement) h w aboves) ≡ 32
 unfolding labelBelow
 below-size edition n statement zero w aboves = digest-length _
 below-size edition n statement (suc h) w aboves = digest-length _
@@ -161,7 +163,8 @@ module _ (edition : ℕ) (statement : List ℕ) (n : ℕ) where
 
       held-leaf :
           w .level ≡ n
-          → written (heldBytes edition statement n h v k) (32 * placeOf v w) (labelOf edition statement n w) ≡ heldBytes edition statement n h v (k + 1)
+          → written (heldBytes edition statement n h v k) (32 * placeOf v w) (labelOf edition statement n w)
+          ≡ heldBytes edition statement n h v (k + 1)
       unfolding joined
       held-leaf leaf =
           let c : ℕ = heldSize - 32 * (length beside + 0) in
@@ -177,7 +180,8 @@ module _ (edition : ℕ) (statement : List ℕ) (n : ℕ) where
 
       held-inner :
           w .level < n
-          → written (written (heldBytes edition statement n h v k) (32 * placeOf v w) (labelOf edition statement n w)) (32 * placeOf v w + 32) (zeros 32)
+          → written (written (heldBytes edition statement n h v k) (32 * placeOf v w) (labelOf edition statement n w))
+          (32 * placeOf v w + 32) (zeros 32)
           ≡ heldBytes edition statement n h v (k + 1)
       unfolding joined
       held-inner inner =

@@ -108,7 +108,10 @@ module _ (edition : ℕ) (statement : List ℕ) (n m : ℕ) where
     -- the label at place i of the order, when that at place k is written
     holds-step :
         (k i : ℕ) → k < nodesIn n → i ≤ k → nextNode n root i .level ≤ m
-        → (i < k → take 32 (drop (slot (nextNode n root i)) (storeAfter edition statement n m k store)) ≡ labelOf edition statement n (nextNode n root i))
+        →
+        (i < k
+        → take 32 (drop (slot (nextNode n root i)) (storeAfter edition statement n m k store))
+        ≡ labelOf edition statement n (nextNode n root i))
         → (t : Bool) → eqb i k ≡ t
         → take 32 (drop (slot (nextNode n root i)) (storeAfter edition statement n m (k + 1) store)) ≡ labelOf edition statement n (nextNode n root i)
     unfolding labellingOrder

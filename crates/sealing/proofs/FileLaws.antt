@@ -16,7 +16,8 @@ use Rattle.writing_theory.proofs.Filing.{file-written}
 use Rattle.writing_theory.proofs.Calls.{file-labels, file-advanced}
 
 module _ (statement root : List ℕ) (n m t : ℕ) (store file : List ℕ) (size : length statement ≡ 32)
-    (holds : HoldsLabels edition statement n m store) (fits : Writable n m t (length store) (length file)) (is-root : root ≡ rootOf edition statement n)
+    (holds : HoldsLabels edition statement n m store) (fits : Writable n m t (length store) (length file))
+    (is-root : root ≡ rootOf edition statement n)
     (first : Writing) (begun : List ℕ)
     (start : first ≡ started statement root n m t store file .writing) (start-file : begun ≡ started statement root n m t store file .file) where
   pub begins : writtenOf first begun ≡ newFile statement n m t store file

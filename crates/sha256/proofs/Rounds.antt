@@ -76,7 +76,8 @@ extended-next w x f =
     grow (listOf w) 9 e9 (f .w9) in
     let e11 : extended (listOf w) 11 ≡ listOf w ++ (x .w0 ∷ x .w1 ∷ x .w2 ∷ x .w3 ∷ x .w4 ∷ x .w5 ∷ x .w6 ∷ x .w7 ∷ x .w8 ∷ x .w9 ∷ x .w10 ∷ []) =
     grow (listOf w) 10 e10 (f .w10) in
-    let e12 : extended (listOf w) 12 ≡ listOf w ++ (x .w0 ∷ x .w1 ∷ x .w2 ∷ x .w3 ∷ x .w4 ∷ x .w5 ∷ x .w6 ∷ x .w7 ∷ x .w8 ∷ x .w9 ∷ x .w10 ∷ x .w11 ∷ []) =
+    let e12 : extended (listOf w) 12
+    ≡ listOf w ++ (x .w0 ∷ x .w1 ∷ x .w2 ∷ x .w3 ∷ x .w4 ∷ x .w5 ∷ x .w6 ∷ x .w7 ∷ x .w8 ∷ x .w9 ∷ x .w10 ∷ x .w11 ∷ []) =
     grow (listOf w) 11 e11 (f .w11) in
     let e13 : extended (listOf w) 13
     ≡ listOf w ++ (x .w0 ∷ x .w1 ∷ x .w2 ∷ x .w3 ∷ x .w4 ∷ x .w5 ∷ x .w6 ∷ x .w7 ∷ x .w8 ∷ x .w9 ∷ x .w10 ∷ x .w11 ∷ x .w12 ∷ []) =

@@ -60,7 +60,8 @@ module _
 
     goes-on-at :
         r < nodesAnew n m + (q + 2 - t)
-        → rewriteRow (writtenAt edition statement n m t file q r .writing) (length store) (length (writtenAt edition statement n m t file q r .file)) ≡ 0
+        → rewriteRow (writtenAt edition statement n m t file q r .writing) (length store)
+        (length (writtenAt edition statement n m t file q r .file)) ≡ 0
     unfolding writtenAt underWay
     goes-on-at small =
         rw length-at

@@ -46,7 +46,8 @@ module _
   module _ (q : ℕ) (b c : List ℕ) (part : length b ≡ openingSize n) where
     part-begun :
         begun statement (rootOf edition statement n) n m t store (q + 1) (laid edition statement n t q ++ (b ++ c))
-        ≡ underWay (rootOf edition statement n) t q (laid edition statement n t q) (openAfter edition statement n m (leafAfter edition statement n q) 0 b) c
+        ≡ underWay (rootOf edition statement n) t q (laid edition statement n t q)
+        (openAfter edition statement n m (leafAfter edition statement n q) 0 b) c
     unfolding begun underWay
     part-begun =
         let leaf : ℕ = leafAfter edition statement n q in
@@ -55,7 +56,9 @@ module _
         let start : newOpen statement n m leaf store b ≡ openAfter edition statement n m leaf 0 b =
         opening-start edition statement n m leaf store holds (leaf-inside edition statement n q (fits .depth .1)) b memory-le in
         let same : length b ≡ length (copiedAll n m leaf store b) =
-        sym (ap (λ (o : Open). length (o .out)) start ∙ length-after edition statement n m leaf b (fits .depth .0) memory-le (omega arith) 0 (omega arith)) in
+        sym
+        (ap (λ (o : Open). length (o .out)) start
+        ∙ length-after edition statement n m leaf b (fits .depth .0) memory-le (omega arith) 0 (omega arith)) in
         rw (
           size-from n t q,
           part-there a b c (laidSize n t q) (openingSize n) long part,
@@ -84,7 +87,8 @@ module _
           size-from n t q,
           part-there a (outAfter edition statement n m leaf r b) c (laidSize n t q) (openingSize n) long now,
           opening-step statement n m leaf store b holds (fits .depth .1) memory-le (leaf-inside edition statement n q (fits .depth .1)) r few,
-          written-over a (outAfter edition statement n m leaf r b) c (outAfter edition statement n m leaf (r + 1) b) (laidSize n t q) long (now ∙ sym then),
+          written-over a (outAfter edition statement n m leaf r b) c (outAfter edition statement n m leaf (r + 1) b)
+              (laidSize n t q) long (now ∙ sym then),
         )
 
   -- ---- in the file
@@ -94,7 +98,8 @@ module _
       ≡ writtenAt edition statement n m t file q 0
   unfolding writtenAt
   opening-begun q few =
-      ap (λ (l : List ℕ). begun statement (rootOf edition statement n) n m t store (q + 1) (laid edition statement n t q ++ l)) (part-split n t file q)
+      ap (λ (l : List ℕ). begun statement (rootOf edition statement n) n m t store (q + 1) (laid edition statement n t q ++ l))
+      (part-split n t file q)
       ∙ part-begun q _ _ (part-size n t file q few (fits .fileFits))
 
   opening-stepped :
@@ -123,7 +128,8 @@ module _
   -- and the next one follows it, unless it is the last
   follows-next :
       (left q r : ℕ) → r ≡ nodesAnew n m → q + 1 < t
-      → followed store (suc left) (writtenAt edition statement n m t file q r) ≡ followed store left (writtenAt edition statement n m t file (q + 1) 0)
+      → followed store (suc left) (writtenAt edition statement n m t file q r)
+      ≡ followed store left (writtenAt edition statement n m t file (q + 1) 0)
   unfolding followed writtenAt underWay
   follows-next left q r done few =
       rw (done, eq-eqb (nodesAnew n m) (nodesAnew n m) refl, lt-ltb (q + 1) t few, opening-ended q (omega arith))

@@ -15,7 +15,9 @@ returns-2 : tie.Need-returns-2
 returns-2 c = row-depth _ _ (above-range 1 maxDepth _ (c .if2 .taken))
 
 returns-3 : tie.Need-returns-3
-returns-3 c = row-count _ _ (in-range 1 maxDepth _ (c .before .before .if1 .left) (c .before .if2 .left)) (below-range 1 maxChallenges _ (c .if3 .taken))
+returns-3 c =
+    row-count _ _ (in-range 1 maxDepth _ (c .before .before .if1 .left) (c .before .if2 .left))
+    (below-range 1 maxChallenges _ (c .if3 .taken))
 
 returns-4 : tie.Need-returns-4
 returns-4 c =

@@ -15,7 +15,8 @@ returns c =
     let s = c .before .before .before .before .before .before .before .before .before .before in (
       put-children .ensures,
       c .label .ensures ∙ label-over
-          (stampRule (s .args .edition) (s .args .n) (s .args .statement)) (s .args .row .now) _ (node (s .args .level) (s .args .position / 2)) (s .args .at)
+          (stampRule (s .args .edition) (s .args .n) (s .args .statement)) (s .args .row .now) _
+          (node (s .args .level) (s .args .position / 2)) (s .args .at)
           (odd (s .args .position)) (s .args .child) (s .args .beside .now) (search needs) (s .pre .3) (s .pre .2)
           (put-children .ensures),
     )

@@ -86,15 +86,15 @@ draw-pair-requires c κs =
 
 returns : tie.Need-returns
 returns c =
-    let s = c .before .before .before .before .before .before .before .before .before .before .before .before .before .before .before in
-    let k = c .before .before .before .before .before .before .before .compare in
-    all-drawn (s .args .file .now) (s .args .statement) (s .args .depth) (s .args .count)
-    (bytes (c .before .before .before .before .before .before .before .before .before .before .before .before .before .before))
-    (s .pre) _ _ (s .args .list .now) _ _ _ _ _ (leaves
-    (c .before .before .before .before .before .before .before .before .before .before))
-    (openings-known (s .args .file .now) (s .args .statement) (s .args .depth) (s .args .count)
-    (bytes (c .before .before .before .before .before .before .before .before .before .before .before .before .before .before))
-    (s .pre) _ _ (c .before .before .before .before .before .before .before .before .before .before .before .before .numbers-end .ensures) refl) (k .ensures .1 .0) (k .ensures .1 .1 .0) (k .ensures .1 .1 .1) (c .before .before .draw-pair .ensures)
+    let k = c .before .before .before .before .before .before .before in
+    let l = k .before .before .before in
+    let e = l .before .before in
+    let r = e .before .before in
+    let s = r .before in
+    let b = bytes r in
+    all-drawn (s .args .file .now) (s .args .statement) (s .args .depth) (s .args .count) b (s .pre) _ _ (s .args .list .now) _ _ _ _ _ (leaves l)
+    (openings-known (s .args .file .now) (s .args .statement) (s .args .depth) (s .args .count) b (s .pre) _ _ (e .numbers-end .ensures) refl)
+    (k .compare .ensures .1 .0) (k .compare .ensures .1 .1 .0) (k .compare .ensures .1 .1 .1) (c .before .before .draw-pair .ensures)
 
 pub draw-accepted-spec : {M : Type 1} → statement M
 draw-accepted-spec =

@@ -26,10 +26,11 @@ loop-holds c = (omega arith, search needs, c .label-at .ensures)
 
 label-above-requires : tie.Need-label-above-requires Inv-loop μ-loop
 label-above-requires c κs =
-    let a = c .before .before .before .before .before .args in
+    let entry = c .before .before .before .before .before in
+    let a = entry .args in
     let l = c .before .before .loop in (
       omega arith,
-      c .before .before .before .before .before .pre .1,
+      entry .pre .1,
       ap length (part-size (a .bytes .now) (32 * (l .height + 1)) 32) ∙ part-length (a .bytes .now)
           (32 * (l .height + 1)) 32 (omega arith),
     )

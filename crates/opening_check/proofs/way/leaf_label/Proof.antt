@@ -13,7 +13,8 @@ use Rattle.opening_check.proofs.way.leaf_label.Statement.{statement}
 use Rattle.opening_check.proofs.way.leaf_label.Tie as tie
 
 abbrev Inv-loop : tie.InvT-loop
-Inv-loop edition statement n leaf bytes parents size gathered₀ len₀ height₀ t10 gathered len height = (height ≤ n) × Gathered n leaf bytes height len gathered
+Inv-loop edition statement n leaf bytes parents size gathered₀ len₀ height₀ t10 gathered len height =
+    (height ≤ n) × Gathered n leaf bytes height len gathered
 
 abbrev μ-loop : tie.MeasureT-loop
 μ-loop edition statement n leaf bytes parents size gathered₀ len₀ height₀ t10 gathered len height = height
@@ -76,8 +77,9 @@ slice-aggregate-label-2 c = sym (length-take-le _ _ (array-share-prefix-gathered
 
 label-requires : tie.Need-label-requires Inv-loop μ-loop
 label-requires c κs =
-    let entry = c .before .before .before .before .before in
-    let few = few-parents (c .before .before .before .before .before) in
+    let before = c .before .before .before .before .before in
+    let entry = before in
+    let few = few-parents (before) in
     let n = entry .pre .0 in (
       (omega arith, omega arith, omega arith),
       omega (
@@ -89,11 +91,12 @@ label-requires c κs =
 
 returns : tie.Need-returns Inv-loop μ-loop
 returns c =
-    let a = c .before .before .before .before .before .before .args in
+    let entry = c .before .before .before .before .before .before in
+    let a = entry .args in
     let l = c .before .before .before .before .loop in
     c .label .ensures
     ∙ leaf-hash (a .n) (a .leaf) (givenBy (a .bytes .now)) (a .edition) (a .statement) _ (l .height)
-    (given-labels (a .n) (a .bytes .now) (omega (arith, c .before .before .before .before .before .before .pre .2)))
+    (given-labels (a .n) (a .bytes .now) (omega (arith, entry .pre .2)))
     (c .before .before .before .loop-test .left)
     (rw (all-gathered (c .before .before .before)) (l .inv .1 .labels))
 

@@ -49,13 +49,13 @@ end-line-requires c κs =
 returns : tie.Need-returns
 unfolding headText
 returns c =
-    let h = c .before .before .before .before .before .before .put-field3 in
-    let g = c .before .before .before .before .before .before .before .before .before .before .before .put-field2 in
-    let f =
-    c .before .before .before .before .before .before .before .before .before .before .before .before .before .before .before .before .put-field in
-    let s =
-    c .before .before .before .before .before .before .before .before .before .before .before .before .before .before .before .before .before .before .before .before
-    in
+    let third = c .before .before .before .before .before .before in
+    let second = third .before .before .before .before .before in
+    let first = second .before .before .before .before .before in
+    let s = first .before .before .before .before in
+    let h = third .put-field3 in
+    let g = second .put-field2 in
+    let f = first .put-field in
     let a = s .args in
     then
     (then (then (f .ensures) (g .ensures) (omega (arith, head-one (a .depth) (a .different), s .pre))) (h .ensures)

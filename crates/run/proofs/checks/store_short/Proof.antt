@@ -9,7 +9,13 @@ use Rattle.run.proofs.checks.store_short.Statement.{statement}
 use Rattle.run.proofs.checks.store_short.Tie as tie
 
 mul-size : tie.Need-mul-size
-mul-size c = omega (arith, c .nodes .ensures, nodesIn-suc (c .before .args .memory), pow-mono {i = c .before .args .memory} {j = maxMemory} (c .before .pre))
+mul-size c =
+    omega (
+      arith,
+      c .nodes .ensures,
+      nodesIn-suc (c .before .args .memory),
+      pow-mono {i = c .before .args .memory} {j = maxMemory} (c .before .pre),
+    )
 
 returns : tie.Need-returns
 unfolding nodesIn

@@ -52,8 +52,9 @@ slice-aggregate-put c = search needs
 
 put-requires : tie.Need-put-requires
 put-requires c κs =
-    let entry = c .before .before .before .before .before .before .before .before in
-    let s = c .before .before .before .before .before .before .before .before in
+    let before = c .before .before .before .before .before .before .before .before in
+    let entry = before in
+    let s = before in
     omega (
       arith,
       full (entry .args .w .level) (entry .pre .0),

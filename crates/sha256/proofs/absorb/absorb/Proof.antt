@@ -27,7 +27,8 @@ loop-again c =
       refl,
       hashAfter-more _ _ _ _ _ _
           (loop .inv .2)
-          (c .before .gather .ensures ∙ ap (words 16) (part-from (64 * loop .i) (c .before .before .before .before .before .before .args .bytes .now)))
+          (c .before .gather .ensures
+          ∙ ap (words 16) (part-from (64 * loop .i) (c .before .before .before .before .before .before .args .bytes .now)))
           (c .compress .ensures),
     )
 

@@ -11,7 +11,8 @@ use Rattle.vector_runs.proofs.filled.challenged.Statement.{statement}
 use Rattle.vector_runs.proofs.filled.challenged.Tie as tie
 
 abbrev Inv-loop : tie.InvT-loop
-Inv-loop depth statement root leaves₀ i₀ leaves i = (i ≤ maxChallenges) × (length leaves ≡ maxChallenges) × (take i leaves ≡ leavesTo depth statement root i)
+Inv-loop depth statement root leaves₀ i₀ leaves i =
+    (i ≤ maxChallenges) × (length leaves ≡ maxChallenges) × (take i leaves ≡ leavesTo depth statement root i)
 
 abbrev μ-loop : tie.MeasureT-loop
 μ-loop depth statement root leaves₀ i₀ leaves i = maxChallenges - i
