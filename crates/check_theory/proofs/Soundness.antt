@@ -47,7 +47,9 @@ numbers-of edition bytes n t a b c depth count s₁ s₂ s₃ =
           ∙ ap (λ (l : List ℕ). groups numberGroups edition ++ l) (s₂ .form ∙ ap (λ (l : List ℕ). groups numberGroups n ++ l) (s₃ .form)));
     }
 
-same-read : (edition : ℕ) (bytes : List ℕ) (n t at n′ t′ at′ : ℕ) → n ≡ n′ → t ≡ t′ → at ≡ at′ → NumbersRead edition bytes n t at → NumbersRead edition bytes n′ t′ at′
+same-read :
+    (edition : ℕ) (bytes : List ℕ) (n t at n′ t′ at′ : ℕ) → n ≡ n′ → t ≡ t′ → at ≡ at′ → NumbersRead edition bytes n t at
+    → NumbersRead edition bytes n′ t′ at′
 same-read edition bytes n t at n′ t′ at′ p q r read = rw (p, q, r) at read
 
 -- what is read as a head's numbers is their shortest form
@@ -117,7 +119,8 @@ module _ (edition : ℕ) (bytes : List ℕ) (n t at : ℕ) (read : NumbersRead e
       → OpeningRight edition (statementAt bytes at) n (challengeLeaf edition n (statementAt bytes at) (rootAt bytes at) i) (rootAt bytes at) (nth openingsIn i)
   right-at i positive small e =
       rw (← opening-at i positive small)
-      (done-right edition (statementAt bytes at) n (challengeLeaf edition n (statementAt bytes at) (rootAt bytes at) i) (rootAt bytes at) (openingAt bytes n at i) e)
+      (done-right edition (statementAt bytes at) n (challengeLeaf edition n (statementAt bytes at) (rootAt bytes at) i) (rootAt bytes at)
+      (openingAt bytes n at i) e)
 
   -- and if its openings pass, a proof of the statement in it
   proof-of : openingsFrom edition bytes n at 1 t ≡ 0 → IsProof edition bytes (statementAt bytes at) n t
@@ -152,7 +155,9 @@ module _ (bytes statement : List ℕ) (n t : ℕ) (small : (j : ℕ) → getD by
       as-wanted (statementAt bytes at) n′ t′ w
       (proof-of limits.edition bytes n′ t′ at (numbers-read bytes n′ t′ at small h) (omega arith) (p₃ .1))
     where
-      as-wanted : (s : List ℕ) (n′ t′ : ℕ) → wanted s n′ t′ statement n t ≡ true → IsProof limits.edition bytes s n′ t′ → IsProof limits.edition bytes statement n t
+      as-wanted :
+          (s : List ℕ) (n′ t′ : ℕ) → wanted s n′ t′ statement n t ≡ true → IsProof limits.edition bytes s n′ t′
+          → IsProof limits.edition bytes statement n t
       as-wanted s n′ t′ w p =
           let same : sameBytes s statement ≡ true = both-first (sameBytes s statement) (both (eqb n′ n) (eqb t′ t)) w in
           let numbers : both (eqb n′ n) (eqb t′ t) ≡ true = both-second (sameBytes s statement) (both (eqb n′ n) (eqb t′ t)) w in

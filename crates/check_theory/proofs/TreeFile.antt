@@ -115,13 +115,15 @@ module _ (edition : ℕ) (statement : List ℕ) (n : ℕ) where
 
   right-at :
       (t i : ℕ) → n ≤ 256 → 1 ≤ i → i ≤ t
-      → OpeningRight edition statement n (challengeLeaf edition n statement (rootOf edition statement n) i) (rootOf edition statement n) (nth (treeOpenings edition statement n t) i)
+      → OpeningRight edition statement n (challengeLeaf edition n statement (rootOf edition statement n) i) (rootOf edition statement n)
+      (nth (treeOpenings edition statement n t) i)
   right-at t i small positive le =
       let number : suc (i - 1) ≡ i = omega arith in
       let there : nth (treeOpenings edition statement n t) i ≡ challengedOpening edition statement n i =
       openings-at t (i - 1) (omega arith) ∙ rw number in
       rw there
-      (opening-right (challengeLeaf edition n statement (rootOf edition statement n) i) (challengeLeaf-small edition n statement (rootOf edition statement n) i small))
+      (opening-right (challengeLeaf edition n statement (rootOf edition statement n) i)
+      (challengeLeaf-small edition n statement (rootOf edition statement n) i small))
 
   -- ---- the file
   root-size : length (rootOf edition statement n) ≡ 32

@@ -134,7 +134,8 @@ pub opening-fits : (n i t : ℕ) → i < t → i * openingSize n + openingSize n
 opening-fits n i t h = rw (← suc-mul i (openingSize n)) (mul-le-mul-right {m = suc i} {n = t} (openingSize n) h)
 
 pub table-more :
-    (edition : ℕ) (statement : List ℕ) (n : ℕ) (leaves openings first table row after : List ℕ) (i : ℕ) → i < maxChallenges → length table ≡ tableSize → length row ≡ rowSize
+    (edition : ℕ) (statement : List ℕ) (n : ℕ) (leaves openings first table row after : List ℕ) (i : ℕ) → i < maxChallenges
+    → length table ≡ tableSize → length row ≡ rowSize
     → TableOf edition statement n leaves openings i first table
     → RowOf (stampRule edition n statement) n (getD leaves i 0)
     (givenBy (take (i * openingSize n + openingSize n - i * openingSize n) (drop (i * openingSize n) openings))) n

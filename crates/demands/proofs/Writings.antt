@@ -215,7 +215,9 @@ module _
 
   head-fits : length (written file 0 (head edition statement root n t)) ≡ length file
   unfolding fileSize
-  head-fits = length-written file 0 (head edition statement root n t) (rw (length-head edition statement root n t statementSize rootSize (omega arith)) (omega arith))
+  head-fits =
+      length-written file 0 (head edition statement root n t)
+      (rw (length-head edition statement root n t statementSize rootSize (omega arith)) (omega arith))
 
   new-reached : Reached statement root n m t (length file) store bounds fits 0 (newWriting statement root n m t store file)
   unfolding newWriting

@@ -101,11 +101,14 @@ module _
       let w : Node = nextNode h v k in
       let fits : m + h ≡ n = omega arith in
       let few : k < nodesIn h = omega (arith, anew-count n m) in
-      let label : nextLabel limits.edition statement h v (front n m leaf store) (heldBytes limits.edition statement n h v k) k ≡ labelOf limits.edition statement n w =
+      let label : nextLabel limits.edition statement h v (front n m leaf store) (heldBytes limits.edition statement n h v k) k
+      ≡ labelOf limits.edition statement n w =
       rw (front-labels limits.edition statement n m leaf store holds inside le) (next-label limits.edition statement n h k v fits shallow few) in
-      let held : heldWith h v (heldBytes limits.edition statement n h v k) w (labelOf limits.edition statement n w) ≡ heldBytes limits.edition statement n h v (k + 1) =
+      let held : heldWith h v (heldBytes limits.edition statement n h v k) w (labelOf limits.edition statement n w)
+      ≡ heldBytes limits.edition statement n h v (k + 1) =
       next-held limits.edition statement n h k v fits shallow few in
-      let put : placed n leaf (outAfter limits.edition statement n m leaf k out) w (labelOf limits.edition statement n w) ≡ outAfter limits.edition statement n m leaf (k + 1) out =
+      let put : placed n leaf (outAfter limits.edition statement n m leaf k out) w (labelOf limits.edition statement n w)
+      ≡ outAfter limits.edition statement n m leaf (k + 1) out =
       out-step limits.edition statement n m leaf k out w few refl in
       rw (label, held, put)
 

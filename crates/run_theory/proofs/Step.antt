@@ -59,7 +59,8 @@ module _ (edition : ℕ) (statement : List ℕ) (n : ℕ) where
   -- held labels in two parts, and zeros
   held-parts :
       (h : ℕ) (v : Node) (k : ℕ) (a b : List Node) → heldBelow h v k ≡ a ++ b
-      → heldBytes edition statement n h v k ≡ labelsOf edition statement n a ++ (labelsOf edition statement n b ++ zeros (heldSize - 32 * (length a + length b)))
+      → heldBytes edition statement n h v k
+      ≡ labelsOf edition statement n a ++ (labelsOf edition statement n b ++ zeros (heldSize - 32 * (length a + length b)))
   unfolding heldBytes
   held-parts h v k a b e =
       rw (e, labels-length (a ++ b), labels-append a b, length-append a b)

@@ -142,7 +142,8 @@ module _ (edition : ℕ) (statement : List ℕ) (n m : ℕ) where
     store-rest zero i small apart = ap (λ (s : List ℕ). getD s i 0) (store-start store)
     store-rest (suc k) i small apart =
         rw (← add-one k, store-step k store small)
-        (stored-else (storeAfter edition statement n m k store) (still-long k (omega arith)) (nextNode n root k) (next-in-tree k small) i (apart k (omega arith))
+        (stored-else (storeAfter edition statement n m k store) (still-long k (omega arith)) (nextNode n root k) (next-in-tree k small) i
+        (apart k (omega arith))
         ∙ store-rest k i (omega arith) (λ j less. apart j (omega arith)))
 
     -- bytes beyond the needed ones are untouched

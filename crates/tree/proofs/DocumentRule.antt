@@ -45,7 +45,8 @@ input-injective edition n statement v xs ys count s t e =
     let hashed : List Label = ordered edition xs in
     let hashed₂ : List Label = ordered edition ys in
     ordered-injective edition xs ys
-    (joined-injective 32 hashed hashed₂ (rw (ordered-length edition xs, ordered-length edition ys) count) (ordered-each edition 32 xs s) (ordered-each edition 32 ys t)
+    (joined-injective 32 hashed hashed₂ (rw (ordered-length edition xs, ordered-length edition ys) count)
+    (ordered-each edition 32 xs s) (ordered-each edition 32 ys t)
     (append-cancel-left (inputHead edition n statement v) (joined hashed) (joined hashed₂) e))
 
 module _ (edition n : ℕ) (statement : List ℕ) (hash : List ℕ → Label) where

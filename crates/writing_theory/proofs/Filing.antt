@@ -63,9 +63,11 @@ module _
 
     part-stepped :
         (r : ℕ) → r < nodesAnew n m
-        → stepped store (underWay (rootOf edition statement n) t q (laid edition statement n t q) (openAfter edition statement n m (leafAfter edition statement n q) r b) c)
+        → stepped store (underWay (rootOf edition statement n) t q (laid edition statement n t q)
+        (openAfter edition statement n m (leafAfter edition statement n q) r b) c)
         ≡ followed store t
-        (underWay (rootOf edition statement n) t q (laid edition statement n t q) (openAfter edition statement n m (leafAfter edition statement n q) (r + 1) b) c)
+        (underWay (rootOf edition statement n) t q (laid edition statement n t q)
+        (openAfter edition statement n m (leafAfter edition statement n q) (r + 1) b) c)
     unfolding stepped underWay
     part-stepped r few =
         let leaf : ℕ = leafAfter edition statement n q in

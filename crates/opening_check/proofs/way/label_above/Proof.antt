@@ -9,13 +9,15 @@ returns : tie.Need-returns
 returns c =
     let a = c .before .before .before .before .args in
     c .label .ensures
-    ∙ above-right (a .edition) (a .n) (a .statement) (a .level) (a .position) (a .t6) (a .beside .now) (search needs) (c .before .before .before .before .pre .2) (c .before .before .if1 .taken)
+    ∙ above-right (a .edition) (a .n) (a .statement) (a .level) (a .position) (a .t6) (a .beside .now) (search needs)
+    (c .before .before .before .before .pre .2) (c .before .before .if1 .taken)
 
 returns-2 : tie.Need-returns-2
 returns-2 c =
     let a = c .before .before .before .before .args in
     c .label2 .ensures
-    ∙ above-left (a .edition) (a .n) (a .statement) (a .level) (a .position) (a .t6) (a .beside .now) (search needs) (c .before .before .before .before .pre .2) (c .before .before .if1 .left)
+    ∙ above-left (a .edition) (a .n) (a .statement) (a .level) (a .position) (a .t6) (a .beside .now) (search needs)
+    (c .before .before .before .before .pre .2) (c .before .before .if1 .left)
 
 pub label-above-spec : {M : Type 1} → statement M
 label-above-spec =

@@ -93,7 +93,8 @@ returns c =
     let l = c .before .before .before .before .loop in
     c .label .ensures
     ∙ leaf-hash (a .n) (a .leaf) (givenBy (a .bytes .now)) (a .edition) (a .statement) _ (l .height)
-    (given-labels (a .n) (a .bytes .now) (omega (arith, c .before .before .before .before .before .before .pre .2))) (c .before .before .before .loop-test .left)
+    (given-labels (a .n) (a .bytes .now) (omega (arith, c .before .before .before .before .before .before .pre .2)))
+    (c .before .before .before .loop-test .left)
     (rw (all-gathered (c .before .before .before)) (l .inv .1 .labels))
 
 pub leaf-label-spec : {M : Type 1} → statement M

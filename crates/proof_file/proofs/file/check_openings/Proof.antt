@@ -15,7 +15,8 @@ use Rattle.proof_file.proofs.file.check_openings.Statement.{statement}
 use Rattle.proof_file.proofs.file.check_openings.Tie as tie
 
 abbrev Inv-loop : tie.InvT-loop
-Inv-loop bytes edition statement n t at root i₀ i = (1 ≤ i) × (i ≤ t + 1) × (openingsFrom edition bytes n at 1 t ≡ openingsFrom edition bytes n at i (t + 1 - i))
+Inv-loop bytes edition statement n t at root i₀ i =
+    (1 ≤ i) × (i ≤ t + 1) × (openingsFrom edition bytes n at 1 t ≡ openingsFrom edition bytes n at i (t + 1 - i))
 
 abbrev μ-loop : tie.MeasureT-loop
 μ-loop bytes edition statement n t at root i₀ i = t + 1 - i
