@@ -87,8 +87,14 @@ module _ {S : Type 0} (machine : Machine S) where
     pub advanced-idle : (budget ≡ 0) ⊎ (machine .remaining s ≡ 0) → advanced machine s budget ≡ s
     advanced-idle idle = unchanged (done-idle idle)
 
+    pub cost-idle : (cost : S → ℕ) → (budget ≡ 0) ⊎ (machine .remaining s ≡ 0) → costIn machine cost s budget ≡ 0
+    cost-idle cost idle = costs-nothing cost (done-idle idle)
+
     pub advanced-refused : isDone (machine .row s) ≡ false → advanced machine s budget ≡ s
     advanced-refused e = unchanged (done-refused e)
+
+    pub cost-refused : (cost : S → ℕ) → isDone (machine .row s) ≡ false → costIn machine cost s budget ≡ 0
+    cost-refused cost e = costs-nothing cost (done-refused e)
 
     -- a call that makes k steps
     pub advanced-by : (k : ℕ) → k ≡ doneIn machine s budget → steps machine k s ≡ advanced machine s budget

@@ -1,6 +1,6 @@
 -- A finished run: its root, its store and its count, as the openings want them.
 use mathlib.Core.Path.{_≡_, sym, ap, subst, _∙_}
-use Prim.Native.Nat.{ℕ, _-_}
+use Prim.Native.Nat.{ℕ}
 use native.Mathlib.Omega.{arith}
 use mathlib.Core.List.{List}
 use lib.ListN.{length, take, drop}
@@ -11,10 +11,10 @@ use Rattle.run.specs.Steps.{Stamped, steps}
 use Rattle.run_theory.specs.Runs.{Startable, atStart}
 use Rattle.run_theory.specs.Openings.{HoldsLabels}
 use Rattle.run_theory.proofs.RunLaws.{run-reached}
-use Rattle.run_theory.proofs.Finished.{finished-length}
+use Rattle.run_theory.proofs.Finished.{finished-holds, finished-length}
 use Rattle.check_theory.specs.TreeFile.{rootOf}
 use Rattle.writing_theory.specs.Filed.{Writable}
-use Rattle.writing_theory.proofs.Finished.{finished-holds, finished-root}
+use Rattle.writing_theory.proofs.Finished.{finished-root}
 
 pub startable : (n m t store file : ℕ) → Writable n m t store file → Startable n m store
 startable n m t store file w =

@@ -1,14 +1,14 @@
 -- From a run's start to the file: a run carried to its end gives root and store, and these give the tree's file, by any cuts of
 -- budgets and at every memory level.
 use mathlib.Core.Path.{_≡_, sym, ap, _∙_}
-use Prim.Native.Nat.{ℕ, _-_, _≤_, min}
-use native.Mathlib.Omega.{arith}
+use Prim.Native.Nat.{ℕ, _-_, _≤_}
 use mathlib.Core.List.{List, _++_}
 use lib.ListN.{length, take, drop}
 use lib.Seq.{take-at}
 use Rattle.base.specs.Limits.{edition, heldSize}
 use Rattle.base.specs.Bytes.{zeros}
 use Rattle.machine.specs.Calls.{total, afterCalls}
+use Rattle.machine.proofs.CallLaws.{calls-end}
 use Rattle.tree.specs.Nodes.{root}
 use Rattle.tree.specs.Walk.{nodesIn}
 use Rattle.run.specs.Steps as runs
@@ -16,10 +16,9 @@ use Rattle.run.specs.Steps.{Stamped}
 use Rattle.proof_file.specs.Layout.{fileSize}
 use Rattle.proof_file.specs.FileCheck.{fileCheck}
 use Rattle.run_theory.specs.Runs.{Startable, atStart, called}
-use Rattle.run_theory.specs.Openings.{HoldsLabels}
 use Rattle.run_theory.proofs.Step.{label-size}
-use Rattle.run_theory.proofs.StoreLaws.{store-length}
-use Rattle.run_theory.proofs.RunLaws.{run-reached, finished-held, finished-store, called-cut}
+use Rattle.run_theory.proofs.RunLaws.{finished-held, run-goes}
+use Rattle.run_theory.proofs.Finished.{finished-holds, finished-length}
 use Rattle.check_theory.specs.IsProof.{IsCount}
 use Rattle.check_theory.specs.TreeFile.{rootOf, treeFile}
 use Rattle.writing.specs.Steps.{Written, started, advanced}
@@ -30,18 +29,10 @@ use Rattle.writing_theory.proofs.Calls.{file-carried}
 
 module _ (statement : List ℕ) (n m : ℕ) (store : List ℕ) (startable : Startable n m (length store)) where
   -- ---- a finished run
-  pub finished-holds : HoldsLabels edition statement n m (runs.steps (nodesIn n) (atStart statement n m store) .store)
-  finished-holds u inside = finished-store statement n m store startable u (omega arith, inside .1) (inside .0)
-
   pub finished-root : take 32 (runs.steps (nodesIn n) (atStart statement n m store) .run .held) ≡ rootOf edition statement n
   finished-root =
       rw (finished-held statement n m store (startable .shallow))
       (take-at (rootOf edition statement n) (zeros (heldSize - 32)) 32 (label-size edition statement n root))
-
-  finished-length : length (runs.steps (nodesIn n) (atStart statement n m store) .store) ≡ length store
-  finished-length =
-      rw (run-reached statement n m store (startable .shallow) (nodesIn n) (omega arith))
-      (store-length edition statement n m store (startable .enough) (nodesIn n) (omega arith))
 
   -- ---- the file from it
   module _
@@ -51,7 +42,7 @@ module _ (statement : List ℕ) (n m : ℕ) (store : List ℕ) (startable : Star
         record {
           depth = (startable .positive, startable .shallow);
           memory = startable .memory;
-          storeFits = rw finished-length (startable .enough);
+          storeFits = rw (finished-length statement n m store startable) (startable .enough);
           count = count;
           fileFits = fits;
         }
@@ -65,7 +56,7 @@ module _ (statement : List ℕ) (n m : ℕ) (store : List ℕ) (startable : Star
         let from : Written → List ℕ = λ w. afterCalls (advanced (s .store)) w budgets .file in
         ap (λ (r : List ℕ). from (started statement r n m t (s .store) file)) finished-root
         ∙ ap from (started-done statement (rootOf edition statement n) n m t (s .store) file writable)
-        ∙ file-carried statement n m t (s .store) file size finished-holds writable budgets enough
+        ∙ file-carried statement n m t (s .store) file size (finished-holds statement n m store startable) writable budgets enough
 
     -- whatever the memory level, and however labelling and writing are cut
     pub run-to-file :
@@ -73,9 +64,8 @@ module _ (statement : List ℕ) (n m : ℕ) (store : List ℕ) (startable : Star
         → fileFrom (called (atStart statement n m store) labelling) statement n m t file budgets
         ≡ treeFile edition statement n t ++ drop (fileSize n t) file
     run-to-file labelling budgets all enough =
-        let whole : min (total labelling) (nodesIn n) ≡ nodesIn n = omega arith in
         let done : called (atStart statement n m store) labelling ≡ runs.steps (nodesIn n) (atStart statement n m store) =
-        called-cut statement n m store startable labelling ∙ rw whole in
+        calls-end runs.runMachine (atStart statement n m store) (nodesIn n) (run-goes statement n m store startable) labelling all in
         rw done (file-finished budgets enough)
 
     pub run-to-file-accepted :
