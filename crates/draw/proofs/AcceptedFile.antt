@@ -32,7 +32,7 @@ use Rattle.compare.specs.declared.Pair.{Pair}
 use Rattle.compare.specs.Comparison.{compared, firstInput, secondInput}
 use Rattle.compare.proofs.Checks.{size-right, compared-done}
 use Rattle.draw.specs.Drawing.{DrawingAnswer, notDrawn, leavesFrom, numbersEnd, leavesOf, openingsOf, pairOf, drawnFrom, drawingOf, drawnList}
-use Rattle.draw.specs.Drawing.{clashPair, firstDrawn, secondDrawn}
+use Rattle.draw.specs.Drawing.{clashPair, firstDrawn, secondDrawn, proofEdition}
 use Rattle.draw.proofs.LeavesOpened.{length-leaves, leaves-inside}
 use Rattle.draw.proofs.Chains.{DrawnFrom, clash-pair}
 
@@ -50,7 +50,7 @@ Answers bytes statement n t list drawing after first second =
 pub file-refused : (bytes statement : List ℕ) (n t : ℕ) (list : List ℕ) (checked : Check) (r : Refusal) (i : ℕ)
     → codeOf checked ≡ fileCheck bytes statement n t → checked ≡ Rejected r i
     → Answers bytes statement n t list (notDrawn (foundIn i (numberOf r))) list (zeros 105) (zeros 105)
-unfolding drawingOf drawnList firstDrawn secondDrawn
+unfolding drawingOf drawnList firstDrawn secondDrawn proofEdition
 file-refused bytes statement n t list checked r i e told =
     let code : fileCheck bytes statement n t ≡ foundIn i (numberOf r) = sym e ∙ ap codeOf told in
     let no : isDone (foundIn i (numberOf r)) ≡ false = some-refused (foundIn i (numberOf r)) (omega (arith, number-some r)) in
@@ -74,7 +74,7 @@ module _ (bytes statement : List ℕ) (n t : ℕ) (small : (j : ℕ) → getD by
 
   pub leaves-known : (at : ℕ) (root leaves : List ℕ) → at ≡ numbersEnd (headOf bytes) → root ≡ rootAt bytes at
       → leaves ≡ leavesFrom edition n statement root 1 t → leaves ≡ leavesOf bytes statement n t
-  unfolding leavesOf
+  unfolding leavesOf proofEdition
   leaves-known at root leaves e f g = g ∙ rw (f, e)
 
   pub openings-known :
@@ -85,11 +85,11 @@ module _ (bytes statement : List ℕ) (n t : ℕ) (small : (j : ℕ) → getD by
   openings-known at openings e f = f ∙ rest-of bytes (at + 64) ∙ rw e
 
   leaves-count : length (leavesOf bytes statement n t) ≡ t
-  unfolding leavesOf
+  unfolding leavesOf proofEdition
   leaves-count = length-leaves edition n statement (rootAt bytes (numbersEnd (headOf bytes))) 1 t
 
   all-leaves : every (isLeaf n) (leavesOf bytes statement n t) ≡ true
-  unfolding leavesOf
+  unfolding leavesOf proofEdition
   all-leaves = leaves-inside edition n statement (rootAt bytes (numbersEnd (headOf bytes))) (depth-known .1) 1 t
 
   leaves-row : leavesRow n (leavesOf bytes statement n t) ≡ 0
@@ -108,7 +108,7 @@ module _ (bytes statement : List ℕ) (n t : ℕ) (small : (j : ℕ) → getD by
       rw (leaves-count, length-drop) (omega arith)
 
   pair-known : compared edition statement n (leavesOf bytes statement n t) (openingsOf bytes) ≡ pairOf bytes statement n t
-  unfolding pairOf
+  unfolding pairOf proofEdition
   pair-known =
       compared-done edition statement n (leavesOf bytes statement n t) (openingsOf bytes)
       (sym
@@ -135,7 +135,7 @@ module _ (bytes statement : List ℕ) (n t : ℕ) (small : (j : ℕ) → getD by
       ≡ secondInput edition statement n leaves openings (compared edition statement n leaves openings)
       → DrawnFrom pair n leaves list drawing after
       → Answers bytes statement n t list drawing after first second
-  unfolding drawnList firstDrawn secondDrawn
+  unfolding drawnList firstDrawn secondDrawn proofEdition
   all-drawn leaves openings list after first second pair drawing el eo p f g d =
       let e : pair ≡ pairOf bytes statement n t = p ∙ rw (el, eo) pair-known in
       let q : drawing ≡ drawingOf bytes statement n t (length list) = d .0 ∙ rw (e, el) (sym (drawing-by (length list))) in (

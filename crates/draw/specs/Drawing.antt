@@ -40,9 +40,13 @@ abbrev pub numbersEnd : HeadAnswer → ℕ
 numbersEnd (numbers n t at) = at
 numbersEnd (notRead r) = 0
 
+-- the edition of the bytes as a proof: the one that is checked
+unfoldable pub proofEdition : List ℕ → ℕ
+proofEdition bytes = limits.edition
+
 -- 'The leaves opened are those of its challenges 1 to t.'
 unfoldable pub leavesOf : List ℕ → List ℕ → ℕ → ℕ → List ℕ
-leavesOf bytes statement n t = leavesFrom limits.edition n statement (rootAt bytes (numbersEnd (headOf bytes))) 1 t
+leavesOf bytes statement n t = leavesFrom (proofEdition bytes) n statement (rootAt bytes (numbersEnd (headOf bytes))) 1 t
 
 -- the openings, which follow the head
 unfoldable pub openingsOf : List ℕ → List ℕ
@@ -50,7 +54,7 @@ openingsOf bytes = drop (numbersEnd (headOf bytes) + 64) bytes
 
 -- the first pair of a proof's openings that disagrees
 unfoldable pub pairOf : List ℕ → List ℕ → ℕ → ℕ → Pair
-pairOf bytes statement n t = firstDisagreement limits.edition statement n (leavesOf bytes statement n t) (openingsOf bytes)
+pairOf bytes statement n t = firstDisagreement (proofEdition bytes) statement n (leavesOf bytes statement n t) (openingsOf bytes)
 
 -- where no pair disagrees; 16: the list has fewer places than the count
 abbrev pub drawnFrom : Pair → ℕ → ℕ → DrawingAnswer
@@ -85,10 +89,10 @@ clashPair (notDrawn code) = Agree
 
 unfoldable pub firstDrawn : List ℕ → List ℕ → ℕ → ℕ → ℕ → List ℕ
 firstDrawn bytes statement n t list =
-    firstInput limits.edition statement n (leavesOf bytes statement n t) (openingsOf bytes)
+    firstInput (proofEdition bytes) statement n (leavesOf bytes statement n t) (openingsOf bytes)
     (clashPair (drawingOf bytes statement n t list))
 
 unfoldable pub secondDrawn : List ℕ → List ℕ → ℕ → ℕ → ℕ → List ℕ
 secondDrawn bytes statement n t list =
-    secondInput limits.edition statement n (leavesOf bytes statement n t) (openingsOf bytes)
+    secondInput (proofEdition bytes) statement n (leavesOf bytes statement n t) (openingsOf bytes)
     (clashPair (drawingOf bytes statement n t list))

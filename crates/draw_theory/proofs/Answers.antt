@@ -9,7 +9,7 @@ use lib.Dec.{ltb}
 use lib.ListN.{length}
 use borrow.Author.Tests.{ltb-true, ltb-false, lt-ltb, le-ltb}
 use Rattle.base.specs.Choice.{pick}
-use Rattle.base.specs.Limits.{edition, maxDepth, maxChallenges}
+use Rattle.base.specs.Limits.{maxDepth, maxChallenges}
 use Rattle.refusal.proofs.RowLaws.{some-refused}
 use Rattle.groups.proofs.Steps.{lt-or-le}
 use Rattle.chain.specs.PlanRow.{planRow, plannedCount, plannedList}
@@ -18,7 +18,7 @@ use Rattle.check_theory.specs.IsProof.{IsProof}
 use Rattle.check_theory.proofs.RowLaws.{within}
 use Rattle.compare.specs.declared.Pair.{Pair}
 use Rattle.compare.specs.declared.Pair.the-variants.{Agree, Disagree}
-use Rattle.draw.specs.Drawing.{notDrawn, drawnChain, drawnClash, leavesOf, pairOf, drawnFrom, drawnIf, drawingOf, drawnList}
+use Rattle.draw.specs.Drawing.{proofEdition, notDrawn, drawnChain, drawnClash, leavesOf, pairOf, drawnFrom, drawnIf, drawingOf, drawnList}
 use Rattle.draw_theory.specs.Demand3.{NoneDisagree, SomeDisagree, drawnNodes, AsPlanned}
 use Rattle.draw_theory.proofs.Openings.{leaves-length, agree-none, disagree-first, first-some, some-none, all-inside}
 
@@ -130,7 +130,7 @@ module _ (bytes statement : List ℕ) (n t : ℕ) where
     given-short a b short = rw (a, b, lt-ltb list (length (drawnNodes bytes statement n t)) short)
 
   -- ---- planning from the leaves
-  module _ (p : IsProof edition bytes statement n t) where
+  module _ (p : IsProof (proofEdition bytes) bytes statement n t) where
     leaves-count : (1 ≤ length (leavesOf bytes statement n t)) × (length (leavesOf bytes statement n t) ≤ maxChallenges)
     leaves-count = rw (leaves-length bytes statement n t) (p .count)
 

@@ -4,7 +4,6 @@ use Prim.Native.Nat.{ℕ, _-_, _≤_}
 use native.Mathlib.Omega.{arith}
 use mathlib.Core.List.{List}
 use lib.ListN.{length}
-use Rattle.base.specs.Limits.{edition}
 use Rattle.tree.specs.Nodes.{node}
 use Rattle.tree.specs.Disagreement.{wayNode, ClashAt}
 use Rattle.tree.proofs.DocumentRule.{document-readable}
@@ -14,7 +13,7 @@ use Rattle.label.specs.Rule.{stampRule}
 use Rattle.label.proofs.RuleLaws.{stamp-hash}
 use Rattle.check_theory.specs.IsProof.{IsProof}
 use Rattle.compare.specs.Comparison.{inputOf}
-use Rattle.draw.specs.Drawing.{leavesOf, openingsOf}
+use Rattle.draw.specs.Drawing.{proofEdition, leavesOf, openingsOf}
 use Rattle.draw_theory.specs.Demand3.{proofRoot, openedLeaf, openedGiven, openedInput, disagreeing, FirstToDisagree, IsClash}
 use Rattle.draw_theory.proofs.Openings.{leaf-of, given-of, right-of, sized-of}
 
@@ -22,12 +21,12 @@ module _ (bytes statement : List ℕ) (n t : ℕ) where
   -- the input of opening i at its node of level l, as drawing has it
   input-of :
       (i l : ℕ) → 1 ≤ i → i ≤ t →
-      inputOf edition statement n (leavesOf bytes statement n t) (openingsOf bytes) i l ≡
+      inputOf (proofEdition bytes) statement n (leavesOf bytes statement n t) (openingsOf bytes) i l ≡
       openedInput bytes statement n i (wayNode n (openedLeaf bytes statement n i) l)
   unfolding openedInput
   input-of i l positive small = rw (leaf-of bytes statement n t i positive small, given-of bytes statement n t i)
 
-  module _ (p : IsProof edition bytes statement n t) (i j l : ℕ) (first : FirstToDisagree bytes statement n t i j l) where
+  module _ (p : IsProof (proofEdition bytes) bytes statement n t) (i j l : ℕ) (first : FirstToDisagree bytes statement n t i j l) where
     small-first : i ≤ t
     small-first = omega (arith, first .ordered, first .small)
 
@@ -36,7 +35,7 @@ module _ (bytes statement : List ℕ) (n t : ℕ) where
 
     clash-at :
         ClashAt
-        (stampRule edition n statement)
+        (stampRule (proofEdition bytes) n statement)
         n
         (openedLeaf bytes statement n i)
         (openedGiven bytes n i)
@@ -46,14 +45,14 @@ module _ (bytes statement : List ℕ) (n t : ℕ) where
     unfolding disagreeing
     clash-at =
         disagreement-clash
-        (stampRule edition n statement)
+        (stampRule (proofEdition bytes) n statement)
         n
         (openedLeaf bytes statement n i)
         (openedGiven bytes n i)
         (openedLeaf bytes statement n j)
         (openedGiven bytes n j)
-        (document-readable edition n statement digest)
-        (stamp-hash edition n statement)
+        (document-readable (proofEdition bytes) n statement digest)
+        (stamp-hash (proofEdition bytes) n statement)
         (sized-of bytes statement n t p i (first .positive) small-first)
         (sized-of bytes statement n t p j positive-second (first .small))
         (proofRoot bytes)
@@ -82,14 +81,14 @@ module _ (bytes statement : List ℕ) (n t : ℕ) where
     unfolding openedInput
     input-size k positive small =
         inner-input-length
-        edition
+        (proofEdition bytes)
         statement
         digest
         n
         (openedLeaf bytes statement n k)
         (openedGiven bytes n k)
         (p .statementSize)
-        (stamp-hash edition n statement)
+        (stamp-hash (proofEdition bytes) n statement)
         (sized-of bytes statement n t p k positive small)
         l
         (clash-at .inner)
@@ -113,6 +112,6 @@ module _ (bytes statement : List ℕ) (n t : ℕ) where
 
     pub first-clash :
         IsClash bytes statement n t i j l
-        (inputOf edition statement n (leavesOf bytes statement n t) (openingsOf bytes) i l)
-        (inputOf edition statement n (leavesOf bytes statement n t) (openingsOf bytes) j l)
+        (inputOf (proofEdition bytes) statement n (leavesOf bytes statement n t) (openingsOf bytes) i l)
+        (inputOf (proofEdition bytes) statement n (leavesOf bytes statement n t) (openingsOf bytes) j l)
     first-clash = is-clash _ _ (input-of i l (first .positive) small-first) (input-of j l positive-second (first .small))

@@ -5,11 +5,10 @@ use Prim.Native.Nat.{ℕ, _≤_, _<_}
 use native.Mathlib.Omega.{arith}
 use mathlib.Core.List.{List}
 use lib.ListN.{length, getD}
-use Rattle.base.specs.Limits.{edition}
 use Rattle.proof_file.specs.FileCheck.{fileCheck}
 use Rattle.check_theory.specs.IsProof.{IsProof}
 use Rattle.check_theory.proofs.Accepted.{exactly-proofs}
-use Rattle.draw.specs.Drawing.{notDrawn, drawnChain, drawnClash, drawingOf, drawnList, firstDrawn, secondDrawn}
+use Rattle.draw.specs.Drawing.{notDrawn, drawnChain, drawnClash, drawingOf, drawnList, firstDrawn, secondDrawn, proofEdition}
 use Rattle.draw_theory.specs.Demand3.{IsAccepted, NoneDisagree, SomeDisagree, chainLength, drawnNodes, Counted, HashChain, EndsAtRoot}
 use Rattle.draw_theory.specs.Demand3.{OnTheWays, ListDrawn, IsClash, AsPlanned, ListShort, ListUntouched, NoInputs}
 use Rattle.draw_theory.proofs.Openings.{agree-none, disagree-first, first-some}
@@ -20,7 +19,8 @@ use Rattle.draw_theory.proofs.Answers.{none-agree, some-pair, chain-giv
 use Rattle.draw_theory.proofs.Answers.{given-refusal, given-short, as-planned}
 
 module _ (bytes statement : List ℕ) (n t : ℕ) (small : (j : ℕ) → getD bytes j 0 < 256) where
-  proof-of : IsAccepted bytes statement n t → IsProof edition bytes statement n t
+  proof-of : IsAccepted bytes statement n t → IsProof (proofEdition bytes) bytes statement n t
+  unfolding proofEdition
   proof-of = exactly-proofs bytes statement n t small .0
 
   length-of : IsAccepted bytes statement n t → length (drawnNodes bytes statement n t) ≡ chainLength bytes statement n t
@@ -47,7 +47,7 @@ module _ (bytes statement : List ℕ) (n t : ℕ) (small : (j : ℕ) → getD by
     accepted : IsAccepted bytes statement n t
     accepted = chain-given bytes statement n t (length list) count drawn .0
 
-    is-proof : IsProof edition bytes statement n t
+    is-proof : IsProof (proofEdition bytes) bytes statement n t
     is-proof = proof-of accepted
 
     none : NoneDisagree bytes statement n t

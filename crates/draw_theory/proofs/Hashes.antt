@@ -6,7 +6,6 @@ use native.Mathlib.Omega.{arith}
 use mathlib.Core.Bool.{true, false}
 use mathlib.Core.List.{List, [], _∷_, map}
 use lib.ListN.{length, getD, length-map}
-use Rattle.base.specs.Limits.{edition}
 use Rattle.base.specs.Lists.{EachOf}
 use Rattle.tree.specs.Nodes.{Node, root, onWay, parents}
 use Rattle.tree.specs.Labels.{Label, ordered, documentInput}
@@ -24,7 +23,7 @@ use Rattle.chain_theory.proofs.Lists.{Order, less, same, more, order}
 use Rattle.chain_theory.proofs.Parents.{chain-parents, chain-root, among-place}
 use Rattle.chain_theory.proofs.Once.{chain-at}
 use Rattle.check_theory.specs.IsProof.{IsProof}
-use Rattle.draw.specs.Drawing.{leavesOf}
+use Rattle.draw.specs.Drawing.{leavesOf, proofEdition}
 use Rattle.draw_theory.specs.Demand3.{proofRoot, openedLeaf, openedGiven, Passes, openedInput, openedHash, disagreeing, NoneDisagree}
 use Rattle.draw_theory.specs.Demand3.{drawnNodes, hashedParents, StandsWhole, HashChain, EndsAtRoot}
 use Rattle.draw_theory.proofs.Openings.{passes-some, right-of, sized-of, leaf-inside, all-inside, some-leaf}
@@ -46,21 +45,21 @@ map-at f [] k h = absurd (omega arith)
 map-at f (v ∷ vs) zero h = refl
 map-at f (v ∷ vs) (suc k) h = map-at f vs k (omega arith)
 
-module _ (bytes statement : List ℕ) (n t : ℕ) (p : IsProof edition bytes statement n t) where
+module _ (bytes statement : List ℕ) (n t : ℕ) (p : IsProof (proofEdition bytes) bytes statement n t) where
   -- the labels that opening i knows
   knows : ℕ → Node → Label
-  knows i = known (stampRule edition n statement) n (openedLeaf bytes statement n i) (openedGiven bytes n i)
+  knows i = known (stampRule (proofEdition bytes) n statement) n (openedLeaf bytes statement n i) (openedGiven bytes n i)
 
   right-at :
       (i : ℕ) → 1 ≤ i → i ≤ t
-      → Right (stampRule edition n statement) n (openedLeaf bytes statement n i) (openedGiven bytes n i) (proofRoot bytes)
+      → Right (stampRule (proofEdition bytes) n statement) n (openedLeaf bytes statement n i) (openedGiven bytes n i) (proofRoot bytes)
   right-at = right-of bytes statement n t p
 
   -- of a node that it passes it knows the hash
   knows-hash : (i : ℕ) (v : Node) → Passes bytes statement n t i v → knows i v ≡ openedHash bytes statement n i v
   unfolding knows openedInput
   knows-hash i v q =
-      known-hash (stampRule edition n statement) n (openedLeaf bytes statement n i) (openedGiven bytes n i) (proofRoot bytes)
+      known-hash (stampRule (proofEdition bytes) n statement) n (openedLeaf bytes statement n i) (openedGiven bytes n i) (proofRoot bytes)
       (right-at i (q .positive) (q .small)) v
       (q .through)
 
@@ -78,7 +77,7 @@ module _ (bytes statement : List ℕ) (n t : ℕ) (p : IsProof edition bytes sta
   root-hash i positive small =
       sym (knows-hash i root (passes-root i positive small))
       ∙ rw (div-eq-of-lt (leaf-inside bytes statement n t p i)) at
-      (known-way (stampRule edition n statement) n (openedLeaf bytes statement n i) (openedGiven bytes n i) n 0 (omega arith))
+      (known-way (stampRule (proofEdition bytes) n statement) n (openedLeaf bytes statement n i) (openedGiven bytes n i) n 0 (omega arith))
       ∙ right-at i positive small .rootRight
 
   pub ends-at-root : 1 ≤ length (drawnNodes bytes statement n t) → EndsAtRoot bytes statement n t (drawnNodes bytes statement n t)
@@ -94,7 +93,7 @@ module _ (bytes statement : List ℕ) (n t : ℕ) (p : IsProof edition bytes sta
     agree :
         (i j : ℕ) → 1 ≤ i → i < j → j ≤ t → (l : ℕ) →
         disagreeAt
-        (stampRule edition n statement)
+        (stampRule (proofEdition bytes) n statement)
         n
         (openedLeaf bytes statement n i)
         (openedGiven bytes n i)
@@ -118,7 +117,7 @@ module _ (bytes statement : List ℕ) (n t : ℕ) (p : IsProof edition bytes sta
     unfolding SameInput openedInput
     input-pair v i j positive ordered small =
         same-inputs
-        (stampRule edition n statement)
+        (stampRule (proofEdition bytes) n statement)
         n
         (openedLeaf bytes statement n i)
         (openedGiven bytes n i)
@@ -131,7 +130,7 @@ module _ (bytes statement : List ℕ) (n t : ℕ) (p : IsProof edition bytes sta
     unfolding SameLabel knows
     label-pair u i j positive ordered small a b =
         agree-known
-        (stampRule edition n statement)
+        (stampRule (proofEdition bytes) n statement)
         n
         (openedLeaf bytes statement n i)
         (openedGiven bytes n i)
@@ -175,18 +174,18 @@ module _ (bytes statement : List ℕ) (n t : ℕ) (p : IsProof edition bytes sta
       unfolding labels knows
       labels-sized =
           parents-sized
-          (stampRule edition n statement)
+          (stampRule (proofEdition bytes) n statement)
           n
           (openedLeaf bytes statement n j)
           (openedGiven bytes n j)
           (proofRoot bytes)
           (right-at j (b .positive) (b .small))
-          (stamp-hash edition n statement)
+          (stamp-hash (proofEdition bytes) n statement)
           (sized-of bytes statement n t p j (b .positive) (b .small))
           v
           (b .through)
 
-      input-labels : openedInput bytes statement n j v ≡ documentInput edition n statement v labels
+      input-labels : openedInput bytes statement n j v ≡ documentInput (proofEdition bytes) n statement v labels
       unfolding openedInput inputAt labels knows
       input-labels = refl
 
@@ -195,25 +194,25 @@ module _ (bytes statement : List ℕ) (n t : ℕ) (p : IsProof edition bytes sta
       labels-count = length-map (parents n v) (knows j)
 
       label-at :
-          (k : ℕ) → k < length (parents n v) → getD (hashedParents edition n v) k root ≡ u
-          → getD (ordered edition labels) k [] ≡ openedHash bytes statement n i u
+          (k : ℕ) → k < length (parents n v) → getD (hashedParents (proofEdition bytes) n v) k root ≡ u
+          → getD (ordered (proofEdition bytes) labels) k [] ≡ openedHash bytes statement n i u
       unfolding labels
       label-at k h e =
-          rw (← ordered-map edition (knows j) (parents n v))
-          (map-at (knows j) (hashedParents edition n v) k (rw (ordered-length edition (parents n v)) h) ∙ rw e parent-label)
+          rw (← ordered-map (proofEdition bytes) (knows j) (parents n v))
+          (map-at (knows j) (hashedParents (proofEdition bytes) n v) k (rw (ordered-length (proofEdition bytes) (parents n v)) h) ∙ rw e parent-label)
 
-      parent-stands : StandsWhole n u v (openedHash bytes statement n i u) (openedInput bytes statement n j v)
+      parent-stands : StandsWhole (proofEdition bytes) n u v (openedHash bytes statement n i u) (openedInput bytes statement n j v)
       parent-stands =
           let at = among-place (parents n v) u root m in
-          let there = ordered-place edition (parents n v) (at .0) root (at .1) in
+          let there = ordered-place (proofEdition bytes) (parents n v) (at .0) root (at .1) in
           record {
-            size = rw input-labels (length-input edition n statement (p .statementSize) v labels labels-sized ∙ rw labels-count);
+            size = rw input-labels (length-input (proofEdition bytes) n statement (p .statementSize) v labels labels-sized ∙ rw labels-count);
             place = there .place;
             isPlace = there .inside;
             isParent = there .there ∙ at .2;
             stands =
                 rw input-labels
-                (label-in-input edition n statement (p .statementSize) v labels labels-sized (there .place) (rw labels-count (there .inside))
+                (label-in-input (proofEdition bytes) n statement (p .statementSize) v labels labels-sized (there .place) (rw labels-count (there .inside))
                 ∙ label-at (there .place) (there .inside) (there .there ∙ at .2));
           }
 

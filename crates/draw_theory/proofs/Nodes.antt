@@ -8,7 +8,7 @@ use mathlib.Core.List.{List, [], _∷_, map}
 use lib.ListN.{length, getD, take, drop, length-map}
 use lib.Pow.{shr-lt, pow-mono}
 use lib.Seq.{take-at, drop-at}
-use Rattle.base.specs.Limits.{edition, maxDepth}
+use Rattle.base.specs.Limits.{maxDepth}
 use Rattle.base.specs.Choice.{both, passing}
 use Rattle.base.specs.Bytes.{written}
 use Rattle.base.proofs.ChoiceLaws.{both-first, both-true}
@@ -28,7 +28,7 @@ use Rattle.chain_theory.proofs.Counting.{chain-count-k}
 use Rattle.chain_theory.proofs.Once.{chain-times, below-root, chain-at, chain-different}
 use Rattle.chain_theory.proofs.Parents.{among-place}
 use Rattle.check_theory.specs.IsProof.{IsProof}
-use Rattle.draw.specs.Drawing.{leavesOf}
+use Rattle.draw.specs.Drawing.{proofEdition, leavesOf}
 use Rattle.draw_theory.specs.Demand3.{openedLeaf, Passes, chainLength, drawnNodes, OnTheWays, ListDrawn}
 use Rattle.draw_theory.proofs.Openings.{passes-some, some-passes, leaf-inside, all-inside, some-leaf}
 
@@ -98,7 +98,7 @@ sorted-some xs h = long (sorted xs) (nonEmpty-sorted xs ∙ filled xs h)
     long [] e = absurd (let no : _≡_ {A = ℕ} 0 1 = cc in omega arith)
     long (y ∷ ys) e = omega arith
 
-module _ (bytes statement : List ℕ) (n t : ℕ) (p : IsProof edition bytes statement n t) where
+module _ (bytes statement : List ℕ) (n t : ℕ) (p : IsProof (proofEdition bytes) bytes statement n t) where
   -- k is at least 1
   pub leaves-some : 1 ≤ leavesOpened (leavesOf bytes statement n t)
   leaves-some =

@@ -30,7 +30,7 @@ use Rattle.proof_file.proofs.Leaves.{challengeLeaf-small}
 use Rattle.check_theory.proofs.Completeness.{file-head, file-root, file-sized, file-right}
 use Rattle.compare.specs.declared.Pair.the-variants.{Agree, Disagree}
 use Rattle.compare.specs.Comparison.{leafOf, givenOf, disagreement, firstDisagreement}
-use Rattle.draw.specs.Drawing.{leavesFrom, numbersEnd, leavesOf, openingsOf, pairOf}
+use Rattle.draw.specs.Drawing.{proofEdition, leavesFrom, numbersEnd, leavesOf, openingsOf, pairOf}
 use Rattle.draw_theory.specs.Demand3.{proofRoot, openedLeaf, openedGiven, Passes, disagreeing, NoneDisagree, SomeDisagree, FirstToDisagree}
 use Rattle.draw_theory.proofs.FirstPairs.{pair-agrees, pair-first}
 
@@ -74,13 +74,13 @@ way-some n (leaf ∷ leaves) v (suc k) h e =
 module _ (bytes statement : List ℕ) (n t : ℕ) where
   pub leaves-length : length (leavesOf bytes statement n t) ≡ t
   unfolding leavesOf
-  leaves-length = length-from edition n statement _ 1 t
+  leaves-length = length-from (proofEdition bytes) n statement _ 1 t
 
   pub leaf-of : (i : ℕ) → 1 ≤ i → i ≤ t → leafOf (leavesOf bytes statement n t) i ≡ openedLeaf bytes statement n i
   unfolding leavesOf openedLeaf proofRoot
   leaf-of i positive small =
       let number : 1 + (i - 1) ≡ i = omega arith in
-      leaf-from edition n statement _ 1 t (i - 1) (omega arith) ∙ rw number
+      leaf-from (proofEdition bytes) n statement _ 1 t (i - 1) (omega arith) ∙ rw number
 
   leaves-inside : n ≤ 256 → every (isLeaf n) (leavesOf bytes statement n t) ≡ true
   unfolding isLeaf leavesOf proofRoot
@@ -88,8 +88,8 @@ module _ (bytes statement : List ℕ) (n t : ℕ) where
       at-every (isLeaf n) 0 (leavesOf bytes statement n t)
       (λ k small.
       lt-ltb _ (2 ^ n)
-      (rw (leaf-from edition n statement (proofRoot bytes) 1 t k (omega (arith, leaves-length)))
-      (challengeLeaf-small edition n statement (proofRoot bytes) (1 + k) deep)))
+      (rw (leaf-from (proofEdition bytes) n statement (proofRoot bytes) 1 t k (omega (arith, leaves-length)))
+      (challengeLeaf-small (proofEdition bytes) n statement (proofRoot bytes) (1 + k) deep)))
 
   pub given-of : (i : ℕ) → givenOf n (openingsOf bytes) i ≡ openedGiven bytes n i
   unfolding openingsOf openedGiven
@@ -114,7 +114,7 @@ module _ (bytes statement : List ℕ) (n t : ℕ) where
   -- ---- disagreement
   disagreement-of :
       (i j l : ℕ) → 1 ≤ i → i ≤ t → 1 ≤ j → j ≤ t →
-      disagreement (stampRule edition n statement) n (leavesOf bytes statement n t) (openingsOf bytes) i j l ≡ disagreeing bytes statement n i j l
+      disagreement (stampRule (proofEdition bytes) n statement) n (leavesOf bytes statement n t) (openingsOf bytes) i j l ≡ disagreeing bytes statement n i j l
   unfolding disagreeing
   disagreement-of i j l a b c d = rw (leaf-of i a b, leaf-of j c d, given-of i, given-of j)
 
@@ -132,15 +132,15 @@ module _ (bytes statement : List ℕ) (n t : ℕ) where
       all-levels i j l
       (λ inner.
       sym (disagreement-of i j l positive (omega arith) (omega arith) small)
-      ∙ pair-agrees (disagreement (stampRule edition n statement) n (leavesOf bytes statement n t) (openingsOf bytes)) n t
+      ∙ pair-agrees (disagreement (stampRule (proofEdition bytes) n statement) n (leavesOf bytes statement n t) (openingsOf bytes)) n t
       (rw leaves-length at e) i j l positive ordered small inner)
 
   pub disagree-first : (i j l : ℕ) → pairOf bytes statement n t ≡ Disagree i j l → FirstToDisagree bytes statement n t i j l
   unfolding pairOf firstDisagreement
   disagree-first i j l e =
       let f =
-      pair-first (disagreement (stampRule edition n statement) n (leavesOf bytes statement n t) (openingsOf bytes)) n t i j
-      l (rw leaves-length at e) in
+      pair-first (disagreement (stampRule (proofEdition bytes) n statement) n (leavesOf bytes statement n t) (openingsOf bytes)) n t
+      i j l (rw leaves-length at e) in
       record {
         positive = f .positive;
         ordered = f .ordered;
@@ -181,28 +181,29 @@ module _ (bytes statement : List ℕ) (n t : ℕ) where
       (none (s .first) (s .second) (s .level) (s .positive) (s .ordered) (s .small))
 
   -- ---- an accepted proof
-  module _ (p : IsProof edition bytes statement n t) where
-    ends : numbersEnd (headOf bytes) ≡ length (headNumbers edition n t)
+  module _ (p : IsProof (proofEdition bytes) bytes statement n t) where
+    ends : numbersEnd (headOf bytes) ≡ length (headNumbers (proofEdition bytes) n t)
+    unfolding proofEdition
     ends = ap numbersEnd (file-head bytes statement n t p)
 
     root-of : proofRoot bytes ≡ p .root
     unfolding proofRoot
-    root-of = rw ends (file-root edition bytes statement n t p)
+    root-of = rw ends (file-root (proofEdition bytes) bytes statement n t p)
 
     pub right-of :
         (i : ℕ) → 1 ≤ i → i ≤ t
-        → Right (stampRule edition n statement) n (openedLeaf bytes statement n i) (openedGiven bytes n i) (proofRoot bytes)
+        → Right (stampRule (proofEdition bytes) n statement) n (openedLeaf bytes statement n i) (openedGiven bytes n i) (proofRoot bytes)
     unfolding openedLeaf openedGiven
-    right-of i positive small = rw (root-of, ends) (file-right edition bytes statement n t p i positive small)
+    right-of i positive small = rw (root-of, ends) (file-right (proofEdition bytes) bytes statement n t p i positive small)
 
     pub sized-of : (i : ℕ) → 1 ≤ i → i ≤ t → Given32 n (openedGiven bytes n i)
     unfolding openedGiven
-    sized-of i positive small = rw ends (file-sized edition bytes statement n t p i positive small)
+    sized-of i positive small = rw ends (file-sized (proofEdition bytes) bytes statement n t p i positive small)
 
     -- its leaves are of the tree, and there is one
     pub leaf-inside : (i : ℕ) → openedLeaf bytes statement n i < 2 ^ n
     unfolding openedLeaf
-    leaf-inside i = challengeLeaf-small edition n statement (proofRoot bytes) i (omega (arith, p .depth .1))
+    leaf-inside i = challengeLeaf-small (proofEdition bytes) n statement (proofRoot bytes) i (omega (arith, p .depth .1))
 
     pub all-inside : every (isLeaf n) (leavesOf bytes statement n t) ≡ true
     all-inside = leaves-inside (omega (arith, p .depth .1))

@@ -7,7 +7,6 @@ use mathlib.Core.List.{List, map}
 use lib.ListN.{length, getD, take, drop}
 use Rattle.base.specs.Choice.{pick, passing}
 use Rattle.base.specs.Bytes.{zeros}
-use Rattle.base.specs.Limits as limits
 use Rattle.refusal.specs.Row.{isDone}
 use Rattle.sha256.specs.Digest.{digest}
 use Rattle.tree.specs.Nodes.{Node, root, onWay, labellingOrder, parents}
@@ -23,7 +22,7 @@ use Rattle.opening_check.specs.OpeningCheck.{givenBy}
 use Rattle.proof_file.specs.Challenge.{challengeLeaf}
 use Rattle.proof_file.specs.Head.{headOf, rootAt, openingAt}
 use Rattle.proof_file.specs.FileCheck.{fileCheck}
-use Rattle.draw.specs.Drawing.{DrawingAnswer, notDrawn, drawnChain, numbersEnd, leavesOf, drawingOf, drawnList, firstDrawn, secondDrawn}
+use Rattle.draw.specs.Drawing.{DrawingAnswer, notDrawn, drawnChain, numbersEnd, proofEdition, leavesOf, drawingOf, drawnList, firstDrawn, secondDrawn}
 
 -- 'A proof is accepted if no check of the two File rows below refuses it.'
 abbrev pub IsAccepted : List ℕ → List ℕ → ℕ → ℕ → Type 0
@@ -36,7 +35,7 @@ proofRoot bytes = rootAt bytes (numbersEnd (headOf bytes))
 
 -- the leaf of challenge i, from 1
 unfoldable pub openedLeaf : List ℕ → List ℕ → ℕ → ℕ → ℕ
-openedLeaf bytes statement n i = challengeLeaf limits.edition n statement (proofRoot bytes) i
+openedLeaf bytes statement n i = challengeLeaf (proofEdition bytes) n statement (proofRoot bytes) i
 
 -- the labels that opening i gives
 unfoldable pub openedGiven : List ℕ → ℕ → ℕ → Given
@@ -51,7 +50,7 @@ pub record Passes (bytes statement : List ℕ) (n t i : ℕ) (v : Node) : Type 0
 -- 'At each node on its leaf's way to the root an opening gives one hash input'
 unfoldable pub openedInput : List ℕ → List ℕ → ℕ → ℕ → Node → List ℕ
 openedInput bytes statement n i v =
-    inputAt (stampRule limits.edition n statement) n (openedLeaf bytes statement n i) (openedGiven bytes n i) v
+    inputAt (stampRule (proofEdition bytes) n statement) n (openedLeaf bytes statement n i) (openedGiven bytes n i) v
 
 -- 'The node's hash is SHA-256 of that input'
 abbrev pub openedHash : List ℕ → List ℕ → ℕ → ℕ → Node → List ℕ
@@ -62,7 +61,7 @@ openedHash bytes statement n i v = digest (openedInput bytes statement n i v)
 unfoldable pub disagreeing : List ℕ → List ℕ → ℕ → ℕ → ℕ → ℕ → Bool
 disagreeing bytes statement n i j l =
     disagreeAt
-    (stampRule limits.edition n statement)
+    (stampRule (proofEdition bytes) n statement)
     n
     (openedLeaf bytes statement n i)
     (openedGiven bytes n i)
@@ -116,11 +115,11 @@ abbrev pub hashedParents : ℕ → ℕ → Node → List Node
 hashedParents edition n v = ordered edition (parents n v)
 
 -- 'A hash stands whole in an input if it is one of the parents' labels there, after the first 41 bytes.' It is that of parent u of v.
-pub record StandsWhole (n : ℕ) (u v : Node) (hash input : List ℕ) : Type 0 where
+pub record StandsWhole (edition n : ℕ) (u v : Node) (hash input : List ℕ) : Type 0 where
   pub size : length input ≡ 41 + 32 * length (parents n v)
   pub place : ℕ
   pub isPlace : place < length (parents n v)
-  pub isParent : getD (hashedParents limits.edition n v) place root ≡ u
+  pub isParent : getD (hashedParents edition n v) place root ≡ u
   pub stands : take 32 (drop (41 + 32 * place) input) ≡ hash
 
 -- each node's hash stands whole in the next one's input, whichever openings through the two give them
@@ -133,6 +132,7 @@ pub record HashChain (bytes statement : List ℕ) (n t : ℕ) (nodes : List Node
       (k i j : ℕ) → k + 1 < length nodes → Passes bytes statement n t i (getD nodes k root) →
       Passes bytes statement n t j (getD nodes (k + 1) root) →
       StandsWhole
+      (proofEdition bytes)
       n
       (getD nodes k root)
       (getD nodes (k + 1) root)

@@ -1,5 +1,5 @@
 -- Document 01's hash input: its length, and that the parents' labels stand in it whole and can be read back.
-use mathlib.Core.Path.{_≡_, sym, ap, _∙_}
+use mathlib.Core.Path.{_≡_, _∙_}
 use Prim.Native.Nat.{ℕ, _+_, _*_, _<_}
 use native.Mathlib.Omega.{arith}
 use mathlib.Core.List.{List, [], _++_, append-cancel-left}
@@ -45,8 +45,8 @@ input-injective edition n statement v xs ys count s t e =
     let hashed : List Label = ordered edition xs in
     let hashed₂ : List Label = ordered edition ys in
     ordered-injective edition xs ys
-    (joined-injective 32 hashed hashed₂ (rw (ordered-length edition xs, ordered-length edition ys) count) (ordered-each edition 32 xs s)
-    (ordered-each edition 32 ys t)
+    (joined-injective 32 hashed hashed₂ (rw (ordered-length edition xs, ordered-length edition ys) count)
+    (ordered-each edition 32 xs s) (ordered-each edition 32 ys t)
     (append-cancel-left (inputHead edition n statement v) (joined hashed) (joined hashed₂) e))
 
 module _ (edition n : ℕ) (statement : List ℕ) (hash : List ℕ → Label) where

@@ -68,8 +68,7 @@ module _
 
     part-stepped :
         (r : ℕ) → r < nodesAnew n m
-        → stepped store
-        (underWay (rootOf edition statement n) t q (laid edition statement n t q)
+        → stepped store (underWay (rootOf edition statement n) t q (laid edition statement n t q)
         (openAfter edition statement n m (leafAfter edition statement n q) r b) c)
         ≡ followed store t
         (underWay (rootOf edition statement n) t q (laid edition statement n t q)

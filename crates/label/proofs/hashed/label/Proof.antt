@@ -1,7 +1,7 @@
 -- `label::hashed::label` meets its contract: the number of parents gives the length of the input, and zeros follow it.
 use mathlib.Core.Path.{_≡_, refl, ap, _∙_}
-use Prim.Native.Nat.{_+_, _-_, _*_}
-use mathlib.Core.List.{_++_}
+use Prim.Native.Nat.{ℕ, _+_, _-_, _*_}
+use mathlib.Core.List.{List, _++_}
 use native.Mathlib.Omega.{arith}
 use borrow.Author.Needs.{needs}
 use lib.ListN.{length, take}
@@ -14,16 +14,18 @@ use Rattle.label.proofs.Filled.{input-length, front-of}
 use Rattle.label.proofs.hashed.label.Statement.{statement}
 use Rattle.label.proofs.hashed.label.Tie as tie
 
+abbrev inputOf : tie.After-put-input → List ℕ
+inputOf c =
+    let a = c .before .before .before .before .args in
+    documentInput (a .edition) (a .depth) (a .statement) (node (a .level) (a .position)) (inLabels (a .front .now ++ a .rest .now))
+
+abbrev sizeOf : tie.After-put-input → ℕ
+sizeOf c = 41 + 32 * c .before .before .before .before .args .parents
+
 in-front :
     (c : tie.After-put-input)
-    → (take (41 + 32 * c .before .before .before .before .args .parents) (c .put-input .last .0)
-    ≡ documentInput (c .before .before .before .before .args .edition) (c .before .before .before .before .args .depth)
-    (c .before .before .before .before .args .statement)
-    (node (c .before .before .before .before .args .level) (c .before .before .before .before .args .position)) (inLabels
-    (c .before .before .before .before .args .front .now ++ c .before .before .before .before .args .rest .now)))
-    × (c .put-input .last .0
-    ≡ take (41 + 32 * c .before .before .before .before .args .parents) (c .put-input .last .0) ++ zeros (inputSpace -
-    (41 + 32 * c .before .before .before .before .args .parents)))
+    → (take (sizeOf c) (c .put-input .last .0) ≡ inputOf c)
+    × (c .put-input .last .0 ≡ take (sizeOf c) (c .put-input .last .0) ++ zeros (inputSpace - sizeOf c))
 in-front c =
     let s = c .before .before .before .before in
     let a = s .args in

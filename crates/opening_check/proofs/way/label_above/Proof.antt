@@ -11,7 +11,7 @@ returns c =
     let a = entry .args in
     c .label .ensures
     ∙ above-right (a .edition) (a .n) (a .statement) (a .level) (a .position) (a .t6) (a .beside .now) (search needs)
-    (entry .pre .2) (c .before .before .if1 .taken)
+    (c .before .before .before .before .pre .2) (c .before .before .if1 .taken)
 
 returns-2 : tie.Need-returns-2
 returns-2 c =
@@ -19,7 +19,7 @@ returns-2 c =
     let a = entry .args in
     c .label2 .ensures
     ∙ above-left (a .edition) (a .n) (a .statement) (a .level) (a .position) (a .t6) (a .beside .now) (search needs)
-    (entry .pre .2) (c .before .before .if1 .left)
+    (c .before .before .before .before .pre .2) (c .before .before .if1 .left)
 
 pub label-above-spec : {M : Type 1} → statement M
 label-above-spec =

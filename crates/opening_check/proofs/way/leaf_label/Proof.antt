@@ -6,7 +6,6 @@ use native.Mathlib.Omega.{arith}
 use borrow.Author.Needs.{needs}
 use lib.Count.{ones, ones-le}
 use lib.Seq.{length-take-le}
-use lib.ListN.{length}
 use Rattle.opening_check.specs.OpeningCheck.{givenBy}
 use Rattle.opening_check.proofs.OneOpening.{Gathered, gathered-none, gathered-few, gathered-more, gathered-all, given-labels, leaf-hash}
 use Rattle.opening_check.proofs.way.leaf_label.Statement.{statement}
@@ -96,7 +95,7 @@ returns c =
     let l = c .before .before .before .before .loop in
     c .label .ensures
     ∙ leaf-hash (a .n) (a .leaf) (givenBy (a .bytes .now)) (a .edition) (a .statement) _ (l .height)
-    (given-labels (a .n) (a .bytes .now) (omega (arith, entry .pre .2)))
+    (given-labels (a .n) (a .bytes .now) (omega (arith, c .before .before .before .before .before .before .pre .2)))
     (c .before .before .before .loop-test .left)
     (rw (all-gathered (c .before .before .before)) (l .inv .1 .labels))
 

@@ -15,7 +15,12 @@ put-requires : tie.Need-put-requires
 put-requires c κs =
     let s = c .before .before .before .before .before .before .before in
     let a = s .args in
-    omega (arith, s .pre .3, size-numbers (a .edition) (a .n) (a .t) (s .pre .0), c .before .before .before .before .put-numbers .ensures .0)
+    omega (
+      arith,
+      s .pre .3,
+      size-numbers (a .edition) (a .n) (a .t) (s .pre .0),
+      c .before .before .before .before .put-numbers .ensures .0,
+    )
 
 add-put : tie.Need-add-put
 add-put c =
