@@ -4,7 +4,7 @@ use mathlib.Core.Logic.{_↔_}
 use Prim.Native.Nat.{ℕ, _+_, _-_, _*_, _/_, _^_, _≤_, _<_, min}
 use mathlib.Core.List.{List, _∷_, _++_, map, flatten}
 use lib.ListN.{length, take, drop, getD}
-use Rattle.base.specs.Limits.{edition}
+use Rattle.base.specs.Limits.{edition, IsDepth, IsCount}
 use Rattle.base.specs.Bytes.{bigEndian, joined}
 use Rattle.sha256.specs.Digest.{digest}
 use Rattle.sha256.specs.Portions.{newHash, updatedAll, AllDone, finishRow, finishDigest, digestRow, digestAnswer}
@@ -22,7 +22,6 @@ use Rattle.proof_file.specs.Layout.{fileSize, file}
 use Rattle.proof_file.specs.FileCheck.{fileCheck}
 use Rattle.run_theory.specs.Reached.{runAfter, storeAfter}
 use Rattle.machine.specs.Calls.{total, afterCalls}
-use Rattle.base.specs.Limits.{IsDepth, IsCount}
 use Rattle.check_theory.specs.IsProof.{RightAlone, IsProof}
 use Rattle.check_theory.specs.TreeFile.{treeOpenings}
 use Rattle.writing_theory.specs.Filed.{fileFrom}

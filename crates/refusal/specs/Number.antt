@@ -2,8 +2,7 @@
 use Prim.Native.Nat.{ℕ, _+_, _*_}
 use Rattle.refusal.specs.declared.Refusal.{Refusal}
 use Rattle.refusal.specs.declared.Refusal.the-variants.{Depth, MemoryLevel, ShortStore, State, TooManyBytes, LeafPosition, ShortOutput, Count}
-use Rattle.refusal.specs.declared.Refusal.the-variants.{NotWanted, BytesEnd, NotShortest, Edition, BytesLeft, LeafLabel, Root, ShortList}
-use Rattle.refusal.specs.declared.Refusal.the-variants.{Input}
+use Rattle.refusal.specs.declared.Refusal.the-variants.{NotWanted, BytesEnd, NotShortest, Edition, BytesLeft, LeafLabel, Root, ShortList, Input}
 use Rattle.refusal.specs.declared.Outcome.{Outcome}
 use Rattle.refusal.specs.declared.Outcome.the-variants.{Done, Refused}
 use Rattle.refusal.specs.declared.Check.{Check}

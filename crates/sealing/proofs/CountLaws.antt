@@ -1,7 +1,6 @@
 -- How many labels there are at most, and that a portion has some.
 use mathlib.Core.Path.{_≡_}
 use Prim.Native.Nat.{ℕ, _+_, _-_, _*_, _^_, _≤_}
-use Prim.Native.Nat.{ℕ, _+_, _*_, _^_, _-_, _≤_}
 use native.Mathlib.Nat.{mul-le-mul}
 use native.Mathlib.Omega.{arith}
 use Rattle.base.specs.Limits.{maxDepth, maxChallenges}

@@ -1,12 +1,10 @@
 -- `texts::put_field` meets its contract: the text, then the digits.
 use Prim.Native.Nat.{_-_}
-use lib.ListN.{length, length-drop}
-use mathlib.Core.Path.{ap}
+use lib.ListN.{length, length-drop, drop}
+use mathlib.Core.Path.{ap, refl, _∙_}
 use lib.Seq.{take-all}
-use lib.ListN.{drop}
 use Rattle.decimal.proofs.Laying.{field-wrote}
 use native.Mathlib.Omega.{arith}
-use mathlib.Core.Path.{refl, _∙_}
 use borrow.Author.Needs.{needs}
 use Rattle.decimal.proofs.texts.put_field.Statement.{statement}
 use Rattle.decimal.proofs.texts.put_field.Tie as tie

@@ -1,10 +1,10 @@
 -- `sealing::opening_all::write_openings` meets its contract: the invariant: writing and file are those after so many steps from the start.
-use Prim.Native.Nat.{_*_}
 use mathlib.Core.Path.{_≡_, refl, _∙_}
 use borrow.Author.Needs.{needs}
 use native.Mathlib.Omega.{arith}
 use lib.ListN.{length}
-use Prim.Native.Nat.{_-_, _≤_}
+use Prim.Native.Nat.{_+_, _-_, _*_, _^_, _≤_, min}
+use Rattle.base.specs.Limits.{maxDepth, maxChallenges}
 use Rattle.machine.specs.Machines as machines
 use Rattle.writing_theory.specs.Filed.{labelsAnew}
 use Rattle.writing.specs.Possible.{writtenOf}
@@ -25,137 +25,82 @@ abbrev μ-loop : tie.MeasureT-loop
 nodes-anew-requires : tie.Need-nodes-anew-requires Inv-loop μ-loop
 nodes-anew-requires c κs = let a = c .before .before in omega (arith, a .pre .0 .0 .depth, a .pre .0 .0 .memory)
 
+-- all labels: few, and as many as are computed
+all-few :
+    (c : tie.After-nodes-anew Inv-loop μ-loop)
+    → let a = c .before .before .before .args in
+    (a .challenges * c .nodes-anew .result ≤ maxChallenges * 2 ^ (maxDepth + 2))
+    × (a .challenges * c .nodes-anew .result ≡ labelsAnew (a .depth) (a .memory) (a .challenges))
+all-few c =
+    let a = c .before .before .before in (
+      small-anew (a .args .depth) (a .args .memory) (a .args .challenges) _ (a .pre .0 .0 .depth .1) (a .pre .0 .0 .count .1)
+          (c .nodes-anew .ensures),
+      rw (c .nodes-anew .ensures),
+    )
+
 mul-labels : tie.Need-mul-labels Inv-loop μ-loop
-mul-labels c =
-    let a = c .before .before .before in
-    let size : length (a .args .statement) ≡ 32 = search needs in
-    let few =
-    small-anew (a .args .depth) (a .args .memory) (a .args .challenges) _ (a .pre .0 .0 .depth .1) (a .pre .0 .0 .count .1)
-    refl in
-    let all : a .args .challenges * c .nodes-anew .result ≡ labelsAnew (a .args .depth) (a .args .memory) (a .args .challenges) =
-    rw (c .nodes-anew .ensures) in
-    omega (arith, few, all)
+mul-labels c = omega (arith, all-few c)
 
 loop-holds : tie.Need-loop-holds Inv-loop μ-loop
 unfolding machines.steps
 loop-holds c = (omega arith, refl, refl, refl)
 
+-- a call's labels: the smaller of the portion and what is left
+call-made :
+    (c : tie.After-advance Inv-loop μ-loop)
+    → let a = c .before .before .before .before .before .before .before .before .before .before .before .before .args in
+    c .advance .result .labels ≡ min (a .portion) (labelsAnew (a .depth) (a .memory) (a .challenges) - c .before .before .before .loop .made)
+call-made c =
+    let a = c .before .before .before .before .before .before .before .before .before .before .before .before in
+    let l = c .before .before .before .loop in
+    let start = c .before .before .before .before .before .before .before .start in
+    c .advance .ensures .1 .0
+    ∙ call-labels (a .args .statement) (a .args .root) (a .args .depth) (a .args .memory) (a .args .challenges) (a .args .store .now)
+    (a .args .file .now) (search needs) (a .pre .0 .2) (a .pre .0 .0) (a .pre .0 .1) _ _ (start .ensures .1 .0) (start .ensures .1 .1)
+    (l .made) (a .args .portion) (l .inv .0) _ _ (l .inv .1) (l .inv .2)
+
 add-made : tie.Need-add-made Inv-loop μ-loop
 add-made c =
-    let nodes-anew = c .before .before .before .before .before .before .before .before .before .before .before .before .before .nodes-anew in
-    let start = c .before .before .before .before .before .before .before .before .before .before .before .start in
-    let a =
-    c .before .before .before .before .before .before .before .before .before .before .before .before .before .before .before .before in
-    let size : length (a .args .statement) ≡ 32 = search needs in
-    let few =
-    small-anew (a .args .depth) (a .args .memory) (a .args .challenges) _ (a .pre .0 .0 .depth .1) (a .pre .0 .0 .count .1)
-    refl in
-    let all : a .args .challenges * nodes-anew .result ≡ labelsAnew (a .args .depth) (a .args .memory) (a .args .challenges) =
-    rw (nodes-anew .ensures) in
-    let l = c .before .before .before .before .before .before .before .loop in
-    let call = c .before .before .before .before .advance in
-    let taken = c .before .before .before .before .before .before .loop-test .taken in
-    let e =
-    call .ensures .1 .0
-    ∙ call-labels (a .args .statement) (a .args .root) (a .args .depth) (a .args .memory) (a .args .challenges)
-    (a .args .store .now) (a .args .file .now) size (a .pre .0 .2) (a .pre .0 .0) (a .pre .0 .1) _ _
-    (start .ensures .1 .0) (start .ensures .1 .1) (l .made) (a .args .portion) (l .inv .0) _ _ (l .inv .1)
-    (l .inv .2) in
-    omega (arith, e, few, l .inv .0)
+    let call = c .before .before .before .before in
+    omega (arith, call-made call, all-few (call .before .before .before .before .before .before .before .before .before), call .before .before .before .loop .inv .0)
 
 add-show-progress : tie.Need-add-show-progress Inv-loop μ-loop
 add-show-progress c =
-    let nodes-anew = c .before .before .before .before .before .before .before .before .before .before .before .before .before .nodes-anew in
-    let start = c .before .before .before .before .before .before .before .before .before .before .before .start in
-    let a =
-    c .before .before .before .before .before .before .before .before .before .before .before .before .before .before .before .before in
-    let size : length (a .args .statement) ≡ 32 = search needs in
-    let few =
-    small-anew (a .args .depth) (a .args .memory) (a .args .challenges) _ (a .pre .0 .0 .depth .1) (a .pre .0 .0 .count .1)
-    refl in
-    let all : a .args .challenges * nodes-anew .result ≡ labelsAnew (a .args .depth) (a .args .memory) (a .args .challenges) =
-    rw (nodes-anew .ensures) in
-    let l = c .before .before .before .before .before .before .before .loop in
-    let call = c .before .before .before .before .advance in
-    let taken = c .before .before .before .before .before .before .loop-test .taken in
-    let e =
-    call .ensures .1 .0
-    ∙ call-labels (a .args .statement) (a .args .root) (a .args .depth) (a .args .memory) (a .args .challenges)
-    (a .args .store .now) (a .args .file .now) size (a .pre .0 .2) (a .pre .0 .0) (a .pre .0 .1) _ _
-    (start .ensures .1 .0) (start .ensures .1 .1) (l .made) (a .args .portion) (l .inv .0) _ _ (l .inv .1)
-    (l .inv .2) in
-    omega (arith, e, few, l .inv .0, a .pre .1 .1)
+    let call = c .before .before .before .before in
+    omega (arith, call-made call, all-few (call .before .before .before .before .before .before .before .before .before), call .before .before .before .loop .inv .0, call .before .before .before .before .before .before .before .before .before .before .before .before .pre .1 .1)
 
 loop-less : tie.Need-loop-less Inv-loop μ-loop
 loop-less c =
-    let nodes-anew = c .before .before .before .before .before .before .before .before .before .before .before .before .before .before .nodes-anew in
-    let start = c .before .before .before .before .before .before .before .before .before .before .before .before .start in
-    let a =
-    c .before .before .before .before .before .before .before .before .before .before .before .before .before .before .before .before .before in
-    let size : length (a .args .statement) ≡ 32 = search needs in
-    let few =
-    small-anew (a .args .depth) (a .args .memory) (a .args .challenges) _ (a .pre .0 .0 .depth .1) (a .pre .0 .0 .count .1)
-    refl in
-    let all : a .args .challenges * nodes-anew .result ≡ labelsAnew (a .args .depth) (a .args .memory) (a .args .challenges) =
-    rw (nodes-anew .ensures) in
-    let l = c .before .before .before .before .before .before .before .before .loop in
-    let call = c .before .before .before .before .before .advance in
-    let taken = c .before .before .before .before .before .before .before .loop-test .taken in
-    let e =
-    call .ensures .1 .0
-    ∙ call-labels (a .args .statement) (a .args .root) (a .args .depth) (a .args .memory) (a .args .challenges)
-    (a .args .store .now) (a .args .file .now) size (a .pre .0 .2) (a .pre .0 .0) (a .pre .0 .1) _ _
-    (start .ensures .1 .0) (start .ensures .1 .1) (l .made) (a .args .portion) (l .inv .0) _ _ (l .inv .1)
-    (l .inv .2) in
-    omega (arith, e, taken, all, a .pre .1 .0)
+    let call = c .before .before .before .before .before in
+    omega (arith, call-made call, all-few (call .before .before .before .before .before .before .before .before .before), call .before .before .loop-test .taken, call .before .before .before .before .before .before .before .before .before .before .before .before .pre .1 .0)
 
 loop-again : tie.Need-loop-again Inv-loop μ-loop
 loop-again c =
-    let nodes-anew = c .before .before .before .before .before .before .before .before .before .before .before .before .before .before .nodes-anew in
-    let start = c .before .before .before .before .before .before .before .before .before .before .before .before .start in
-    let a =
-    c .before .before .before .before .before .before .before .before .before .before .before .before .before .before .before .before .before in
-    let size : length (a .args .statement) ≡ 32 = search needs in
-    let few =
-    small-anew (a .args .depth) (a .args .memory) (a .args .challenges) _ (a .pre .0 .0 .depth .1) (a .pre .0 .0 .count .1)
-    refl in
-    let all : a .args .challenges * nodes-anew .result ≡ labelsAnew (a .args .depth) (a .args .memory) (a .args .challenges) =
-    rw (nodes-anew .ensures) in
-    let l = c .before .before .before .before .before .before .before .before .loop in
-    let call = c .before .before .before .before .before .advance in
-    let taken = c .before .before .before .before .before .before .before .loop-test .taken in
-    let e =
-    call .ensures .1 .0
-    ∙ call-labels (a .args .statement) (a .args .root) (a .args .depth) (a .args .memory) (a .args .challenges)
-    (a .args .store .now) (a .args .file .now) size (a .pre .0 .2) (a .pre .0 .0) (a .pre .0 .1) _ _
-    (start .ensures .1 .0) (start .ensures .1 .1) (l .made) (a .args .portion) (l .inv .0) _ _ (l .inv .1)
-    (l .inv .2) in (
-      omega (arith, e, l .inv .0),
+    let call = c .before .before .before .before .before in
+    let a = call .before .before .before .before .before .before .before .before .before .before .before .before in
+    let l = call .before .before .before .loop in
+    let start = call .before .before .before .before .before .before .before .start in
+    let size : length (a .args .statement) ≡ 32 = search needs in (
+      omega (arith, call-made call, l .inv .0),
       next-state (a .args .statement) (a .args .root) (a .args .depth) (a .args .memory) (a .args .challenges)
           (a .args .store .now) (a .args .file .now) size (a .pre .0 .2) (a .pre .0 .0) (a .pre .0 .1) _ _ (start .ensures .1 .0)
-          (start .ensures .1 .1) (l .made) (a .args .portion) (l .inv .0) _ _ (l .inv .1) (l .inv .2) _ (call .ensures .1 .0) _
-          (call .ensures .1 .1 .0),
+          (start .ensures .1 .1) (l .made) (a .args .portion) (l .inv .0) _ _ (l .inv .1) (l .inv .2) _ (call .advance .ensures .1 .0) _
+          (call .advance .ensures .1 .1 .0),
       next-file (a .args .statement) (a .args .root) (a .args .depth) (a .args .memory) (a .args .challenges)
           (a .args .store .now) (a .args .file .now) size (a .pre .0 .2) (a .pre .0 .0) (a .pre .0 .1) _ _ (start .ensures .1 .0)
-          (start .ensures .1 .1) (l .made) (a .args .portion) (l .inv .0) _ _ (l .inv .1) (l .inv .2) _ (call .ensures .1 .0) _
-          (call .ensures .1 .1 .1),
+          (start .ensures .1 .1) (l .made) (a .args .portion) (l .inv .0) _ _ (l .inv .1) (l .inv .2) _ (call .advance .ensures .1 .0) _
+          (call .advance .ensures .1 .1 .1),
       search needs,
     )
 
 returns : tie.Need-returns Inv-loop μ-loop
 returns c =
-    let nodes-anew = c .before .before .before .before .before .before .before .nodes-anew in
     let start = c .before .before .before .before .before .start in
     let a = c .before .before .before .before .before .before .before .before .before .before in
     let size : length (a .args .statement) ≡ 32 = search needs in
-    let few =
-    small-anew (a .args .depth) (a .args .memory) (a .args .challenges) _ (a .pre .0 .0 .depth .1) (a .pre .0 .0 .count .1)
-    refl in
-    let all : a .args .challenges * nodes-anew .result ≡ labelsAnew (a .args .depth) (a .args .memory) (a .args .challenges) =
-    rw (nodes-anew .ensures) in
     let l = c .before .loop in
     let done : l .made ≡ labelsAnew (a .args .depth) (a .args .memory) (a .args .challenges) =
-    omega (arith, l .inv .0, c .loop-test .left, all) in (
+    omega (arith, l .inv .0, c .loop-test .left, all-few (c .before .before .before .before .before .before .before)) in (
       done,
       l .inv .2
           ∙ ends (a .args .statement) (a .args .root) (a .args .depth) (a .args .memory) (a .args .challenges)
