@@ -50,7 +50,9 @@ module _ (bytes statement : List ℕ) (n t : ℕ) (p : IsProof (proofEdition byt
   knows : ℕ → Node → Label
   knows i = known (stampRule (proofEdition bytes) n statement) n (openedLeaf bytes statement n i) (openedGiven bytes n i)
 
-  right-at : (i : ℕ) → 1 ≤ i → i ≤ t → Right (stampRule (proofEdition bytes) n statement) n (openedLeaf bytes statement n i) (openedGiven bytes n i) (proofRoot bytes)
+  right-at :
+      (i : ℕ) → 1 ≤ i → i ≤ t
+      → Right (stampRule (proofEdition bytes) n statement) n (openedLeaf bytes statement n i) (openedGiven bytes n i) (proofRoot bytes)
   right-at = right-of bytes statement n t p
 
   -- of a node that it passes it knows the hash

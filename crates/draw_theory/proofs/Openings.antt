@@ -137,7 +137,9 @@ module _ (bytes statement : List ℕ) (n t : ℕ) where
   pub disagree-first : (i j l : ℕ) → pairOf bytes statement n t ≡ Disagree i j l → FirstToDisagree bytes statement n t i j l
   unfolding pairOf firstDisagreement
   disagree-first i j l e =
-      let f = pair-first (disagreement (stampRule (proofEdition bytes) n statement) n (leavesOf bytes statement n t) (openingsOf bytes)) n t i j l (rw leaves-length at e) in
+      let f =
+      pair-first (disagreement (stampRule (proofEdition bytes) n statement) n (leavesOf bytes statement n t) (openingsOf bytes)) n t i j l
+      (rw leaves-length at e) in
       record {
         positive = f .positive;
         ordered = f .ordered;
@@ -187,7 +189,9 @@ module _ (bytes statement : List ℕ) (n t : ℕ) where
     unfolding proofRoot
     root-of = rw ends (file-root (proofEdition bytes) bytes statement n t p)
 
-    pub right-of : (i : ℕ) → 1 ≤ i → i ≤ t → Right (stampRule (proofEdition bytes) n statement) n (openedLeaf bytes statement n i) (openedGiven bytes n i) (proofRoot bytes)
+    pub right-of :
+        (i : ℕ) → 1 ≤ i → i ≤ t
+        → Right (stampRule (proofEdition bytes) n statement) n (openedLeaf bytes statement n i) (openedGiven bytes n i) (proofRoot bytes)
     unfolding openedLeaf openedGiven
     right-of i positive small = rw (root-of, ends) (file-right (proofEdition bytes) bytes statement n t p i positive small)
 
