@@ -14,11 +14,11 @@ use Rattle.proof_file.specs.Challenge.{challengeLeaf}
 use Rattle.proof_file.specs.Layout.{headNumbers, file}
 use Rattle.proof_file.specs.Head.{numbers, headOf, lengthFrom, statementAt, rootAt, openingAt}
 use Rattle.opening_check.specs.OpeningCheck.{givenBy}
+use Rattle.opening_check.proofs.OneOpening.{given-labels}
 use Rattle.proof_file.specs.FileCheck.{openingsFrom, fileRest, fileCheck}
 use Rattle.check_theory.specs.IsProof.{OpeningRight, nth, IsProof}
 use Rattle.check_theory.proofs.RowLaws.{right-done}
 use Rattle.check_theory.proofs.Parts.{each-at}
-use Rattle.check_theory.proofs.GivenLaws.{given-sized}
 use Rattle.check_theory.proofs.Reading.{head-back, statement-back, root-back, opening-back, length-file}
 use Rattle.check_theory.proofs.Openings.{rowOf, rows-accepted}
 
@@ -61,7 +61,7 @@ module _ (edition : ℕ) (bytes statement : List ℕ) (n t : ℕ) (p : IsProof e
   file-sized i positive small =
       let size : length (nth (p .openings) i) ≡ openingSize n =
       each-at (openingSize n) (p .openings) (p .openingSizes) (i - 1) (omega (arith, p .openingCount)) in
-      given-sized n (openingAt bytes n (length (headNumbers edition n t)) i) (rw (file-opening i positive small) size)
+      given-labels n (openingAt bytes n (length (headNumbers edition n t)) i) (omega (arith, rw (← file-opening i positive small) at size))
 
   pub file-right :
       (i : ℕ) → 1 ≤ i → i ≤ t

@@ -1,20 +1,12 @@
--- An opening's labels: their size, and that it is right or not by those at places 0 to n alone.
+-- An opening is right or not by its labels at places 0 to n alone.
 use mathlib.Core.Path.{_≡_, refl, sym, ap, _∙_}
-use Prim.Native.Nat.{ℕ, zero, suc, _+_, _-_, _*_, _≤_}
+use Prim.Native.Nat.{ℕ, zero, suc, _+_, _-_, _≤_}
 use native.Mathlib.Omega.{arith}
-use mathlib.Core.List.{List}
-use lib.ListN.{length, drop, length-drop}
-use lib.Seq.{length-take-le}
 use Rattle.tree.specs.Nodes.{node}
 use Rattle.tree.specs.Labels.{Label, Rule}
-use Rattle.tree.specs.Openings.{Given, computed, inputAt, Right, openingSize}
+use Rattle.tree.specs.Openings.{Given, computed, inputAt, Right}
 use Rattle.tree.specs.TreeOpening.{leftGiven}
-use Rattle.tree.specs.Disagreement.{Given32}
 use Rattle.tree.proofs.OpeningLaws.{input-leaf}
-use Rattle.opening_check.specs.OpeningCheck.{givenBy}
-
-pub given-sized : (n : ℕ) (bytes : List ℕ) → length bytes ≡ openingSize n → Given32 n (givenBy bytes)
-given-sized n bytes size i small = length-take-le 32 (drop (32 * i) bytes) (rw length-drop (omega arith))
 
 module _ (r : Rule) (n leaf : ℕ) (given given′ : Given) (same : (i : ℕ) → i ≤ n → given i ≡ given′ i) where
   computed-same : (h : ℕ) → h ≤ n → computed r n leaf given h ≡ computed r n leaf given′ h

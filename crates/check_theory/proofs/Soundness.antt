@@ -15,6 +15,8 @@ use Rattle.base.specs.Lists.{EachOf, sameBytes}
 use Rattle.base.proofs.ChoiceLaws.{both-first, both-second}
 use Rattle.base.proofs.ListsLaws.{tells-bytes}
 use Rattle.refusal.specs.Row.{outside}
+use Rattle.tree.specs.Labels.{cut}
+use Rattle.tree.proofs.Cut.{length-cut, cut-sizes, joined-cut}
 use Rattle.groups.specs.Groups.{groups}
 use Rattle.groups.specs.Reading.{readAt}
 use Rattle.groups.proofs.ShortestOnly.{Shortest, only-shortest}
@@ -27,7 +29,6 @@ use Rattle.proof_file.proofs.HeadLaws.{passed, head-number}
 use Rattle.check_theory.specs.IsProof.{OpeningRight, nth, IsProof}
 use Rattle.check_theory.specs.Heads.{NumbersRead}
 use Rattle.check_theory.proofs.RowLaws.{second-picked, bounds, done-right}
-use Rattle.check_theory.proofs.Parts.{cut, length-cut, cut-sizes, joined-cut}
 use Rattle.check_theory.proofs.Reading.{opening-back}
 use Rattle.check_theory.proofs.Openings.{rowOf, accepted-rows}
 

@@ -21,7 +21,7 @@ use Rattle.tree.specs.Nodes.{Node}
 use Rattle.tree.specs.Labels.{Label, Rule, labelBy, inLabels}
 use Rattle.tree.specs.Openings.{Given, childLabels, computed, openingSize}
 use Rattle.tree.specs.Disagreement.{childrenKnown}
-use Rattle.tree.proofs.Ordered.{labels-back}
+use Rattle.tree.proofs.Cut.{labels-back}
 use Rattle.tree.proofs.Clash.{children-known}
 use Rattle.label.specs.Rule.{stampRule}
 use Rattle.opening_check.specs.OpeningCheck.{givenBy}

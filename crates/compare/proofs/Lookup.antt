@@ -14,7 +14,7 @@ use Rattle.base.proofs.BytesLaws.{joined-injective}
 use Rattle.base.proofs.ListsLaws.{tells-bytes, test-false}
 use Rattle.tree.specs.Labels.{Label, Rule, documentInput, inLabels}
 use Rattle.tree.specs.Disagreement.{Given32, wayNode, shared, childrenKnown}
-use Rattle.tree.proofs.Ordered.{labels-back}
+use Rattle.tree.proofs.Cut.{labels-back}
 use Rattle.tree.proofs.Clash.{children-count, children-sized, input-children, labels-agree, labels-disagree, unshared-agrees}
 use Rattle.tree.specs.Openings.{openingSize}
 use Rattle.label.specs.Rule.{stampRule}

@@ -139,8 +139,8 @@ module _ (bytes statement : List ℕ) (n t : ℕ) where
   unfolding pairOf firstDisagreement
   disagree-first i j l e =
       let f =
-      pair-first (disagreement (stampRule (proofEdition bytes) n statement) n (leavesOf bytes statement n t) (openingsOf bytes)) n t
-      i j l (rw leaves-length at e) in
+      pair-first (disagreement (stampRule (proofEdition bytes) n statement) n (leavesOf bytes statement n t) (openingsOf bytes)) n t i j l
+      (rw leaves-length at e) in
       record {
         positive = f .positive;
         ordered = f .ordered;

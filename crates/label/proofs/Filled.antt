@@ -1,18 +1,19 @@
 -- A label's input, written part by part into a zeroed buffer of a given width.
 use mathlib.Core.Path.{_≡_, refl, sym, ap, _∙_}
 use mathlib.Core.List.{List, [], _∷_, _++_, append-assoc}
-use Prim.Native.Nat.{ℕ, _+_, _-_, _*_, _%_, _≤_, _<_}
+use Prim.Native.Nat.{ℕ, _+_, _-_, _%_, _≤_}
 use native.Mathlib.Nat.{mod-eq-of-lt}
 use native.Mathlib.Omega.{arith}
 use lib.ListN.{length, take, length-append}
 use lib.Seq.{take-at}
 use Rattle.base.specs.Limits.{maxDepth}
-use Rattle.base.specs.Bytes.{bigEndian, zeros, joined, written}
+use Rattle.base.specs.Bytes.{bigEndian, zeros, written}
 use Rattle.base.proofs.BytesLaws.{length-bigEndian}
 use Rattle.base.proofs.Zeros.{filled-more}
 use Rattle.tree.specs.Nodes.{Node, node}
 use Rattle.tree.specs.Labels.{ordered, tag, inputHead, documentInput, inLabels}
-use Rattle.tree.proofs.Ordered.{tag-byte, bytes-back}
+use Rattle.tree.proofs.Ordered.{tag-byte}
+use Rattle.tree.proofs.Cut.{bytes-back}
 use Rattle.tree.proofs.DocumentRule.{length-head}
 
 module _ (edition n : ℕ) (statement : List ℕ) (level position : ℕ) (front rest : List ℕ) where

@@ -24,7 +24,7 @@ use Rattle.tree.specs.Openings.{Given, childLabels, computed, inputAt, openingS
 use Rattle.tree.specs.TreeOpening.{leftGiven}
 use Rattle.tree.proofs.InputLengths.{ones-zero}
 use Rattle.tree.specs.Disagreement.{Given32}
-use Rattle.tree.proofs.Ordered.{labels-back, two-labels}
+use Rattle.tree.proofs.Cut.{labels-back, two-labels}
 use Rattle.tree.proofs.OpeningLaws.{halved, input-leaf, left-each}
 use Rattle.label.specs.Rule.{stampRule}
 use Rattle.label.proofs.Walking.{full}

@@ -22,7 +22,7 @@ use Rattle.tree.specs.Rules.{Hash32}
 use Rattle.tree.specs.Held.{heldBelow}
 use Rattle.tree.proofs.Order.{Inside, order-at, inside-level}
 use Rattle.tree.proofs.Parents.{leftSiblingsBelow-count, parents-of-inner}
-use Rattle.tree.proofs.Ordered.{labels-back}
+use Rattle.tree.proofs.Cut.{labels-back}
 use Rattle.tree.proofs.Labelling.{label-parents}
 use Rattle.tree.proofs.HeldLaws.{heldBelow-before, heldBelow-after, heldBelow-few, held-start, held-all, leaf-parents, inner-parents}
 use Rattle.label.proofs.RuleLaws.{digest-length, stamp-hash}

@@ -5,6 +5,7 @@ pub mod HeldLaws
 pub mod Slots
 pub mod Labelling
 pub mod Ordered
+pub mod Cut
 pub mod DocumentRule
 pub mod InputLengths
 pub mod OpeningLaws

@@ -36,14 +36,14 @@ inputHead edition n statement v = statement ++ tag edition n (v .level) ∷ bigE
 unfoldable pub documentInput : ℕ → ℕ → List ℕ → Node → List Label → List ℕ
 documentInput edition n statement v labels = inputHead edition n statement v ++ joined (ordered edition labels)
 
--- the first k labels, of 32 bytes each, of those that lie end to end
-unfoldable pub cutLabels : ℕ → List ℕ → List Label
-cutLabels zero bytes = []
-cutLabels (suc k) bytes = take 32 bytes ∷ cutLabels k (drop 32 bytes)
+-- bytes cut into k parts of w
+unfoldable pub cut : ℕ → ℕ → List ℕ → List (List ℕ)
+cut w zero bytes = []
+cut w (suc k) bytes = take w bytes ∷ cut w k (drop w bytes)
 
--- bytes as the labels that lie in them end to end
+-- bytes as the labels of 32 bytes that lie in them end to end
 unfoldable pub inLabels : List ℕ → List Label
-inLabels bytes = cutLabels (length bytes / 32) bytes
+inLabels bytes = cut 32 (length bytes / 32) bytes
 
 -- the length of a node's input: 41 bytes, and 32 for each parent
 unfoldable pub inputSize : ℕ → Node → ℕ

@@ -62,17 +62,34 @@ call-made c =
 add-made : tie.Need-add-made Inv-loop μ-loop
 add-made c =
     let call = c .before .before .before .before in
-    omega (arith, call-made call, all-few (call .before .before .before .before .before .before .before .before .before), call .before .before .before .loop .inv .0)
+    omega (
+      arith,
+      call-made call,
+      all-few (call .before .before .before .before .before .before .before .before .before),
+      call .before .before .before .loop .inv .0,
+    )
 
 add-show-progress : tie.Need-add-show-progress Inv-loop μ-loop
 add-show-progress c =
     let call = c .before .before .before .before in
-    omega (arith, call-made call, all-few (call .before .before .before .before .before .before .before .before .before), call .before .before .before .loop .inv .0, call .before .before .before .before .before .before .before .before .before .before .before .before .pre .1 .1)
+    omega (
+      arith,
+      call-made call,
+      all-few (call .before .before .before .before .before .before .before .before .before),
+      call .before .before .before .loop .inv .0,
+      call .before .before .before .before .before .before .before .before .before .before .before .before .pre .1 .1,
+    )
 
 loop-less : tie.Need-loop-less Inv-loop μ-loop
 loop-less c =
     let call = c .before .before .before .before .before in
-    omega (arith, call-made call, all-few (call .before .before .before .before .before .before .before .before .before), call .before .before .loop-test .taken, call .before .before .before .before .before .before .before .before .before .before .before .before .pre .1 .0)
+    omega (
+      arith,
+      call-made call,
+      all-few (call .before .before .before .before .before .before .before .before .before),
+      call .before .before .loop-test .taken,
+      call .before .before .before .before .before .before .before .before .before .before .before .before .pre .1 .0,
+    )
 
 loop-again : tie.Need-loop-again Inv-loop μ-loop
 loop-again c =
