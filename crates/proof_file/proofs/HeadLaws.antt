@@ -8,7 +8,7 @@ use native.Mathlib.Omega.{arith}
 use borrow.Author.Tests.{eq-eqb, ne-eqb, eqb-true, not-true}
 use lib.Dec.{eqb}
 use lib.ListN.{length, take, drop, getD}
-use Rattle.base.specs.Limits.{maxDepth, maxChallenges, maxOpenings, IsDepth, IsCount}
+use Rattle.base.specs.Limits.{maxDepth, maxChallenges, edition, maxOpenings, IsDepth, IsCount}
 use Rattle.base.proofs.ChoiceLaws.{both-first, both-second}
 use Rattle.refusal.specs.Row.{outside}
 use Rattle.groups.specs.Reading.{Answer, value, refused, readAt, checked}
@@ -51,7 +51,7 @@ module _ (bytes : List ℕ) (at : ℕ) where
   depth-read n end e b = checked-next notRead (readAt bytes at 2) (outside 1 maxDepth) 1 (countFrom bytes) n end e b
 
 abbrev notEdition : ℕ → Bool
-notEdition e = not (eqb e 1)
+notEdition e = not (eqb e edition)
 
 module _ (bytes : List ℕ) where
   by-steps : headOf bytes ≡ checked notRead (readAt bytes 0 2) notEdition 12 (λ e at. depthFrom bytes at)
@@ -61,13 +61,13 @@ module _ (bytes : List ℕ) where
   pub edition-refused : (r : ℕ) → readAt bytes 0 2 ≡ refused r → notRead r ≡ headOf bytes
   edition-refused r e = checked-refused notRead (readAt bytes 0 2) notEdition 12 (λ e at. depthFrom bytes at) r e ∙ sym by-steps
 
-  pub edition-bad : (x end : ℕ) → readAt bytes 0 2 ≡ value x end → (x ≡ 1 → ⊥) → notRead 12 ≡ headOf bytes
+  pub edition-bad : (x end : ℕ) → readAt bytes 0 2 ≡ value x end → (x ≡ edition → ⊥) → notRead 12 ≡ headOf bytes
   edition-bad x end e b =
-      checked-bad notRead (readAt bytes 0 2) notEdition 12 (λ e at. depthFrom bytes at) x end e (rw (ne-eqb x 1 b)) ∙ sym by-steps
+      checked-bad notRead (readAt bytes 0 2) notEdition 12 (λ e at. depthFrom bytes at) x end e (rw (ne-eqb x edition b)) ∙ sym by-steps
 
-  pub edition-read : (x end : ℕ) → readAt bytes 0 2 ≡ value x end → x ≡ 1 → depthFrom bytes end ≡ headOf bytes
+  pub edition-read : (x end : ℕ) → readAt bytes 0 2 ≡ value x end → x ≡ edition → depthFrom bytes end ≡ headOf bytes
   edition-read x end e b =
-      checked-next notRead (readAt bytes 0 2) notEdition 12 (λ e at. depthFrom bytes at) x end e (rw (eq-eqb x 1 b)) ∙ sym by-steps
+      checked-next notRead (readAt bytes 0 2) notEdition 12 (λ e at. depthFrom bytes at) x end e (rw (eq-eqb x edition b)) ∙ sym by-steps
 
 -- ---- the numbers of a head that was read
 -- a number that was not refused
