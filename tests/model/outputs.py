@@ -60,7 +60,7 @@ def sha256_vectors():
     return text
 
 
-# run_vectors, run_edge_vectors
+# run_vectors
 
 RUNS = """1 0 0|2 1 0|3 3 3|4 3 3|5 1 0|6 3 0|7 6 6|8 0 7|9 4 3|10 9 1|11 5 0|12 0 0|13 10 8|14 0 14|15 12 6|16 13 0"""
 
@@ -88,7 +88,7 @@ RUN_EDGES = [
 ]
 
 
-def run_edge_vectors():
+def run_edges():
     text = ""
     for n, m, made, size in RUN_EDGES:
         store = bytearray([90] * size)
@@ -103,7 +103,7 @@ def run_edge_vectors():
     return text
 
 
-# opening_vectors, opening_check_vectors
+# opening_vectors
 
 
 def opened(labels, m, leaf, size):
@@ -147,7 +147,7 @@ def flipped(data, at, mask):
     return data[:at] + bytes([data[at] ^ mask]) + data[at + 1 :]
 
 
-def opening_check_vectors():
+def openings_checked():
     text = ""
     for n in range(1, 7):
         labels = tree(sha(b"openings"), n)
@@ -161,7 +161,7 @@ def opening_check_vectors():
                 answers = [md.check_opening(statement, n, l, r, o) for l, r, o in tries]
                 changed = [md.check_opening(statement, n, leaf, root, flipped(out, at, 4)[:size]) for at in range(5, size, 33)]
                 text += f"leaf {leaf} {' '.join(map(str, answers))} changed {' '.join(map(str, changed))}\n"
-    for field, n, t, _ in lines("opening_check_vectors"):
+    for field, n, t, _ in lines("opening_vectors"):
         labels = tree(sha(report(field)), int(n))
         digest = sha(labels.file(int(t))[len(md.head(md.ZERO, md.ZERO, int(n), int(t))) :]).hex()
         for m in range(int(n) + 1):
@@ -169,7 +169,7 @@ def opening_check_vectors():
     return text
 
 
-# file_vectors, file_edge_vectors
+# file_vectors
 
 
 def written(labels, m, t, budget):
@@ -211,7 +211,7 @@ FILE_EDGES = [
 ]
 
 
-def file_edge_vectors():
+def file_edges():
     text = ""
     for n, m, t, number, leaf, made, store_len, file_len in FILE_EDGES:
         store, file = bytearray([1] * store_len), bytearray([2] * file_len)

@@ -1,8 +1,10 @@
 // The shared files, which are the standard input, written again from their reports, at several memory levels and budgets, and
 // checked; and their openings read as parts. The stored output has the shared files' digests and an independent model's answers.
+mod edges; // edges.rt: refusals of starting and continuing to write a file
 mod parts; // parts.rt: openings read as parts
 
 use base::label_at;
+use edges::edges;
 use parts::every_part;
 use proof_file::check_file_code;
 use refusal::outcome_number;
@@ -111,4 +113,5 @@ fn main() {
     let mut input = io::large_buffer();
     let read = io::read_full(0, &mut input);
     every_line(&input[..read]);
+    edges();
 }

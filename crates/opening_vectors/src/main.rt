@@ -1,5 +1,11 @@
-// Every leaf of small trees opened at every memory level and several budgets, and each refusal at its edge. The stored output
-// has the digests of an independent model's openings.
+// Every leaf of small trees opened at every memory level and several budgets, each refusal at its edge, and openings checked upward to
+// the root: those of small trees and those of the shared files, which are the standard input. The stored output has the digests of an
+// independent model's openings and answers, and of the shared files' parts.
+mod challenged; // challenged.rt: the openings of the shared files
+mod checked; // checked.rt: openings checked upward to the root
+
+use challenged::every_line;
+use checked::depth_checked;
 use opening::Opening;
 use refusal::outcome_number;
 use sha256::Hash;
@@ -184,6 +190,19 @@ fn edges() {
     );
 }
 
+// The openings of small trees, and those of the shared files.
+fn check_upward() {
+    depth_checked(1, 2);
+    depth_checked(2, 4);
+    depth_checked(3, 8);
+    depth_checked(4, 16);
+    depth_checked(5, 32);
+    depth_checked(6, 64);
+    let mut input = io::large_buffer();
+    let read = io::read_full(0, &mut input);
+    every_line(&input[..read]);
+}
+
 fn main() {
     depth(1, 2);
     depth(2, 4);
@@ -192,4 +211,5 @@ fn main() {
     depth(5, 32);
     depth(6, 64);
     edges();
+    check_upward();
 }

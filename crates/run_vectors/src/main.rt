@@ -1,6 +1,9 @@
-// Runs to their end at several budgets and memory levels. The stored output has the roots and store digests of the shared
-// vectors, and of an independent model.
+// Runs to their end at several budgets and memory levels, and the edges of each refusal. The stored output has the roots and store
+// digests of the shared vectors, and of an independent model.
+mod edges; // edges.rt: starting and continuing at the edges of each refusal
+
 use base::wide;
+use edges::edges;
 use run::Run;
 use vector_runs::hash;
 use vector_runs::run_to_end;
@@ -137,4 +140,5 @@ fn main() {
     part_1();
     part_2();
     part_3();
+    edges();
 }

@@ -1,0 +1,153 @@
+// Refusals of starting and continuing to write a file, at their edges. The stored output has an independent model's answers.
+use opening::Opening;
+use refusal::outcome_number;
+use vector_runs::hash;
+use vector_text::column;
+use vector_text::flag;
+use writing::Writing;
+
+// What starting answers, and whether the file is changed.
+fn starts(n: u64, m: u64, t: u64, store: &[u8], file: &mut [u8]) {
+    let before = hash(file);
+    let start = Writing::start([7u8; 32], [8u8; 32], n, m, t, store, file);
+    let outcome = start.outcome;
+    vector_text::text(b": start");
+    column(outcome_number(outcome));
+    flag(check::same(&before, &hash(file)));
+}
+
+// An opening under way in a file under writing.
+fn under_way(n: u64, m: u64, t: u64, number: u64, leaf: u64, made: u64) -> Writing {
+    let held = [9u8; 1312];
+    let opening = Opening {
+        statement: [7u8; 32],
+        depth: n,
+        memory: m,
+        leaf,
+        made,
+        held,
+    };
+    let root = [8u8; 32];
+    Writing {
+        root,
+        count: t,
+        number,
+        opening,
+    }
+}
+
+// The same of continuing by one label.
+fn continues(writing: Writing, store: &[u8], file: &mut [u8]) {
+    let before = hash(file);
+    let step = writing.advance(1, store, file);
+    let outcome = step.outcome;
+    vector_text::text(b" continue");
+    column(outcome_number(outcome));
+    vector_text::text(b" labels");
+    column(step.labels);
+    flag(check::same(&before, &hash(file)));
+    let after = step.writing;
+    whole(after);
+}
+
+// Every number of a writing, and the digests of its root, statement and places.
+fn whole(writing: Writing) {
+    let root = writing.root;
+    let opening = writing.opening;
+    let statement = opening.statement;
+    let held = opening.held;
+    column(writing.count);
+    column(writing.number);
+    column(opening.depth);
+    column(opening.memory);
+    column(opening.leaf);
+    column(opening.made);
+    digest(&root);
+    digest(&statement);
+    digest(&held);
+}
+
+fn digest(bytes: &[u8]) {
+    vector_text::text(b" ");
+    vector_text::hex(&hash(bytes));
+}
+
+fn starts_at(n: u64, m: u64, t: u64, store: usize, file: usize) {
+    let space = [1u8; 4064];
+    let mut output = [2u8; 1024];
+    if 4064 < store {
+        return;
+    }
+    if 1024 < file {
+        return;
+    }
+    starts(n, m, t, &space[..store], &mut output[..file]);
+}
+
+fn continues_at(writing: Writing, store: usize, file: usize) {
+    let space = [1u8; 4064];
+    let mut output = [2u8; 1024];
+    if 4064 < store {
+        return;
+    }
+    if 1024 < file {
+        return;
+    }
+    continues(writing, &space[..store], &mut output[..file]);
+}
+
+// Starting with these numbers, and continuing opening `number` with `made` labels made.
+fn edge(n: u64, m: u64, t: u64, number: u64, leaf: u64, made: u64, store: usize, file: usize) {
+    vector_text::text(b"edge");
+    column(n);
+    column(m);
+    column(t);
+    column(number);
+    column(leaf);
+    column(made);
+    column(store as u64);
+    column(file as u64);
+    starts_at(n, m, t, store, file);
+    continues_at(under_way(n, m, t, number, leaf, made), store, file);
+    vector_text::text(b"\n");
+}
+
+fn starting() {
+    edge(0, 0, 1, 1, 0, 0, 32, 131);
+    edge(41, 0, 1, 1, 0, 0, 32, 1024);
+    edge(18446744073709551615, 18446744073709551615, 0, 0, 0, 0, 0, 0);
+    edge(3, 4, 1, 1, 0, 0, 992, 1024);
+    edge(3, 3, 1, 1, 7, 0, 479, 1024);
+    edge(3, 3, 1, 1, 7, 0, 480, 194);
+    edge(3, 3, 1, 1, 7, 0, 480, 195);
+    edge(3, 3, 0, 1, 7, 0, 480, 1024);
+    edge(3, 3, 201, 1, 7, 0, 480, 1024);
+    edge(3, 3, 0, 1, 7, 0, 479, 0);
+    edge(3, 3, 0, 1, 7, 0, 480, 0);
+    edge(40, 0, 1, 1, 0, 0, 32, 1024);
+    edge(1, 0, 1, 1, 0, 0, 32, 131);
+    edge(1, 0, 1, 1, 0, 0, 32, 130);
+    edge(1, 0, 1, 1, 0, 0, 31, 130);
+}
+
+fn continuing() {
+    edge(3, 1, 2, 1, 7, 0, 96, 323);
+    edge(3, 1, 2, 2, 7, 0, 96, 323);
+    edge(3, 1, 2, 3, 7, 0, 96, 323);
+    edge(3, 1, 2, 0, 7, 0, 96, 323);
+    edge(3, 1, 2, 2, 8, 0, 96, 323);
+    edge(3, 1, 2, 2, 7, 6, 96, 323);
+    edge(3, 1, 2, 2, 7, 7, 96, 323);
+    edge(3, 1, 2, 2, 7, 7, 95, 322);
+    edge(3, 1, 2, 2, 7, 6, 95, 322);
+    edge(3, 1, 2, 2, 7, 6, 96, 322);
+    edge(3, 1, 2, 18446744073709551615, 7, 0, 96, 323);
+    edge(3, 1, 18446744073709551615, 1, 7, 0, 96, 323);
+    edge(3, 1, 2, 1, 18446744073709551615, 0, 96, 323);
+    edge(3, 1, 2, 1, 7, 18446744073709551615, 96, 323);
+}
+
+pub fn edges() {
+    starting();
+    continuing();
+}
