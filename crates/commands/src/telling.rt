@@ -46,7 +46,7 @@ pub fn tell_verdict(file: &[u8], statement: [u8; 32], depth: u64, count: u64, ou
     write_out(&text, line.length, out, err)
 }
 
-// Prints `chainText` of chain_lines' specs/Text.antt: of the drawing by the depth and count of the head.
+// Prints `chainText` of verdict_lines' specs/Text.antt: of the drawing by the depth and count of the head.
 pub fn tell_chain(file: &[u8], statement: [u8; 32], out: i32, err: i32) {
     let wanted = wanted_in(file);
     let depth = wanted.depth;

@@ -1,4 +1,4 @@
--- Demand 3, each sentence with its proof, from crate `drawn`.
+-- Demand 3, each sentence with its proof, from crate `draw_theory`.
 use Prim.Native.Nat.{ℕ, _<_}
 use mathlib.Core.List.{List}
 use lib.ListN.{length, getD}

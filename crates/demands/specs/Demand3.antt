@@ -1,4 +1,4 @@
--- Demand 3, sentence by sentence, in the words of crate `drawn`, specs/Demand3.antt.
+-- Demand 3, sentence by sentence, in the words of crate `draw_theory`, specs/Demand3.antt.
 use mathlib.Core.Path.{_≡_}
 use mathlib.Core.Logic.{_⊎_, _↔_}
 use Prim.Native.Nat.{ℕ, _≤_, _<_}

@@ -1,4 +1,4 @@
--- `week::obey` meets its contract: an order to seal has passed its row.
+-- `commands::obey` meets its contract: an order to seal has passed its row.
 use mathlib.Core.Path.{sym, _∙_}
 use Rattle.words.proofs.OrderLaws.{seal-checked}
 use borrow.Author.Needs.{needs}

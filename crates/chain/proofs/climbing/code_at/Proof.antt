@@ -1,4 +1,4 @@
--- `climbing::code_at` meets its contract.
+-- `chain::climbing::code_at` meets its contract.
 use Prim.Native.Nat.{_^_}
 use lib.ListN.{getD}
 use Rattle.chain_theory.proofs.Turns.{next-leaf, next-none}

@@ -1,4 +1,4 @@
--- `climbing::count_climb` meets its contract. The invariant: what is counted and what is left to climb are the whole climb.
+-- `chain::climbing::count_climb` meets its contract. The invariant: what is counted and what is left to climb are the whole climb.
 use Rattle.chain.proofs.Writing.{climb-ended}
 use Rattle.chain_theory.proofs.Plan.{climb-met}
 use Rattle.chain_theory.proofs.Turns.{count-climb}

@@ -1,4 +1,4 @@
--- `climbing::count_plan` meets its contract. The invariant: what is counted and what the leaves from i on write are the whole plan.
+-- `chain::climbing::count_plan` meets its contract. The invariant: what is counted and what the leaves from i on write are the whole plan.
 use Rattle.base.specs.Limits.{maxDepth}
 use Rattle.chain.proofs.Writing.{plan-count}
 use Rattle.chain_theory.proofs.Turns.{planFrom-end}

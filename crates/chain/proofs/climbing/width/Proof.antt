@@ -1,4 +1,4 @@
--- `climbing::width` meets its contract: the shift does not wrap.
+-- `chain::climbing::width` meets its contract: the shift does not wrap.
 use lib.Pow.{pow-mono, shl-exact}
 use native.Mathlib.Omega.{arith}
 use borrow.Author.Needs.{needs}

@@ -1,4 +1,4 @@
--- `climbing::write_climb` meets its contract. The invariant: writing what is left from here on gives the whole climb written.
+-- `chain::climbing::write_climb` meets its contract. The invariant: writing what is left from here on gives the whole climb written.
 use Rattle.chain.proofs.Writing.{climb-ended, climb-written, all-written}
 use Rattle.chain_theory.proofs.Plan.{climb-met}
 use Rattle.chain_theory.proofs.Turns.{count-climb}

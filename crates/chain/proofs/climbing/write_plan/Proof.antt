@@ -1,4 +1,4 @@
--- `climbing::write_plan` meets its contract. The invariant: writing what the leaves from i on write gives the whole plan written.
+-- `chain::climbing::write_plan` meets its contract. The invariant: writing what the leaves from i on write gives the whole plan written.
 use Rattle.chain.proofs.Writing.{plan-count, plan-written, all-written}
 use Rattle.chain_theory.proofs.Turns.{planFrom-end}
 use Rattle.chain_theory.specs.Planning.{planFrom}

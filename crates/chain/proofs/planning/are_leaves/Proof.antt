@@ -1,4 +1,4 @@
--- `planning::are_leaves` meets its contract. The invariant: those before i are leaves.
+-- `chain::planning::are_leaves` meets its contract. The invariant: those before i are leaves.
 use Rattle.chain_theory.proofs.Lists.{at-every, not-every}
 use Rattle.chain_theory.specs.Planning.{isLeaf}
 use borrow.Author.Tests.{lt-ltb, le-ltb}

@@ -1,4 +1,4 @@
--- `planning::check_leaves` meets its contract: one law for each exit.
+-- `chain::planning::check_leaves` meets its contract: one law for each exit.
 use Rattle.base.specs.Limits.{maxDepth, maxChallenges}
 use Rattle.refusal.proofs.Ranges.{below-range, above-range, in-range}
 use Rattle.chain.proofs.Rows.{row-depth, row-count, row-leaf, row-done}

@@ -1,4 +1,4 @@
--- `planning::different_leaves` meets its contract: the sorted leaves are as many as there are different ones.
+-- `chain::planning::different_leaves` meets its contract: the sorted leaves are as many as there are different ones.
 use Rattle.chain_theory.proofs.Sorting.{length-sorted}
 use borrow.Author.Tests.{le-leb, lt-leb}
 use mathlib.Core.Path.{_∙_}

@@ -1,4 +1,4 @@
--- `planning::plan` meets its contract: refused by the first three checks, or left to the list.
+-- `chain::planning::plan` meets its contract: refused by the first three checks, or left to the list.
 use Rattle.chain.proofs.Rows.{leaves-refused}
 use Rattle.refusal.proofs.RowLaws.{is-done, refused-number}
 use borrow.Author.Needs.{needs}

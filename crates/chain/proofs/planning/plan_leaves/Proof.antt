@@ -1,4 +1,4 @@
--- `planning::plan_leaves` meets its contract: the list is short, or the whole plan is written.
+-- `chain::planning::plan_leaves` meets its contract: the list is short, or the whole plan is written.
 use Rattle.chain.proofs.Rows.{leaves-known, sorted-known, list-refused, list-done}
 use lib.ListN.{length, length-take}
 use native.Mathlib.Omega.{arith}

@@ -1,4 +1,4 @@
--- `week::arguments::run` meets its contract.
+-- `commands::arguments::run` meets its contract.
 use mathlib.Core.Path.{sym}
 use native.Mathlib.Omega.{arith}
 use lib.Seq.{length-take-le}

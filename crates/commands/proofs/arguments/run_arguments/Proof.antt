@@ -1,4 +1,4 @@
--- `week::arguments::run_arguments` meets its contract.
+-- `commands::arguments::run_arguments` meets its contract.
 use Prim.Native.Nat.{_-_}
 use lib.ListN.{length}
 use mathlib.Core.Path.{_≡_}

@@ -1,4 +1,4 @@
--- `files::folder::after_slash` meets its contract.
+-- `commands::folder::after_slash` meets its contract.
 use borrow.Author.Tests.{eq-eqb, ne-eqb}
 use borrow.Author.Needs.{needs}
 use Rattle.commands.proofs.folder.after_slash.Statement.{statement}

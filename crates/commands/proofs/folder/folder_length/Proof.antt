@@ -1,4 +1,4 @@
--- `files::folder::folder_length` meets its contract.
+-- `commands::folder::folder_length` meets its contract.
 use mathlib.Core.Path.{_≡_, refl}
 use Prim.Native.Nat.{_-_, _≤_}
 use native.Mathlib.Omega.{arith}

@@ -1,4 +1,4 @@
--- `files::folder::sync_folder` meets its contract.
+-- `commands::folder::sync_folder` meets its contract.
 use mathlib.Core.Path.{sym}
 use native.Mathlib.Omega.{arith}
 use lib.Seq.{length-take-le}

@@ -1,4 +1,4 @@
--- `judge::heads::wanted_in` meets its contract.
+-- `commands::heads::wanted_in` meets its contract.
 use mathlib.Core.Path.{sym, ap, _∙_}
 use borrow.Author.Needs.{needs}
 use Rattle.proof_file.specs.Head.{headAnswer, headDepth, headCount}

@@ -1,4 +1,4 @@
--- `files::reading::goes_on` meets its contract.
+-- `commands::reading::goes_on` meets its contract.
 use borrow.Author.Tests.{eq-eqb, ne-eqb}
 use borrow.Author.Needs.{needs}
 use Rattle.commands.proofs.reading.goes_on.Statement.{statement}

@@ -1,4 +1,4 @@
--- `files::reading::is_all` meets its contract.
+-- `commands::reading::is_all` meets its contract.
 use borrow.Author.Tests.{eq-eqb, ne-eqb}
 use borrow.Author.Needs.{needs}
 use Rattle.commands.proofs.reading.is_all.Statement.{statement}

@@ -1,4 +1,4 @@
--- `files::reading::take_all` meets its contract.
+-- `commands::reading::take_all` meets its contract.
 use mathlib.Core.Path.{_≡_, refl, sym, _∙_}
 use lib.ListN.{length}
 use Rattle.base.proofs.ChoiceLaws.{both-first}

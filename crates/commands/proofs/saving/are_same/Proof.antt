@@ -1,4 +1,4 @@
--- `files::saving::are_same` meets its contract.
+-- `commands::saving::are_same` meets its contract.
 use mathlib.Core.Path.{sym, ap}
 use lib.ListN.{length}
 use Rattle.base.proofs.ListsLaws.{tells-bytes, test-differ}

@@ -1,4 +1,4 @@
--- `files::saving::create` meets its contract.
+-- `commands::saving::create` meets its contract.
 use mathlib.Core.Path.{sym}
 use native.Mathlib.Omega.{arith}
 use lib.Seq.{length-take-le}

@@ -1,4 +1,4 @@
--- `files::saving::keep` meets its contract.
+-- `commands::saving::keep` meets its contract.
 use mathlib.Core.Path.{sym}
 use native.Mathlib.Omega.{arith}
 use lib.Seq.{length-take-le}

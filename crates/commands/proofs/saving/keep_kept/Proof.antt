@@ -1,4 +1,4 @@
--- `files::saving::keep_kept` meets its contract.
+-- `commands::saving::keep_kept` meets its contract.
 use mathlib.Core.Path.{sym}
 use native.Mathlib.Omega.{arith}
 use lib.Seq.{length-take-le}

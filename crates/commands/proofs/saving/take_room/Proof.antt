@@ -1,4 +1,4 @@
--- `files::saving::take_room` meets its contract.
+-- `commands::saving::take_room` meets its contract.
 use mathlib.Core.Path.{sym}
 use native.Mathlib.Omega.{arith}
 use lib.Seq.{length-take-le}

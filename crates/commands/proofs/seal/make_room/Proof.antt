@@ -1,4 +1,4 @@
--- `seal::make_room` meets its contract.
+-- `commands::seal::make_room` meets its contract.
 use Rattle.words.proofs.OrderLaws.{seal-bounds}
 use borrow.Author.Needs.{needs}
 use Rattle.commands.proofs.seal.make_room.Statement.{statement}

@@ -1,4 +1,4 @@
--- `seal::say_start` meets its contract.
+-- `commands::seal::say_start` meets its contract.
 use Rattle.words.proofs.OrderLaws.{seal-bounds}
 use borrow.Author.Needs.{needs}
 use Rattle.commands.proofs.seal.say_start.Statement.{statement}

@@ -1,4 +1,4 @@
--- `seal::seal_into` meets its contract: an order to seal fits the program's own store and file.
+-- `commands::seal::seal_into` meets its contract: an order to seal fits the program's own store and file.
 use mathlib.Core.Path.{_≡_, sym}
 use native.Mathlib.Omega.{arith}
 use lib.ListN.{length}

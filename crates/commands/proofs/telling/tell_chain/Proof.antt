@@ -1,4 +1,4 @@
--- `judge::telling::tell_chain` meets its contract: a chain that was drawn stands in the list.
+-- `commands::telling::tell_chain` meets its contract: a chain that was drawn stands in the list.
 use mathlib.Core.Path.{_≡_}
 use native.Mathlib.Omega.{arith}
 use lib.ListN.{length}

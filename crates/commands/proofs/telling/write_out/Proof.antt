@@ -1,4 +1,4 @@
--- `judge::telling::write_out` meets its contract.
+-- `commands::telling::write_out` meets its contract.
 use mathlib.Core.Path.{sym}
 use native.Mathlib.Omega.{arith}
 use lib.Seq.{length-take-le}

@@ -1,4 +1,4 @@
--- `reading::is_readable` meets its contract: the invariant: what is left to read tells the same.
+-- `decimal::reading::is_readable` meets its contract: the invariant: what is left to read tells the same.
 use Rattle.decimal.proofs.ReadLaws.{all-start, all-end, all-turn, all-stop, next-fits}
 use Rattle.decimal.specs.Steps.{allFit}
 use Rattle.decimal.specs.Numbers.{fits}

@@ -1,4 +1,4 @@
--- `reading::push` meets its contract: a number is kept only where it ends.
+-- `decimal::reading::push` meets its contract: a number is kept only where it ends.
 use Rattle.decimal.proofs.ReadLaws.{kept-none, kept-one, none-open, goes-on, ends-here}
 use borrow.Author.Tests.{not-true, not-false}
 use borrow.Author.Needs.{needs}

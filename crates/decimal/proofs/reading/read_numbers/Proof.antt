@@ -1,4 +1,4 @@
--- `reading::read_numbers` meets its contract: the invariant: those kept and those left are all numbers,
+-- `decimal::reading::read_numbers` meets its contract: the invariant: those kept and those left are all numbers,
 -- and zeros stand behind those kept.
 use Rattle.decimal.proofs.ReadLaws.{all-start, all-turn, next-fits, must-go, numbers-turn, numbers-last, first-full, first-all, kept-first}
 use Rattle.decimal.proofs.ReadLaws.{kept-behind, ended-short, all-kept}

@@ -1,4 +1,4 @@
--- `reading::step` meets its contract: one law for each exit.
+-- `decimal::reading::step` meets its contract: one law for each exit.
 use Rattle.decimal.proofs.ReadLaws.{blank-step, feed-step, low-step, high-step, over-step, digit-step}
 use native.Mathlib.Omega.{arith}
 use borrow.Author.Needs.{needs}

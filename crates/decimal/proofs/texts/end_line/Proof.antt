@@ -1,4 +1,4 @@
--- `texts::end_line` meets its contract: one byte.
+-- `decimal::texts::end_line` meets its contract: one byte.
 use Rattle.decimal.proofs.Laying.{one-byte}
 use borrow.Author.Needs.{needs}
 use Rattle.decimal.proofs.texts.end_line.Statement.{statement}

@@ -1,4 +1,4 @@
--- `texts::put_field` meets its contract: the text, then the digits.
+-- `decimal::texts::put_field` meets its contract: the text, then the digits.
 use Prim.Native.Nat.{_-_}
 use lib.ListN.{length, length-drop, drop}
 use mathlib.Core.Path.{ap, refl, _∙_}

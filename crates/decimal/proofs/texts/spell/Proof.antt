@@ -1,4 +1,4 @@
--- `texts::spell` meets its contract: the invariant: the digits of the rest and those laid are the number's,
+-- `decimal::texts::spell` meets its contract: the invariant: the digits of the rest and those laid are the number's,
 -- and zeros stand before them.
 use Rattle.decimal.proofs.Laying.{ten-left, tenth, spelled-more, spelled-last, zeros-more, zeros-last}
 use Rattle.decimal.specs.Text.{digits, decimal}

@@ -1,4 +1,4 @@
--- `same_file::are_equal` meets its contract.
+-- `descriptors::same_file::are_equal` meets its contract.
 use Rattle.descriptors.proofs.SameLaws.{differ, equal}
 use Rattle.descriptors.proofs.same_file.are_equal.Statement.{statement}
 use Rattle.descriptors.proofs.same_file.are_equal.Tie as tie

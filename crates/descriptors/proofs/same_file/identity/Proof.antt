@@ -1,4 +1,4 @@
--- `same_file::identity` meets its contract.
+-- `descriptors::same_file::identity` meets its contract.
 use Rattle.descriptors.proofs.SameLaws.{identity-is, good-by-bits}
 use Rattle.descriptors.proofs.same_file.identity.Statement.{statement}
 use Rattle.descriptors.proofs.same_file.identity.Tie as tie

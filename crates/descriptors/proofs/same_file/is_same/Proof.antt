@@ -1,4 +1,4 @@
--- `same_file::is_same` meets its contract.
+-- `descriptors::same_file::is_same` meets its contract.
 use borrow.Author.Needs.{needs}
 use borrow.Author.Tests.{not-true, not-false}
 use Rattle.descriptors.proofs.SameLaws.{first-fails, second-fails, both-hold}

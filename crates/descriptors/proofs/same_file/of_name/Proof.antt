@@ -1,4 +1,4 @@
--- `same_file::of_name` meets its contract: a walk of its MIR, by hand. The record is lent to `lstat` for a lifetime of the call, and comes back at
+-- `descriptors::same_file::of_name` meets its contract: a walk of its MIR, by hand. The record is lent to `lstat` for a lifetime of the call, and comes back at
 -- some record; of the path a copy is passed.
 -- Assumes nothing.
 use mathlib.Core.Path.{refl, ap}

@@ -1,4 +1,4 @@
--- `standard_streams::occupy` meets its contract.
+-- `descriptors::standard_streams::occupy` meets its contract.
 use borrow.Author.Needs.{needs}
 use Rattle.descriptors.proofs.standard_streams.occupy.Statement.{statement}
 use Rattle.descriptors.proofs.standard_streams.occupy.Tie as tie

@@ -1,4 +1,4 @@
--- `whole_input::read_whole` meets its contract.
+-- `descriptors::whole_input::read_whole` meets its contract.
 use mathlib.Core.Path.{_≡_, sym, _∙_}
 use Prim.Native.Nat.{_-_, _≤_}
 use native.Mathlib.Omega.{arith}

@@ -1,4 +1,4 @@
--- `files::saying::emit` meets its contract.
+-- `lines::saying::emit` meets its contract.
 use mathlib.Core.Path.{sym}
 use native.Mathlib.Omega.{arith}
 use lib.Seq.{length-take-le}

@@ -1,4 +1,4 @@
--- `answering::answer` meets its contract: one law for each exit.
+-- `planning::answering::answer` meets its contract: one law for each exit.
 use Rattle.planning.proofs.InputLaws.{long-input, bad-input, no-number, good-input, plan-printed, input-printed, answered, no-room}
 use Rattle.decimal.proofs.ReadLaws.{kept-all}
 use Rattle.decimal.specs.Numbers.{maxNumbers, numbers}

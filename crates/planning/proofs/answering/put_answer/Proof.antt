@@ -1,4 +1,4 @@
--- `answering::put_answer` meets its contract: the refusal's number, or the plan.
+-- `planning::answering::put_answer` meets its contract: the refusal's number, or the plan.
 use Rattle.planning.proofs.AnswerLaws.{done-row, done-count, done-codes, done-wrote, refused-wrote, few-codes, codes-count}
 use lib.ListN.{length}
 use native.Mathlib.Omega.{arith}

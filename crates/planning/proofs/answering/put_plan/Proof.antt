@@ -1,4 +1,4 @@
--- `answering::put_plan` meets its contract: the invariant: laying out the nodes from i on gives all of them.
+-- `planning::answering::put_plan` meets its contract: the invariant: laying out the nodes from i on gives all of them.
 use Rattle.planning.proofs.AnswerLaws.{nodes-wrote, head-room, plan-wrote, few-codes, codes-count, code-positive, the-node}
 use Rattle.planning.proofs.Laying.{node-short, nodes-short}
 use Rattle.tree.specs.Nodes.{node}

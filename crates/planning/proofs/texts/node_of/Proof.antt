@@ -1,4 +1,4 @@
--- `texts::node_of` meets its contract: the invariant: the width is the level's, and not above the code.
+-- `planning::texts::node_of` meets its contract: the invariant: the width is the level's, and not above the code.
 use Rattle.planning.proofs.Laying.{twice}
 use native.Mathlib.Omega.{arith}
 use Prim.Native.Nat.{_-_, _^_, _≤_, _<_}

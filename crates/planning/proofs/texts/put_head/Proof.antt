@@ -1,4 +1,4 @@
--- `texts::put_head` meets its contract: three fields and a line feed.
+-- `planning::texts::put_head` meets its contract: three fields and a line feed.
 use Rattle.decimal.proofs.Laying.{then, field-end}
 use Rattle.planning.proofs.Laying.{depthWord, leavesWord, chainWord, head-one, head-two, head-short}
 use Rattle.planning.specs.Output.{headText}

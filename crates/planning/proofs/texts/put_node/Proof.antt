@@ -1,4 +1,4 @@
--- `texts::put_node` meets its contract: two fields and a line feed.
+-- `planning::texts::put_node` meets its contract: two fields and a line feed.
 use mathlib.Core.List.{_∷_, []}
 use Rattle.decimal.proofs.Laying.{then, field-end}
 use Rattle.planning.proofs.Laying.{node-one, node-short}

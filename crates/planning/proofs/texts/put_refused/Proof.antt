@@ -1,4 +1,4 @@
--- `texts::put_refused` meets its contract: a field and a line feed.
+-- `planning::texts::put_refused` meets its contract: a field and a line feed.
 use Rattle.decimal.proofs.Laying.{then, field-end}
 use Rattle.planning.proofs.Laying.{refusedWord, refused-short}
 use Rattle.planning.specs.Output.{refusedText}

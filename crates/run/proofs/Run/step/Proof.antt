@@ -1,4 +1,4 @@
--- `Run::step` meets its contract: it is a call with budget 1.
+-- `run::Run::step` meets its contract: it is a call with budget 1.
 use borrow.Author.Needs.{needs}
 use Rattle.run.proofs.Run.step.Statement.{statement}
 use Rattle.run.proofs.Run.step.Tie as tie

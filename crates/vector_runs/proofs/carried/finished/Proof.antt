@@ -1,4 +1,4 @@
--- `carried::finished` meets its contract.
+-- `vector_runs::carried::finished` meets its contract.
 use mathlib.Core.Path.{_∙_}
 use borrow.Author.Needs.{needs}
 use Rattle.vector_runs.proofs.carried.finished.Statement.{statement}

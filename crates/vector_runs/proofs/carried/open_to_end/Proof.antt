@@ -1,4 +1,4 @@
--- `carried::open_to_end` meets its contract. The invariant: the calls left give the same output and number of labels. The measure is
+-- `vector_runs::carried::open_to_end` meets its contract. The invariant: the calls left give the same output and number of labels. The measure is
 -- their number.
 use mathlib.Core.Path.{_≡_, refl, sym, ap, ap₂, _∙_}
 use Prim.Native.Nat.{_+_, _-_, _%_, _^_, _<_}

@@ -1,4 +1,4 @@
--- `carried::run_to_end` meets its contract. The invariant: the calls left give the same run and store. The measure is their number.
+-- `vector_runs::carried::run_to_end` meets its contract. The invariant: the calls left give the same run and store. The measure is their number.
 use mathlib.Core.Path.{_≡_, refl, sym, ap, ap₂, _∙_}
 use Prim.Native.Nat.{_-_}
 use borrow.Author.Needs.{needs}

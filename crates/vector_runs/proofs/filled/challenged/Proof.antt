@@ -1,4 +1,4 @@
--- `filled::challenged` meets its contract. The invariant: the first i leaves are those of challenges 1 to i. The measure is what is left.
+-- `vector_runs::filled::challenged` meets its contract. The invariant: the first i leaves are those of challenges 1 to i. The measure is what is left.
 use Prim.Native.Nat.{_≤_, _-_}
 use native.Mathlib.Omega.{arith}
 use lib.ListN.{length, take}

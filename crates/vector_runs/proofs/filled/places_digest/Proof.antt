@@ -1,4 +1,4 @@
--- `filled::places_digest` meets its contract. The invariant: the places left give the same state. The measure is their number.
+-- `vector_runs::filled::places_digest` meets its contract. The invariant: the places left give the same state. The measure is their number.
 use Prim.Native.Nat.{_≤_, _-_}
 use mathlib.Core.Path.{_≡_, sym, ap, _∙_}
 use mathlib.Core.List.{map}

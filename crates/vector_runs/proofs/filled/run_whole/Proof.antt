@@ -1,4 +1,4 @@
--- `filled::run_whole` meets its contract.
+-- `vector_runs::filled::run_whole` meets its contract.
 use borrow.Author.Needs.{needs}
 use Rattle.vector_runs.proofs.WholeLaws.{run-whole}
 use Rattle.vector_runs.proofs.filled.run_whole.Statement.{statement}

@@ -1,4 +1,4 @@
--- `filled::write_file` meets its contract.
+-- `vector_runs::filled::write_file` meets its contract.
 use mathlib.Core.Path.{ap, _∙_}
 use mathlib.Core.List.{List}
 use Prim.Native.Nat.{ℕ}

@@ -1,4 +1,4 @@
--- `filled::write_whole` meets its contract.
+-- `vector_runs::filled::write_whole` meets its contract.
 use borrow.Author.Needs.{needs}
 use Rattle.vector_runs.proofs.WholeLaws.{file-whole}
 use Rattle.vector_runs.proofs.filled.write_whole.Statement.{statement}

@@ -1,4 +1,4 @@
--- `show::hex` is safe and ends.
+-- `vector_text::show::hex` is safe and ends.
 use native.Mathlib.Omega.{arith}
 use Prim.Native.Nat.{_≤_, _-_}
 use lib.ListN.{length}

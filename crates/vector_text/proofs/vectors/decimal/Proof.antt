@@ -1,4 +1,4 @@
--- `vectors::decimal` meets its contract. The invariant: what is left of the digits gives the same value. The measure is their number.
+-- `vector_text::vectors::decimal` meets its contract. The invariant: what is left of the digits gives the same value. The measure is their number.
 use mathlib.Core.Path.{_≡_, refl, sym, _∙_}
 use native.Mathlib.Omega.{arith}
 use Rattle.vector_text.specs.Text.{decimalFrom}

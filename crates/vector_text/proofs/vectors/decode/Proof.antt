@@ -1,4 +1,4 @@
--- `vectors::decode` meets its contract. The invariant: the bytes spelled so far stand in front. The measure is what is left of the room.
+-- `vector_text::vectors::decode` meets its contract. The invariant: the bytes spelled so far stand in front. The measure is what is left of the room.
 use mathlib.Core.Path.{_≡_, refl}
 use native.Mathlib.Omega.{arith}
 use Rattle.base.specs.Bytes.{written}

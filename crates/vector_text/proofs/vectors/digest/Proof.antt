@@ -1,4 +1,4 @@
--- `vectors::digest` meets its contract.
+-- `vector_text::vectors::digest` meets its contract.
 use borrow.Author.Needs.{needs}
 use Rattle.vector_text.proofs.vectors.digest.Statement.{statement}
 use Rattle.vector_text.proofs.vectors.digest.Tie as tie

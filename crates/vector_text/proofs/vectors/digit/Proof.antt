@@ -1,4 +1,4 @@
--- `vectors::digit` meets its contract: a digit or a letter.
+-- `vector_text::vectors::digit` meets its contract: a digit or a letter.
 use native.Mathlib.Omega.{arith}
 use borrow.Author.Tests.{lt-ltb, le-ltb}
 use borrow.Author.Needs.{needs}

@@ -1,4 +1,4 @@
--- `vectors::end_of` meets its contract. The invariant: no mark was passed. The measure is what is left.
+-- `vector_text::vectors::end_of` meets its contract. The invariant: no mark was passed. The measure is what is left.
 use mathlib.Core.Path.{_≡_, refl, sym, _∙_}
 use native.Mathlib.Omega.{arith}
 use Rattle.vector_text.specs.Text.{endFrom}

@@ -1,4 +1,4 @@
--- `vectors::field` meets its contract.
+-- `vector_text::vectors::field` meets its contract.
 use Rattle.vector_text.specs.Text.{fieldOf}
 use borrow.Author.Needs.{needs}
 use Rattle.vector_text.proofs.vectors.field.Statement.{statement}

@@ -1,4 +1,4 @@
--- `vectors::field_start` meets its contract. The invariant: what is left of the blanks gives the same place. The measure is their number.
+-- `vector_text::vectors::field_start` meets its contract. The invariant: what is left of the blanks gives the same place. The measure is their number.
 use mathlib.Core.Path.{_≡_, refl, sym, _∙_}
 use native.Mathlib.Omega.{arith}
 use Rattle.vector_text.specs.Text.{fieldStart}

@@ -1,4 +1,4 @@
--- `vectors::is_comment` meets its contract: empty or not.
+-- `vector_text::vectors::is_comment` meets its contract: empty or not.
 use borrow.Author.Tests.{eq-eqb, ne-eqb}
 use lib.ListN.{length}
 use borrow.Author.Needs.{needs}
