@@ -1,4 +1,5 @@
--- `descriptors::same_file::of_open` meets its contract: a walk of its MIR, by hand. The record is lent to `fstat` for a lifetime of the call, and comes back at some record.
+-- `descriptors::same_file::of_open` meets its contract: a walk of its MIR, by hand. The record is lent to `fstat` for a lifetime of the call, and
+-- comes back at some record.
 -- Assumes nothing.
 use mathlib.Core.Path.{refl, ap}
 use Prim.Native.Nat.{ℕ}

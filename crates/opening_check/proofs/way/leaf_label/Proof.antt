@@ -76,9 +76,8 @@ slice-aggregate-label-2 c = sym (length-take-le _ _ (array-share-prefix-gathered
 
 label-requires : tie.Need-label-requires Inv-loop μ-loop
 label-requires c κs =
-    let before = c .before .before .before .before .before in
-    let entry = before in
-    let few = few-parents (before) in
+    let entry = c .before .before .before .before .before in
+    let few = few-parents entry in
     let n = entry .pre .0 in (
       (omega arith, omega arith, omega arith),
       omega (

@@ -1,5 +1,6 @@
 -- `run::labels::keep` meets its contract: a slot of levels 0 to m lies inside the store.
-use mathlib.Core.Path.{_∙_}
+use mathlib.Core.Path.{_≡_, _∙_}
+use Prim.Native.Nat.{_*_, _%_, _^_, _≤_, _<_}
 use native.Mathlib.Omega.{arith}
 use lib.Pow.{pow-pos, pow-mono}
 use Rattle.base.specs.Limits.{maxDepth}
@@ -11,60 +12,35 @@ use borrow.Author.Needs.{needs}
 use Rattle.run.proofs.labels.keep.Statement.{statement}
 use Rattle.run.proofs.labels.keep.Tie as tie
 
+-- 2^l is what is computed, and small
+small-power : (c : tie.Start) → let l = c .args .w .level in ((1 * 2 ^ l) % 2 ^ 64 ≡ 2 ^ l) × (0 < 2 ^ l) × (2 ^ l ≤ 2 ^ maxDepth)
+small-power c =
+    let l = c .args .w .level in
+    (full l (c .pre .0), pow-pos l, pow-mono {i = l} {j = maxDepth} (c .pre .0))
+
 sub-at : tie.Need-sub-at
-sub-at c =
-    let entry = c .before .before .before .before in
-    omega (
-      arith,
-      full (entry .args .w .level) (entry .pre .0),
-      pow-pos (entry .args .w .level),
-      pow-mono {i =
-          entry .args .w .level} {j = maxDepth} (entry .pre .0),
-      entry .pre .1,
-    )
+sub-at c = let entry = c .before .before .before .before in omega (arith, small-power entry, entry .pre .1)
 
 add-at : tie.Need-add-at
-add-at c =
-    let entry = c .before .before .before .before .before in
-    omega (
-      arith,
-      full (entry .args .w .level) (entry .pre .0),
-      pow-pos (entry .args .w .level),
-      pow-mono {i =
-          entry .args .w .level} {j = maxDepth} (entry .pre .0),
-      entry .pre .1,
-    )
+add-at c = let entry = c .before .before .before .before .before in omega (arith, small-power entry, entry .pre .1)
 
 mul-at : tie.Need-mul-at
-mul-at c =
-    let entry = c .before .before .before .before .before in
-    omega (
-      arith,
-      full (entry .args .w .level) (entry .pre .0),
-      pow-pos (entry .args .w .level),
-      pow-mono {i =
-          entry .args .w .level} {j = maxDepth} (entry .pre .0),
-      entry .pre .1,
-    )
+mul-at c = let entry = c .before .before .before .before .before in omega (arith, small-power entry, entry .pre .1)
 
 slice-aggregate-put : tie.Need-slice-aggregate-put
 slice-aggregate-put c = search needs
 
 put-requires : tie.Need-put-requires
 put-requires c κs =
-    let before = c .before .before .before .before .before .before .before .before in
-    let entry = before in
-    let s = before in
+    let entry = c .before .before .before .before .before .before .before .before in
     omega (
       arith,
-      full (entry .args .w .level) (entry .pre .0),
-      pow-pos (entry .args .w .level),
-      pow-mono {i = entry .args .w .level} {j = maxDepth} (entry .pre .0),
+      small-power entry,
       entry .pre .1,
       slice-aggregate-put c,
-      s .pre .2,
-      slot-inside (s .args .memory) (node (s .args .w .level) (s .args .w .position))
-          (omega (arith, c .before .before .before .before .before .if1 .taken), s .pre .1),
+      entry .pre .2,
+      slot-inside (entry .args .memory) (node (entry .args .w .level) (entry .args .w .position))
+          (omega (arith, c .before .before .before .before .before .if1 .taken), entry .pre .1),
     )
 
 returns : tie.Need-returns
