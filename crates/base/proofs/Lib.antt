@@ -5,3 +5,4 @@ pub mod Copying
 pub mod Zeros
 pub mod WrittenLaws
 pub mod Parts
+pub mod Powers

@@ -1,6 +1,6 @@
 -- Equal drawings have the same numbers, and so have equal pairs and equal heads.
 use mathlib.Core.Path.{_≡_, ap}
-use Rattle.proof_file.specs.Head.{HeadAnswer, headRefusal, headDepth, headCount}
+use Rattle.file_head.specs.Head.{HeadAnswer, headRefusal, headDepth, headCount}
 use Rattle.compare.specs.declared.Pair.{Pair}
 use Rattle.draw.specs.Drawing.{DrawingAnswer}
 use Rattle.capi.specs.Answers.{firstOf, secondOf, levelOf, kindOf, refusalOf, countOf}

@@ -3,11 +3,11 @@ ghost use mathlib.Core.Path.{_≡_};
 ghost use lib.ListN.{length};
 ghost use Rattle.base.specs.Limits.{edition};
 ghost use Rattle.opening_check.specs.OpeningCheck.{openingRow};
-ghost use Rattle.proof_file.specs.Challenge.{challengeRow, challenged};
-ghost use Rattle.proof_file.specs.Layout.{headRow, headWritten};
-ghost use Rattle.proof_file.specs.Head.{headAnswer, headRefusal, headDepth, headCount, headOf, partStart, partLength};
+ghost use Rattle.challenges.specs.Challenge.{challengeRow, challenged};
+ghost use Rattle.file_head.specs.Layout.{headRow, headWritten};
+ghost use Rattle.file_head.specs.Head.{headAnswer, headRefusal, headDepth, headCount, headOf, partStart, partLength};
 ghost use Rattle.proof_file.specs.FileCheck.{fileCheck};
-use proof_file::HeadNumbers;
+use file_head::HeadNumbers;
 use proof_file::Place;
 use refusal::outcome_number;
 
@@ -28,7 +28,7 @@ pub extern "C" fn mastdock_challenge(
     ensures { λ r. ⌜ r .refusal ≡ challengeRow depth i ⌝ }
     ensures { λ r. ⌜ r .leaf ≡ challenged edition depth (now (statement .entry)) (now (root .entry)) i ⌝ }
 {
-    let c = proof_file::challenge(depth, *statement, *root, i);
+    let c = challenges::challenge(depth, *statement, *root, i);
     let outcome = c.outcome;
     let leaf = c.leaf;
     Challenged {
@@ -49,7 +49,7 @@ pub extern "C" fn mastdock_write_head(
     ensures { λ r. ⌜ r ≡ headRow depth count (length (now (file .entry))) ⌝ }
     ensures { λ _. ⌜ now (file .exit) ≡ headWritten edition (now (statement .entry)) (now (root .entry)) depth count (now (file .entry)) ⌝ }
 {
-    let outcome = proof_file::write_head(*statement, *root, depth, count, file);
+    let outcome = file_head::write_head(*statement, *root, depth, count, file);
     outcome_number(outcome)
 }
 
@@ -86,7 +86,7 @@ pub extern "C" fn mastdock_read_head(file: &[u8]) -> HeadRead
     ensures { λ r. ⌜ r .depth ≡ headDepth (headOf (now (file .entry))) ⌝ }
     ensures { λ r. ⌜ r .count ≡ headCount (headOf (now (file .entry))) ⌝ }
 {
-    let numbers = proof_file::read_head(file);
+    let numbers = file_head::read_head(file);
     head_read(numbers)
 }
 

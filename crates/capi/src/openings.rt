@@ -2,7 +2,7 @@
 ghost use mathlib.Core.Path.{_≡_};
 ghost use lib.ListN.{length};
 ghost use Rattle.opening.specs.Rows.{openRow, reopenRow};
-ghost use Rattle.opening.specs.Possible.{openOf};
+ghost use Rattle.opening.specs.Names.{openOf};
 ghost use Rattle.opening.specs.Steps.{started, startedOut, labelsIn, advanced};
 use opening::Opening;
 use refusal::outcome_number;

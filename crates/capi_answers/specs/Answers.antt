@@ -11,11 +11,11 @@ use Rattle.run.specs.Rows.{startRow, continueRow}
 use Rattle.run.specs.Steps as runs
 use Rattle.opening.specs.declared.Opening.{Opening}
 use Rattle.opening.specs.Rows.{openRow, reopenRow}
-use Rattle.opening.specs.Possible.{openOf}
+use Rattle.opening.specs.Names.{openOf}
 use Rattle.opening.specs.Steps as openings
 use Rattle.proof_file.specs.declared.place.Place.{Place}
-use Rattle.proof_file.specs.Challenge.{challengeRow, challenged}
-use Rattle.proof_file.specs.Head.{headRefusal, headDepth, headCount, headOf, partStart, partLength}
+use Rattle.challenges.specs.Challenge.{challengeRow, challenged}
+use Rattle.file_head.specs.Head.{headRefusal, headDepth, headCount, headOf, partStart, partLength}
 use Rattle.writing.specs.declared.Writing.{Writing}
 use Rattle.writing.specs.Rows.{writeRow, rewriteRow}
 use Rattle.writing.specs.Possible.{writtenOf}

@@ -22,7 +22,7 @@ use Rattle.chain_theory.proofs.Sorting.{every-sorted, length-sorted}
 use Rattle.chain_theory.proofs.Plan.{plan-chain}
 use Rattle.chain_theory.proofs.Bound.{leavesOpened-le, plan-length}
 use Rattle.chain.specs.PlanRow.{planRow, plannedCount, plannedList}
-use Rattle.chain.specs.Place.{Leaves, leavesRow}
+use Rattle.chain.specs.Leaves.{Leaves, leavesRow}
 
 -- each exit of the first three checks
 module _ (n : ℕ) (leaves : List ℕ) where

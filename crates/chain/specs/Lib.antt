@@ -1,2 +1,2 @@
 pub mod PlanRow
-pub mod Place
+pub mod Leaves

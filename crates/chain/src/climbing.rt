@@ -5,7 +5,7 @@ ghost use lib.ListN.{length, drop};
 ghost use Rattle.base.specs.Bytes.{written};
 ghost use Rattle.base.specs.Limits.{maxDepth};
 ghost use Rattle.chain_theory.specs.Planning.{climb, nextCode, planFrom};
-ghost use Rattle.chain.specs.Place.{Leaves};
+ghost use Rattle.chain.specs.Leaves.{Leaves};
 
 // 2^n, the number of leaves and the code of the first.
 pub fn width(depth: u64) -> u64

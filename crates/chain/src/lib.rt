@@ -1,7 +1,6 @@
 // Planning a chain from leaf positions, and drawing it from a proof.
 mod climbing;
 mod planning;
-mod sorting;
 
 pub use planning::Planned;
 pub use planning::check_leaves;

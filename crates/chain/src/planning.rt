@@ -2,9 +2,9 @@
 use crate::climbing::count_plan;
 use crate::climbing::width;
 use crate::climbing::write_plan;
-use crate::sorting::sort_leaves;
 use base::MAX_DEPTH;
 use base::MAX_LEAVES;
+use leaf_sorting::sort_leaves;
 use refusal::Outcome;
 use refusal::Refusal;
 ghost use mathlib.Core.Path.{_≡_};
@@ -18,7 +18,7 @@ ghost use Rattle.chain_theory.specs.Counts.{leavesOpened};
 ghost use Rattle.refusal.specs.Number.{outcomeNumber};
 ghost use Rattle.chain_theory.specs.Planning.{isLeaf};
 ghost use Rattle.chain.specs.PlanRow.{planRow, plannedCount, plannedList};
-ghost use Rattle.chain.specs.Place.{leavesRow};
+ghost use Rattle.chain.specs.Leaves.{leavesRow};
 
 // Done with the count of codes written, or refused with 0.
 pub struct Planned {

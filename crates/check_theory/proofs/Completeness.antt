@@ -10,9 +10,9 @@ use Rattle.base.specs.Limits as limits
 use Rattle.base.proofs.ListsLaws.{test-same, tells-bytes}
 use Rattle.tree.specs.Disagreement.{Given32}
 use Rattle.tree.specs.Openings.{openingSize}
-use Rattle.proof_file.specs.Challenge.{challengeLeaf}
-use Rattle.proof_file.specs.Layout.{headNumbers, file}
-use Rattle.proof_file.specs.Head.{numbers, headOf, lengthFrom, statementAt, rootAt, openingAt}
+use Rattle.challenges.specs.Challenge.{challengeLeaf}
+use Rattle.file_head.specs.Layout.{headNumbers, file}
+use Rattle.file_head.specs.Head.{numbers, headOf, lengthFrom, statementAt, rootAt, openingAt}
 use Rattle.opening_check.specs.OpeningCheck.{givenBy}
 use Rattle.opening_check.proofs.OneOpening.{given-labels}
 use Rattle.proof_file.specs.FileCheck.{openingsFrom, fileRest, fileCheck}

@@ -5,8 +5,8 @@ use Prim.Native.Nat.{ℕ, zero, suc, _+_, _≤_, _<_}
 use native.Mathlib.Omega.{arith}
 use mathlib.Core.List.{List}
 use Rattle.groups.proofs.Steps.{lt-or-le}
-use Rattle.proof_file.specs.Challenge.{challengeLeaf}
-use Rattle.proof_file.specs.Head.{statementAt, rootAt, openingAt}
+use Rattle.challenges.specs.Challenge.{challengeLeaf}
+use Rattle.file_head.specs.Head.{statementAt, rootAt, openingAt}
 use Rattle.opening_check.specs.OpeningCheck.{rightRow}
 use Rattle.proof_file.specs.FileCheck.{opened, openingsFrom}
 

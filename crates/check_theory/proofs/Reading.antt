@@ -15,9 +15,9 @@ use Rattle.groups.specs.Groups.{groups}
 use Rattle.groups.specs.Reading.{value, readAt}
 use Rattle.groups.proofs.ReadBack.{read-written}
 use Rattle.tree.specs.Openings.{openingSize}
-use Rattle.proof_file.specs.Layout.{numberGroups, headNumbers, head, fileSize, file, headSize}
-use Rattle.proof_file.specs.Head.{numbers, headOf, statementAt, rootAt, openingAt, lengthFrom}
-use Rattle.proof_file.proofs.WritingLaws.{size-numbers}
+use Rattle.file_head.specs.Layout.{numberGroups, headNumbers, head, fileSize, file, headSize}
+use Rattle.file_head.specs.Head.{numbers, headOf, statementAt, rootAt, openingAt, lengthFrom}
+use Rattle.file_head.proofs.WritingLaws.{size-numbers}
 use Rattle.check_theory.specs.IsProof.{nth}
 use Rattle.check_theory.specs.Heads.{IsHead, SameHead}
 use Rattle.check_theory.proofs.RowLaws.{within}

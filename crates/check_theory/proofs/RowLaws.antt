@@ -16,8 +16,8 @@ use Rattle.refusal.proofs.RowLaws.{NoneHolds, none-holds}
 use Rattle.refusal.specs.Row.{firstOf, outside}
 use Rattle.tree.specs.Openings.{LeafRight, RootRight, openingSize}
 use Rattle.label.specs.Rule.{stampRule}
-use Rattle.proof_file.specs.Challenge.{challengeRow}
-use Rattle.proof_file.specs.Layout.{fileSize, headRow}
+use Rattle.challenges.specs.Challenge.{challengeRow}
+use Rattle.file_head.specs.Layout.{fileSize, headRow}
 use Rattle.opening_check.specs.OpeningCheck.{givenBy, leafWrong, rootWrong, rightRow, openingRow}
 use Rattle.check_theory.specs.IsProof.{OpeningRight, RightAlone}
 

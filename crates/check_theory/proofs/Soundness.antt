@@ -21,11 +21,11 @@ use Rattle.groups.specs.Groups.{groups}
 use Rattle.groups.specs.Reading.{readAt}
 use Rattle.groups.proofs.ShortestOnly.{Shortest, only-shortest}
 use Rattle.tree.specs.Openings.{openingSize}
-use Rattle.proof_file.specs.Challenge.{challengeLeaf}
-use Rattle.proof_file.specs.Layout.{numberGroups, headNumbers, head, file}
-use Rattle.proof_file.specs.Head.{HeadAnswer, numbers, notRead, headOf, lengthFrom, statementAt, rootAt, openingAt}
+use Rattle.challenges.specs.Challenge.{challengeLeaf}
+use Rattle.file_head.specs.Layout.{numberGroups, headNumbers, head, file}
+use Rattle.file_head.specs.Head.{HeadAnswer, numbers, notRead, headOf, lengthFrom, statementAt, rootAt, openingAt}
 use Rattle.proof_file.specs.FileCheck.{foundIn, openingsFrom, wanted, fileRest, fileCheck}
-use Rattle.proof_file.proofs.HeadLaws.{passed, head-number}
+use Rattle.file_head.proofs.HeadLaws.{passed, head-number}
 use Rattle.check_theory.specs.IsProof.{OpeningRight, nth, IsProof}
 use Rattle.check_theory.specs.Heads.{NumbersRead}
 use Rattle.check_theory.proofs.RowLaws.{second-picked, bounds, done-right}

@@ -21,8 +21,8 @@ use Rattle.tree.proofs.Labelling.{label-length}
 use Rattle.tree.proofs.OpeningLaws.{tree-right, tree-sized}
 use Rattle.groups.proofs.Steps.{lt-or-le}
 use Rattle.label.specs.Rule.{stampRule}
-use Rattle.proof_file.specs.Challenge.{challengeLeaf}
-use Rattle.proof_file.specs.Layout.{fileSize}
+use Rattle.challenges.specs.Challenge.{challengeLeaf}
+use Rattle.file_head.specs.Layout.{fileSize}
 use Rattle.opening_check.specs.OpeningCheck.{givenBy}
 use Rattle.proof_file.specs.FileCheck.{fileCheck}
 use Rattle.check_theory.specs.IsProof.{OpeningRight, nth, IsProof}
@@ -30,7 +30,7 @@ use Rattle.check_theory.specs.TreeFile.{rootOf, openingOf, challengedOpe
 use Rattle.check_theory.proofs.Parts.{each-by}
 use Rattle.check_theory.proofs.Reading.{file-size-is}
 use Rattle.label.proofs.RuleLaws.{stamp-hash}
-use Rattle.proof_file.proofs.Leaves.{challengeLeaf-small}
+use Rattle.challenges.proofs.Leaves.{challengeLeaf-small}
 use Rattle.check_theory.proofs.GivenLaws.{right-same}
 use Rattle.check_theory.proofs.Completeness.{proof-accepted}
 

@@ -4,7 +4,7 @@ use Prim.Native.Nat.{ℕ}
 use mathlib.Core.List.{List, _++_}
 use lib.ListN.{length, drop}
 use Rattle.base.specs.Limits.{IsDepth, IsCount}
-use Rattle.proof_file.specs.Layout.{headNumbers}
+use Rattle.file_head.specs.Layout.{headNumbers}
 
 pub record IsHead (statement root : List ℕ) (n t : ℕ) : Type 0 where
   pub statementSize : length statement ≡ 32

@@ -7,8 +7,8 @@ use Rattle.base.specs.Limits.{IsDepth, IsCount}
 use Rattle.base.specs.Lists.{EachOf}
 use Rattle.tree.specs.Openings.{Right, openingSize}
 use Rattle.label.specs.Rule.{stampRule}
-use Rattle.proof_file.specs.Challenge.{challengeLeaf}
-use Rattle.proof_file.specs.Layout.{file}
+use Rattle.challenges.specs.Challenge.{challengeLeaf}
+use Rattle.file_head.specs.Layout.{file}
 use Rattle.opening_check.specs.OpeningCheck.{givenBy}
 
 -- an opening's bytes give labels that are right at a leaf, by an edition's rule

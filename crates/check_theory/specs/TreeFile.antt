@@ -6,8 +6,8 @@ use Rattle.tree.specs.Nodes.{root}
 use Rattle.tree.specs.Labels.{Label, label}
 use Rattle.tree.specs.Openings.{openingNodes}
 use Rattle.label.specs.Rule.{stampRule}
-use Rattle.proof_file.specs.Challenge.{challengeLeaf}
-use Rattle.proof_file.specs.Layout.{file}
+use Rattle.challenges.specs.Challenge.{challengeLeaf}
+use Rattle.file_head.specs.Layout.{file}
 
 -- the root's label, in an edition's tree
 abbrev pub rootOf : ℕ → List ℕ → ℕ → Label

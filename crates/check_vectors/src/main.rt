@@ -2,9 +2,9 @@
 // them in one bit; the row of a challenge and that of a file's head at their edges. The stored output has the vectors' answers
 // and an independent model's.
 ghost use Prim.Native.Nat.{_<_, _≤_};
-use proof_file::challenge;
+use challenges::challenge;
+use file_head::write_head;
 use proof_file::check_file_code;
-use proof_file::write_head;
 use refusal::outcome_number;
 use vector_runs::hash;
 use vector_text::column;

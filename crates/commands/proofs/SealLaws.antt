@@ -7,9 +7,9 @@ use native.Mathlib.Omega.{arith}
 use Rattle.base.specs.Limits.{maxDepth, maxChallenges, maxFile, ownStore, ownLevel}
 use Rattle.groups.proofs.Steps.{lt-or-le}
 use Rattle.tree.specs.Store.{storeSize}
-use Rattle.proof_file.specs.Layout.{fileSize}
-use Rattle.proof_file.proofs.HeadLaws.{openings-small}
-use Rattle.proof_file.proofs.WritingLaws.{size-three, size-four}
+use Rattle.file_head.specs.Layout.{fileSize}
+use Rattle.file_head.proofs.HeadLaws.{openings-small}
+use Rattle.file_head.proofs.WritingLaws.{size-three, size-four}
 use Rattle.writing_theory.specs.Filed.{Writable}
 use Rattle.words.specs.declared.Words.the-variants.{Right}
 use Rattle.words.specs.Orders.{sealRow}

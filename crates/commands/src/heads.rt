@@ -1,8 +1,8 @@
 // The depth and count of a head.
 ghost use mathlib.Core.Path.{_≡_};
-ghost use Rattle.proof_file.specs.Head.{headDepth, headCount, headOf};
-use proof_file::HeadNumbers;
-use proof_file::read_head;
+ghost use Rattle.file_head.specs.Head.{headDepth, headCount, headOf};
+use file_head::HeadNumbers;
+use file_head::read_head;
 
 // Depth and count wanted.
 pub struct Wanted {

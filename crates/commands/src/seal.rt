@@ -59,7 +59,7 @@ fn say_start(depth: u64, challenges: u64, memory: u64, err: i32)
 fn make_room(proof: &[u8], depth: u64, challenges: u64, memory: u64, err: i32) -> Part
     requires { ⌜ sealRow depth challenges memory ≡ Right ⌝ }
 {
-    let size = proof_file::file_size(depth, challenges);
+    let size = file_head::file_size(depth, challenges);
     make_part(proof, size, err)
 }
 
@@ -87,7 +87,7 @@ fn seal_into(
         &mut file,
         err,
     );
-    let size = proof_file::file_size(depth, challenges);
+    let size = file_head::file_size(depth, challenges);
     if keep_proof(part, proof, &file[..size], err) {
         let root = made.root;
         say_facts(statement, root, depth, challenges, made.hashes, out, err);

@@ -15,11 +15,11 @@ use Rattle.refusal.specs.Row.{firstOf, isDone}
 use Rattle.refusal.proofs.RowLaws.{NoneHolds, none-holds, row-refused, row-passed, not-done}
 use Rattle.refusal.proofs.Ranges.{range-of}
 use Rattle.tree.specs.Openings.{openingSize}
-use Rattle.chain.specs.Place.{leavesRow}
+use Rattle.chain.specs.Leaves.{leavesRow}
 use Rattle.chain.proofs.Rows.{leavesChecks, passed}
 use Rattle.compare.specs.Comparison.{compareRow, compared, firstDisagreement}
 use Rattle.compare.specs.declared.Pair.the-variants.{Agree}
-use Rattle.compare.specs.Table.{Sized}
+use Rattle.child_table.specs.Table.{Sized}
 
 -- the checks that follow those of planning
 abbrev sizeChecks : ℕ → List ℕ → ℕ → List (Bool × ℕ)

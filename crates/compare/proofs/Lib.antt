@@ -1,6 +1,5 @@
 pub mod Checks
 pub mod FirstPairLaws
-pub mod Filling
 pub mod Lookup
 pub mod Turns
 pub mod Cells

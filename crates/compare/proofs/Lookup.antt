@@ -24,10 +24,11 @@ use Rattle.opening_check.proofs.OneOpening.{given-labels}
 use Rattle.compare.specs.declared.Pair.{Pair}
 use Rattle.compare.specs.declared.Pair.the-variants.{Agree, Disagree}
 use Rattle.compare.specs.FirstPair.{firstPair}
-use Rattle.compare.specs.Comparison.{leafOf, givenOf, disagreement, firstDisagreement, inputOf, firstInput, secondInput}
-use Rattle.compare.specs.Table.{Sized, TableOf, cell, tableDisagreement, rowSize, tableSize}
+use Rattle.child_table.specs.Table.{leafOf}
+use Rattle.compare.specs.Comparison.{givenOf, disagreement, firstDisagreement, inputOf, firstInput, secondInput}
+use Rattle.child_table.specs.Table.{Sized, TableOf, cell, tableDisagreement, rowSize, tableSize}
 use Rattle.compare.proofs.FirstPairLaws.{pair-lies, pair-same}
-use Rattle.compare.proofs.Filling.{opening-fits}
+use Rattle.child_table.proofs.Filling.{opening-fits}
 
 -- a part of a part
 part-inside : (size from most : ℕ) (bytes : List ℕ) → from + size ≤ most → most ≤ length bytes

@@ -3,7 +3,7 @@ use Prim.Native.Nat.{ℕ, _-_, _*_}
 use mathlib.Core.Bool.{Bool, not}
 use mathlib.Core.List.{List, [], _∷_}
 use lib.Dec.{ltb}
-use lib.ListN.{length, getD, take, drop}
+use lib.ListN.{length, take, drop}
 use Rattle.base.specs.Choice.{pick, every}
 use Rattle.base.specs.Bytes.{zeros}
 use Rattle.base.specs.Limits.{maxDepth, maxChallenges}
@@ -14,13 +14,10 @@ use Rattle.tree.specs.Disagreement.{wayNode, disagreeAt}
 use Rattle.chain_theory.specs.Planning.{isLeaf}
 use Rattle.label.specs.Rule.{stampRule}
 use Rattle.opening_check.specs.OpeningCheck.{givenBy}
+use Rattle.child_table.specs.Table.{leafOf}
 use Rattle.compare.specs.declared.Pair.{Pair}
 use Rattle.compare.specs.declared.Pair.the-variants.{Agree, Disagree}
 use Rattle.compare.specs.FirstPair.{firstPair}
-
--- the leaf of opening i, from 1
-abbrev pub leafOf : List ℕ → ℕ → ℕ
-leafOf leaves i = getD leaves (i - 1) 0
 
 -- the labels that opening i gives
 abbrev pub givenOf : ℕ → List ℕ → ℕ → Given

@@ -1,3 +1,2 @@
 pub mod FirstPair
 pub mod Comparison
-pub mod Table

@@ -1,7 +1,6 @@
 // The comparison of openings: the first pair that disagrees, and both hash inputs there.
 mod inputs; // inputs.rt: the hash input at a node
 mod pairs; // pairs.rt: the first pair
-mod table; // table.rt: both child labels of each node
 mod whole; // whole.rt: the checks, and the comparison
 
 use refusal::Outcome;

@@ -8,10 +8,10 @@ use crate::Compared;
 use crate::Pair;
 use crate::inputs::input_at;
 use crate::pairs::first_pair;
-use crate::table::empty_table;
-use crate::table::fill_table;
 use base::EDITION;
 use chain::check_leaves;
+use child_table::empty_table;
+use child_table::fill_table;
 use refusal::Outcome;
 use refusal::Refusal;
 

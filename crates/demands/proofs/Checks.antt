@@ -26,13 +26,13 @@ use Rattle.run.specs.Rows.{impossible, startRow, continueRow}
 use Rattle.run.specs.Steps as runs
 use Rattle.run.specs.Steps.{Stamped, stamped, runMachine}
 use Rattle.opening.specs.Steps.{Open, openingMachine}
-use Rattle.opening.specs.Possible.{openOf}
+use Rattle.opening.specs.Names.{openOf}
 use Rattle.opening.specs.declared.Opening.{Opening}
 use Rattle.opening.specs.Rows.{nodesAnew, openRow, reopenRow}
 use Rattle.opening.specs.Steps as openings
 use Rattle.opening_check.specs.OpeningCheck.{givenBy, leafWrong, rootWrong, openingRow}
-use Rattle.proof_file.specs.Challenge.{challengeRow, challenged}
-use Rattle.proof_file.specs.Layout.{fileSize, headRow, headWritten}
+use Rattle.challenges.specs.Challenge.{challengeRow, challenged}
+use Rattle.file_head.specs.Layout.{fileSize, headRow, headWritten}
 use Rattle.chain_theory.specs.Ways.{chain}
 use Rattle.chain_theory.specs.Planning.{isLeaf}
 use Rattle.chain.specs.PlanRow.{planRow, plannedCount, plannedList}

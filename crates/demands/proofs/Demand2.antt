@@ -18,8 +18,8 @@ use Rattle.run.specs.Steps as runs
 use Rattle.run.specs.Steps.{Stamped}
 use Rattle.opening.specs.Rows.{nodesAnew}
 use Rattle.opening.specs.Steps as openings
-use Rattle.proof_file.specs.Challenge.{challengeInput, challengeLeaf, challenged}
-use Rattle.proof_file.specs.Layout.{fileSize}
+use Rattle.challenges.specs.Challenge.{challengeInput, challengeLeaf, challenged}
+use Rattle.file_head.specs.Layout.{fileSize}
 use Rattle.machine.specs.Calls.{total, afterCalls}
 use Rattle.run_theory.specs.Runs.{atStart, called, reachedAt}
 use Rattle.run_theory.specs.Openings.{Openable, newOpen}
@@ -27,7 +27,7 @@ use Rattle.run_theory.proofs.RunLaws.{run-reached, called-cut, finished-store}
 use Rattle.run_theory.proofs.OpeningCalls.{started-fits, startedOut-fits}
 use Rattle.run_theory.proofs.Finished.{finished-length, finished-opening}
 use Rattle.check_theory.specs.TreeFile.{treeFile, openingOf}
-use Rattle.proof_file.proofs.Leaves.{challengeLeaf-small}
+use Rattle.challenges.proofs.Leaves.{challengeLeaf-small}
 use Rattle.check_theory.proofs.RowLaws.{challenge-done, opening-done, done-opening}
 use Rattle.check_theory.proofs.TreeFile.{opening-size, opening-right, length-treeFile}
 use Rattle.check_theory.proofs.Accepted.{exactly-proofs}

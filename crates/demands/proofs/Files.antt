@@ -17,8 +17,8 @@ use Rattle.refusal.specs.Row.{outside}
 use Rattle.groups.specs.Reading.{Answer, value, refused, ended, readFrom, readAt, checked}
 use Rattle.groups.proofs.Steps.{read-none, read-end, read-last, read-more, lt-or-le}
 use Rattle.opening_check.specs.OpeningCheck.{rightRow}
-use Rattle.proof_file.specs.Head.{HeadAnswer, numbers, notRead, headOf, lengthFrom, statementAt}
-use Rattle.proof_file.specs.HeadSteps.{countFrom, depthFrom}
+use Rattle.file_head.specs.Head.{HeadAnswer, numbers, notRead, headOf, lengthFrom, statementAt}
+use Rattle.file_head.specs.HeadSteps.{countFrom, depthFrom}
 use Rattle.proof_file.specs.FileCheck as files
 use Rattle.proof_file.specs.FileCheck.{opened, openingsFrom, wanted, fileCheck}
 use Rattle.demands.specs.Rows.{Row, IsFirst, Outside, byteAt, valueAt, behind, foundIn, fileOpenings, fileRest, aFile}

@@ -20,12 +20,13 @@ use Rattle.tree.specs.Walk.{nodesIn}
 use Rattle.tree.specs.Labels.{Label}
 use Rattle.tree.proofs.Slots.{slot-inside}
 use Rattle.tree.specs.Openings.{openingSize}
-use Rattle.label.specs.Step.{nextNode, nextLabel, heldWith}
-use Rattle.label.proofs.RuleLaws.{digest-length}
-use Rattle.label.proofs.OneStep.{next-level}
+use Rattle.labelling.specs.Step.{nextNode, nextLabel, heldWith}
+use Rattle.sha256.proofs.Digests.{digest-length}
+use Rattle.labelling.proofs.OneStep.{next-level}
 use Rattle.opening.specs.Rows.{nodesAnew, reopenRow}
-use Rattle.opening.specs.Steps.{labelIn, ancestor, beside, placed, copied, copiedAll, Open, front, stepped, steps, labelsIn, advanced, openingMachine}
-use Rattle.opening.specs.Possible.{openingOf, openOf}
+use Rattle.opening_places.specs.Places.{labelIn, ancestor, beside, placed, copied, copiedAll, front}
+use Rattle.opening.specs.Steps.{Open, stepped, steps, labelsIn, advanced, openingMachine}
+use Rattle.opening.specs.Names.{openingOf, openOf}
 use Rattle.opening.proofs.StepLaws.{anew-few, next-below}
 use Rattle.run_theory.specs.Openings.{Openable}
 use Rattle.run_theory.proofs.Anew.{beside-inside}

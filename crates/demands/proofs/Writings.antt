@@ -19,10 +19,11 @@ use Rattle.tree.specs.Openings.{openingSize}
 use Rattle.opening.specs.declared.Opening.{Opening}
 use Rattle.opening.specs.Rows.{nodesAnew}
 use Rattle.opening.specs.Steps as openings
-use Rattle.opening.specs.Possible.{openingOf, openOf}
-use Rattle.proof_file.specs.Challenge.{challengeLeaf}
-use Rattle.proof_file.specs.Layout.{head, headSize, openingFrom, fileSize}
-use Rattle.proof_file.proofs.Leaves.{challengeLeaf-small}
+use Rattle.opening_places.specs.Places.{copiedAll}
+use Rattle.opening.specs.Names.{openingOf, openOf}
+use Rattle.challenges.specs.Challenge.{challengeLeaf}
+use Rattle.file_head.specs.Layout.{head, headSize, openingFrom, fileSize}
+use Rattle.challenges.proofs.Leaves.{challengeLeaf-small}
 use Rattle.check_theory.proofs.Reading.{length-head}
 use Rattle.writing.specs.Rows.{rewriteRow}
 use Rattle.writing.specs.Steps.{Written, partOf, begun, mayFollow, followed, newWriting, stepped, remaining, writingMachine, steps}
@@ -73,15 +74,15 @@ module _ (statement root : List ℕ) (n m t size : ℕ) (store : List ℕ) (boun
       let part : List ℕ = partOf n t (q + 1) file in
       let inside : leaf < 2 ^ n = challengeLeaf-small edition n statement root (q + 1) (omega (arith, bounds .depth .1)) in
       let before : length part ≡ openingSize n = part-length n t q file few (omega arith) in
-      let after : length (openings.copiedAll n m leaf store part) ≡ openingSize n =
+      let after : length (copiedAll n m leaf store part) ≡ openingSize n =
       length-copied-all n m leaf store (bounds .depth .0) (omega (arith, bounds .memory)) inside (bounds .room) part (omega arith) ∙ before in
       record {
         leaf = leaf;
         held = zeros heldSize;
-        file = written file (openingFrom n (headSize n t) (q + 1)) (openings.copiedAll n m leaf store part);
+        file = written file (openingFrom n (headSize n t) (q + 1)) (copiedAll n m leaf store part);
         is = refl;
         inside = inside;
-        length = length-part n t q file (openings.copiedAll n m leaf store part) few (omega arith) after ∙ long;
+        length = length-part n t q file (copiedAll n m leaf store part) few (omega arith) after ∙ long;
       }
 
   -- ---- it makes a label

@@ -20,12 +20,12 @@ use Rattle.opening.specs.declared.Opening.{Opening}
 use Rattle.opening.specs.Rows.{openRow, reopenRow}
 use Rattle.opening.specs.Steps as openings
 use Rattle.opening.specs.Steps.{Open, noOpening}
-use Rattle.opening.specs.Possible.{openOf}
+use Rattle.opening.specs.Names.{openOf}
 use Rattle.opening_check.specs.OpeningCheck.{openingRow}
-use Rattle.proof_file.specs.Challenge.{challengeRow, challenged}
-use Rattle.proof_file.specs.Layout.{fileSize, headRow, headWritten}
-use Rattle.proof_file.specs.Head as read
-use Rattle.proof_file.specs.Head.{HeadAnswer, notRead, headOf}
+use Rattle.challenges.specs.Challenge.{challengeRow, challenged}
+use Rattle.file_head.specs.Layout.{fileSize, headRow, headWritten}
+use Rattle.file_head.specs.Head as read
+use Rattle.file_head.specs.Head.{HeadAnswer, notRead, headOf}
 use Rattle.proof_file.specs.FileCheck.{fileCheck}
 use Rattle.writing.specs.declared.Writing.{Writing}
 use Rattle.writing.specs.Rows.{writeRow, rewriteRow}

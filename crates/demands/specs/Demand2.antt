@@ -17,8 +17,8 @@ use Rattle.run.specs.Steps as runs
 use Rattle.run.specs.Steps.{Stamped}
 use Rattle.opening.specs.Steps as openings
 use Rattle.opening_check.specs.OpeningCheck.{givenBy, openingRow}
-use Rattle.proof_file.specs.Challenge.{challengeWord, bigEndianValue, challenged}
-use Rattle.proof_file.specs.Layout.{fileSize, file}
+use Rattle.challenges.specs.Challenge.{challengeWord, bigEndianValue, challenged}
+use Rattle.file_head.specs.Layout.{fileSize, file}
 use Rattle.proof_file.specs.FileCheck.{fileCheck}
 use Rattle.run_theory.specs.Reached.{runAfter, storeAfter}
 use Rattle.machine.specs.Calls.{total, afterCalls}

@@ -13,9 +13,9 @@ use Rattle.groups.specs.Groups.{groupsOf}
 use Rattle.run.specs.declared.Run.{Run}
 use Rattle.opening.specs.declared.Opening.{Opening}
 use Rattle.opening_check.specs.OpeningCheck.{givenBy}
-use Rattle.proof_file.specs.Challenge.{challengeLeaf}
-use Rattle.proof_file.specs.Layout.{fileSize}
-use Rattle.proof_file.specs.Head.{statementAt, rootAt, openingAt}
+use Rattle.challenges.specs.Challenge.{challengeLeaf}
+use Rattle.file_head.specs.Layout.{fileSize}
+use Rattle.file_head.specs.Head.{statementAt, rootAt, openingAt}
 use Rattle.chain_theory.specs.Ways.{chain}
 use Rattle.decimal.specs.Numbers.{numbers}
 use Rattle.writing.specs.declared.Writing.{Writing}

@@ -9,7 +9,7 @@ use Rattle.tree.specs.Labels.{inputSize}
 use Rattle.tree.proofs.Parents.{parents-count}
 use Rattle.groups.specs.Groups.{groups}
 use Rattle.groups.specs.Reading.{ended, readFrom, readAt}
-use Rattle.proof_file.specs.Layout.{headNumbers, fileSize}
+use Rattle.file_head.specs.Layout.{headNumbers, fileSize}
 use Rattle.chain_theory.specs.Ways.{onSomeWay, chain}
 use Rattle.chain_theory.specs.Counts.{opened, different, insideEmpty, largestEmpty}
 use Rattle.document_table.specs.Table.{Table, lastLeaf}

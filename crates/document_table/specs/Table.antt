@@ -8,7 +8,7 @@ use Rattle.tree.specs.Labels.{inputSize}
 use Rattle.tree.specs.Store.{slot, storeSize}
 use Rattle.groups.specs.Groups.{groups}
 use Rattle.groups.specs.Reading.{refused, readAt}
-use Rattle.proof_file.specs.Layout.{fileSize}
+use Rattle.file_head.specs.Layout.{fileSize}
 use Rattle.chain_theory.specs.Ways.{chain}
 use Rattle.chain_theory.specs.Counts.{leavesOpened, largestEmpty}
 

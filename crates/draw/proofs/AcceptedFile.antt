@@ -20,13 +20,13 @@ use Rattle.tree.specs.Openings.{openingSize}
 use Rattle.chain_theory.specs.Ways.{chain}
 use Rattle.chain_theory.specs.Planning.{isLeaf}
 use Rattle.refusal.proofs.Ranges.{in-range}
-use Rattle.proof_file.specs.Layout.{headNumbers}
-use Rattle.proof_file.specs.Head.{headOf, lengthFrom, rootAt}
+use Rattle.file_head.specs.Layout.{headNumbers}
+use Rattle.file_head.specs.Head.{headOf, lengthFrom, rootAt}
 use Rattle.proof_file.specs.FileCheck.{foundIn, fileCheck}
 use Rattle.check_theory.specs.IsProof.{IsProof}
 use Rattle.check_theory.proofs.Soundness.{accepted-proof}
 use Rattle.check_theory.proofs.Completeness.{file-head, file-size}
-use Rattle.chain.specs.Place.{leavesRow}
+use Rattle.chain.specs.Leaves.{leavesRow}
 use Rattle.chain.proofs.Rows.{row-done}
 use Rattle.compare.specs.declared.Pair.{Pair}
 use Rattle.compare.specs.Comparison.{compared, firstInput, secondInput}

@@ -14,7 +14,7 @@ use Rattle.refusal.specs.Number.{numberOf, outcomeNumber}
 use Rattle.refusal.proofs.Bounds.{number-some}
 use Rattle.refusal.proofs.RowLaws.{refused-number, not-done}
 use Rattle.chain_theory.specs.Ways.{chain, chainCodes}
-use Rattle.chain.specs.Place.{leavesRow}
+use Rattle.chain.specs.Leaves.{leavesRow}
 use Rattle.chain.specs.PlanRow.{planRow, plannedCount, plannedList}
 use Rattle.chain.proofs.Rows.{list-check}
 use Rattle.compare.specs.declared.Pair.{Pair}

@@ -14,11 +14,11 @@ use Rattle.base.specs.Bytes.{zeros}
 use Rattle.base.proofs.Zeros.{drop-zeros}
 use Rattle.chain_theory.specs.Planning.{isLeaf}
 use Rattle.chain_theory.proofs.Lists.{every-both}
-use Rattle.proof_file.specs.declared.HeadNumbers.{HeadNumbers}
-use Rattle.proof_file.specs.Challenge.{challengeLeaf, challenged}
-use Rattle.proof_file.specs.Head.{HeadAnswer, headAnswer}
+use Rattle.file_head.specs.declared.HeadNumbers.{HeadNumbers}
+use Rattle.challenges.specs.Challenge.{challengeLeaf, challenged}
+use Rattle.file_head.specs.Head.{HeadAnswer, headAnswer}
 use Rattle.check_theory.proofs.RowLaws.{challenge-done}
-use Rattle.proof_file.proofs.Leaves.{challengeLeaf-small}
+use Rattle.challenges.proofs.Leaves.{challengeLeaf-small}
 use Rattle.draw.specs.Drawing.{leavesFrom, numbersEnd}
 
 pub end-known : (head told : HeadNumbers) (read : HeadAnswer) → headAnswer head ≡ read → head ≡ told → numbersEnd (headAnswer told) ≡ numbersEnd read

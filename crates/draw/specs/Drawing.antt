@@ -9,8 +9,8 @@ use Rattle.base.specs.Limits as limits
 use Rattle.refusal.specs.Number.{numberOf}
 use Rattle.refusal.specs.Row.{isDone}
 use Rattle.chain_theory.specs.Ways.{chain, chainCodes}
-use Rattle.proof_file.specs.Challenge.{challengeLeaf}
-use Rattle.proof_file.specs.Head.{HeadAnswer, numbers, notRead, headOf, rootAt}
+use Rattle.challenges.specs.Challenge.{challengeLeaf}
+use Rattle.file_head.specs.Head.{HeadAnswer, numbers, notRead, headOf, rootAt}
 use Rattle.proof_file.specs.FileCheck.{foundIn, fileCheck}
 use Rattle.compare.specs.declared.Pair.{Pair}
 use Rattle.compare.specs.declared.Pair.the-variants.{Agree, Disagree}

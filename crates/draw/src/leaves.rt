@@ -4,12 +4,12 @@ ghost use Prim.Native.Nat.{_-_, _≤_};
 ghost use lib.ListN.{take, drop};
 ghost use Rattle.base.specs.Limits.{edition, maxDepth, maxChallenges};
 ghost use Rattle.base.specs.Bytes.{zeros};
-ghost use Rattle.proof_file.specs.Head.{headOf};
+ghost use Rattle.file_head.specs.Head.{headOf};
 ghost use Rattle.draw.specs.Drawing.{leavesFrom, numbersEnd};
 use base::MAX_LEAVES;
-use proof_file::HeadNumbers;
-use proof_file::challenge;
-use proof_file::read_head;
+use challenges::challenge;
+use file_head::HeadNumbers;
+use file_head::read_head;
 
 // Where the head's numbers end; 0 if they cannot be read.
 pub fn numbers_end(file: &[u8]) -> usize

@@ -3,7 +3,7 @@ ghost use mathlib.Core.Path.{_≡_};
 ghost use lib.ListN.{length};
 ghost use Rattle.chain_theory.specs.Ways.{chain, chainCodes};
 ghost use Rattle.proof_file.specs.FileCheck.{fileCheck};
-ghost use Rattle.chain.specs.Place.{leavesRow};
+ghost use Rattle.chain.specs.Leaves.{leavesRow};
 ghost use Rattle.compare.specs.declared.Pair.the-variants.{Agree};
 ghost use Rattle.draw.specs.Drawing.{drawingAnswer, drawnFrom, listAfter, drawingOf, drawnList, firstDrawn, secondDrawn};
 use crate::Drawing;

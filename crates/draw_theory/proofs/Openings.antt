@@ -22,14 +22,15 @@ use Rattle.chain_theory.specs.Ways.{onSomeWay}
 use Rattle.chain_theory.specs.Planning.{isLeaf}
 use Rattle.chain_theory.proofs.Lists.{at-every}
 use Rattle.opening_check.specs.OpeningCheck.{givenBy}
-use Rattle.proof_file.specs.Challenge.{challengeLeaf}
-use Rattle.proof_file.specs.Layout.{headNumbers}
-use Rattle.proof_file.specs.Head.{headOf}
+use Rattle.challenges.specs.Challenge.{challengeLeaf}
+use Rattle.file_head.specs.Layout.{headNumbers}
+use Rattle.file_head.specs.Head.{headOf}
 use Rattle.check_theory.specs.IsProof.{IsProof}
-use Rattle.proof_file.proofs.Leaves.{challengeLeaf-small}
+use Rattle.challenges.proofs.Leaves.{challengeLeaf-small}
 use Rattle.check_theory.proofs.Completeness.{file-head, file-root, file-sized, file-right}
 use Rattle.compare.specs.declared.Pair.the-variants.{Agree, Disagree}
-use Rattle.compare.specs.Comparison.{leafOf, givenOf, disagreement, firstDisagreement}
+use Rattle.child_table.specs.Table.{leafOf}
+use Rattle.compare.specs.Comparison.{givenOf, disagreement, firstDisagreement}
 use Rattle.draw.specs.Drawing.{proofEdition, leavesFrom, numbersEnd, leavesOf, openingsOf, pairOf}
 use Rattle.draw_theory.specs.Demand3.{proofRoot, openedLeaf, openedGiven, Passes, disagreeing, NoneDisagree, SomeDisagree, FirstToDisagree}
 use Rattle.draw_theory.proofs.FirstPairs.{pair-agrees, pair-first}

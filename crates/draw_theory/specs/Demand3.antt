@@ -19,8 +19,8 @@ use Rattle.chain_theory.specs.Ways.{chain, code}
 use Rattle.chain_theory.specs.Counts.{leavesOpened, largestEmpty}
 use Rattle.chain.specs.PlanRow.{planRow, plannedCount, plannedList}
 use Rattle.opening_check.specs.OpeningCheck.{givenBy}
-use Rattle.proof_file.specs.Challenge.{challengeLeaf}
-use Rattle.proof_file.specs.Head.{headOf, rootAt, openingAt}
+use Rattle.challenges.specs.Challenge.{challengeLeaf}
+use Rattle.file_head.specs.Head.{headOf, rootAt, openingAt}
 use Rattle.proof_file.specs.FileCheck.{fileCheck}
 use Rattle.draw.specs.Drawing.{DrawingAnswer, notDrawn, drawnChain, numbersEnd, proofEdition, leavesOf, drawingOf, drawnList, firstDrawn, secondDrawn}
 

@@ -1,5 +1,3 @@
 pub mod Filled
-pub mod OneStep
 pub mod Padded
-pub mod Walking
 pub mod RuleLaws

@@ -1,4 +1,2 @@
 pub mod RowLaws
-pub mod PlaceLaws
-pub mod AboveLaws
 pub mod StepLaws

@@ -18,8 +18,10 @@ use Rattle.run.specs.Rows.{impossible}
 use Rattle.refusal.proofs.Ranges.{depth-some, depth-inside, memory-below, memory-inside, neither}
 use Rattle.opening.specs.declared.Opening.{Opening}
 use Rattle.opening.specs.Rows.{nodesAnew, openRow, reopenRow}
-use Rattle.opening.specs.Possible.{Possible, openOf}
-use Rattle.opening.specs.Steps.{newOpening, noOpening, copiedAll, started, startedOut, openingMachine, steps, labelsIn, advanced}
+use Rattle.opening_places.specs.Possible.{Possible}
+use Rattle.opening.specs.Names.{openOf}
+use Rattle.opening_places.specs.Places.{copiedAll}
+use Rattle.opening.specs.Steps.{newOpening, noOpening, started, startedOut, openingMachine, steps, labelsIn, advanced}
 
 -- the number of nodes, as it is computed
 pub anew-nodes : (n m : ℕ) → nodesIn (n - m) - 1 ≡ nodesAnew n m

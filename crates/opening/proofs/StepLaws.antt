@@ -10,10 +10,11 @@ use Rattle.machine.proofs.StepLaws.{no-step, step-last}
 use Rattle.tree.specs.Nodes.{Node}
 use Rattle.tree.specs.Walk.{nodesIn}
 use Rattle.tree.proofs.Order.{Place, placeOf, place-top, order-placed}
-use Rattle.label.specs.Step.{nextNode, heldWith}
+use Rattle.labelling.specs.Step.{nextNode, heldWith}
 use Rattle.opening.specs.Rows.{nodesAnew}
-use Rattle.opening.specs.Possible.{openingOf, openOf, nextAnew, labelAnew}
-use Rattle.opening.specs.Steps.{Open, ancestor, placed, front, stepped, openingMachine, steps}
+use Rattle.opening.specs.Names.{openingOf, openOf, nextAnew, labelAnew}
+use Rattle.opening_places.specs.Places.{ancestor, placed, front}
+use Rattle.opening.specs.Steps.{Open, stepped, openingMachine, steps}
 
 -- the ancestor's own label is not made anew
 pub anew-few : (n m k : ℕ) → k < nodesAnew n m → k + 1 < nodesIn (n - m)

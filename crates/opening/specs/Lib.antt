@@ -1,3 +1,3 @@
 pub mod Rows
 pub mod Steps
-pub mod Possible
+pub mod Names

@@ -1,54 +1,20 @@
--- Document 01, 'Runs in lent memory', an opening: what starting it copies, one step on its state and output, and a call with a
--- budget. The store lent to a call is read and not changed.
-use Prim.Native.Nat.{ℕ, zero, suc, _+_, _-_, _*_, _/_, _^_}
-use mathlib.Core.List.{List, map}
-use lib.Dec.{eqb}
-use lib.ListN.{length, take, drop}
+-- Document 01, 'Runs in lent memory', an opening: its start, one step on its state and output, and a call with a budget. The
+-- store lent to a call is read and not changed.
+use Prim.Native.Nat.{ℕ, _+_, _-_}
+use mathlib.Core.List.{List}
+use lib.ListN.{length}
 use Rattle.base.specs.Limits.{edition, heldSize}
 use Rattle.base.specs.Choice.{pick}
-use Rattle.base.specs.Bytes.{zeros, joined, written}
+use Rattle.base.specs.Bytes.{zeros}
 use Rattle.refusal.specs.Row.{isDone}
 use Rattle.machine.specs.Machines as machines
 use Rattle.machine.specs.Machines.{Machine}
-use Rattle.tree.specs.Nodes.{Node, node, sameNode, leftSiblings}
+use Rattle.tree.specs.Nodes.{Node}
 use Rattle.tree.specs.Labels.{Label}
-use Rattle.tree.specs.Store.{slot}
-use Rattle.tree.specs.Openings.{sibling}
-use Rattle.label.specs.Step.{nextNode, nextLabel, heldWith}
+use Rattle.labelling.specs.Step.{nextNode, nextLabel, heldWith}
+use Rattle.opening_places.specs.Places.{ancestor, placed, copiedAll, front}
 use Rattle.opening.specs.declared.Opening.{Opening}
 use Rattle.opening.specs.Rows.{nodesAnew, openRow, reopenRow}
-
--- the label that the store holds of a node
-abbrev pub labelIn : List ℕ → Node → Label
-labelIn store v = take 32 (drop (slot v) store)
-
--- the leaf's ancestor on level l
-abbrev pub ancestor : ℕ → ℕ → ℕ → Node
-ancestor n leaf l = node l (leaf / 2 ^ (n - l))
-
--- its sibling, which is part of the opening
-abbrev pub beside : ℕ → ℕ → ℕ → Node
-beside n leaf l = node l (sibling (leaf / 2 ^ (n - l)))
-
--- The output with the label of a node put in its place if it belongs to the opening: the leaf's first, then the siblings' from
--- level n to level 1.
-unfoldable pub placed : ℕ → ℕ → List ℕ → Node → Label → List ℕ
-placed n leaf out w label =
-    pick (sameNode w (node n leaf)) (written out 0 label)
-    (pick (sameNode w (beside n leaf (w .level))) (written out (32 * (n - w .level + 1)) label) out)
-
--- the output with the siblings of levels 1 to l copied from the store
-unfoldable pub copied : ℕ → ℕ → List ℕ → List ℕ → ℕ → List ℕ
-copied n leaf store out zero = out
-copied n leaf store out (suc l) =
-    let w : Node = beside n leaf (suc l) in
-    placed n leaf (copied n leaf store out l) w (labelIn store w)
-
--- 'Starting it copies what levels 1 to m of the store hold of it': with m = n the leaf's label too
-unfoldable pub copiedAll : ℕ → ℕ → ℕ → List ℕ → List ℕ → List ℕ
-copiedAll n m leaf store out =
-    let siblingsCopied : List ℕ = copied n leaf store out m in
-    pick (eqb m n) (placed n leaf siblingsCopied (node n leaf) (labelIn store (node n leaf))) siblingsCopied
 
 -- 'count and held labels are those of the nodes it labels anew, 0 and none at the start'
 abbrev pub newOpening : List ℕ → ℕ → ℕ → ℕ → Opening
@@ -69,10 +35,6 @@ startedOut n m leaf store out = pick (isDone (openRow n m leaf (length store) (l
 pub record Open : Type 0 where
   pub opening : Opening
   pub out : List ℕ
-
--- 'Left siblings on levels 1 to m are read from the store': their labels, smallest level first
-unfoldable pub front : ℕ → ℕ → ℕ → List ℕ → List ℕ
-front n m leaf store = joined (map (labelIn store) (leftSiblings m (leaf / 2 ^ (n - m))))
 
 -- one step: the next node below the leaf's ancestor on level m is labelled anew
 unfoldable pub stepped : List ℕ → Open → Open

@@ -6,15 +6,17 @@ ghost use lib.ListN.{length};
 ghost use Rattle.base.specs.Limits.{heldSize};
 ghost use Rattle.tree.specs.Store.{storeSize};
 ghost use Rattle.tree.specs.Openings.{openingSize};
-ghost use Rattle.label.specs.Step.{heldWith};
+ghost use Rattle.labelling.specs.Step.{heldWith};
 ghost use Rattle.opening.specs.Rows.{nodesAnew};
-ghost use Rattle.opening.specs.Possible.{Possible, openOf, nextAnew, labelAnew};
-ghost use Rattle.opening.specs.Steps.{ancestor, placed, steps};
+ghost use Rattle.opening_places.specs.Possible.{Possible};
+ghost use Rattle.opening.specs.Names.{openOf, nextAnew, labelAnew};
+ghost use Rattle.opening_places.specs.Places.{ancestor, placed};
+ghost use Rattle.opening.specs.Steps.{steps};
 use crate::Opening;
-use crate::above::labels_above;
-use crate::places::put_label;
 use base::EDITION;
-use label::label_next;
+use labelling::label_next;
+use opening_places::labels_above;
+use opening_places::put_label;
 
 // One step, with the left siblings' labels in front. Its caller knows that a node is left.
 fn label_one(

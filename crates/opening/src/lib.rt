@@ -1,14 +1,12 @@
 // The opening of a leaf in lent memory: started from a store, then labelled anew below level m by calls with a budget.
-mod above; // above.rt: the left siblings' labels above level m
 mod checks; // checks.rt: what may be started and continued
 mod labels; // labels.rt: one step, and several
-mod places; // places.rt: labels put in their places
 
 ghost use mathlib.Core.Path.{_≡_};
 ghost use lib.ListN.{length};
 ghost use Rattle.refusal.specs.Number.{outcomeNumber};
 ghost use Rattle.opening.specs.Rows.{openRow, reopenRow};
-ghost use Rattle.opening.specs.Possible.{openOf};
+ghost use Rattle.opening.specs.Names.{openOf};
 ghost use Rattle.opening.specs.Steps.{newOpening, started, startedOut, labelsIn, advanced};
 use base::HELD_SIZE;
 use base::smaller;
@@ -17,7 +15,7 @@ use checks::may_start;
 pub use checks::nodes_anew;
 pub use checks::not_possible;
 use labels::label_many;
-use places::copy_held;
+use opening_places::copy_held;
 use refusal::Outcome;
 
 // Document 01's opening: a run's state with the leaf besides; count and held labels are those of the nodes labelled anew.

@@ -27,7 +27,7 @@ use Rattle.tree.specs.Disagreement.{Given32}
 use Rattle.tree.proofs.Cut.{labels-back, two-labels}
 use Rattle.tree.proofs.OpeningLaws.{halved, input-leaf, left-each}
 use Rattle.label.specs.Rule.{stampRule}
-use Rattle.label.proofs.Walking.{full}
+use Rattle.base.proofs.Powers.{shifted-one}
 use Rattle.base.proofs.Parts.{written-behind, part-size, part-length}
 use Rattle.opening_check.specs.OpeningCheck.{givenBy, rightRow, openingRow}
 
@@ -175,11 +175,11 @@ module _ (edition : ℕ) (statement : List ℕ) (n leaf : ℕ) (root bytes : Lis
   module _ (d : outside 1 maxDepth n ≡ false) (small : n ≤ maxDepth) where
     pub leaf-refused : (1 * 2 ^ n) % 2 ^ 64 ≤ leaf → 6 ≡ openingRow edition statement n leaf root bytes
     unfolding openingRow
-    leaf-refused h = let l : 2 ^ n ≤ leaf = rw (full n small) at h in rw (d, le-leb (2 ^ n) leaf l)
+    leaf-refused h = let l : 2 ^ n ≤ leaf = rw (shifted-one n small) at h in rw (d, le-leb (2 ^ n) leaf l)
 
     module _ (inside : leaf < (1 * 2 ^ n) % 2 ^ 64) where
       inside-leaf : leaf < 2 ^ n
-      inside-leaf = rw (full n small) at inside
+      inside-leaf = rw (shifted-one n small) at inside
 
       pub short-refused : length bytes < openingSize n → 10 ≡ openingRow edition statement n leaf root bytes
       unfolding openingRow

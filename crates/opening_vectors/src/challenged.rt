@@ -1,7 +1,7 @@
 // The openings of the shared files' challenges, made at every memory level.
 use base::label_at;
+use challenges::challenge;
 use opening::Opening;
-use proof_file::challenge;
 use sha256::Hash;
 use vector_runs::finished;
 use vector_runs::hash;

@@ -18,9 +18,9 @@ use Rattle.refusal.specs.Number.{numberOf, outcomeNumber}
 use Rattle.refusal.specs.Row.{isDone}
 use Rattle.refusal.proofs.RowLaws.{not-done}
 use Rattle.tree.specs.Openings.{openingSize}
-use Rattle.proof_file.specs.Challenge.{challengeLeaf}
-use Rattle.proof_file.specs.Layout.{openingFrom}
-use Rattle.proof_file.specs.Head.{numbers, notRead, headOf, lengthFrom, statementAt, rootAt, openingAt}
+use Rattle.challenges.specs.Challenge.{challengeLeaf}
+use Rattle.file_head.specs.Layout.{openingFrom}
+use Rattle.file_head.specs.Head.{numbers, notRead, headOf, lengthFrom, statementAt, rootAt, openingAt}
 use Rattle.opening_check.specs.OpeningCheck.{rightRow}
 use Rattle.base.specs.Limits as limits
 use Rattle.proof_file.specs.FileCheck.{foundIn, openingsFrom, wanted, fileRest, fileCheck}

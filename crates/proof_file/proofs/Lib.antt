@@ -1,5 +1,1 @@
-pub mod Leaves
-pub mod ChallengeLaws
-pub mod HeadLaws
 pub mod FileLaws
-pub mod WritingLaws

@@ -1,5 +1,1 @@
-pub mod Challenge
-pub mod Layout
-pub mod Head
 pub mod FileCheck
-pub mod HeadSteps

@@ -4,12 +4,12 @@ ghost use Prim.Native.Nat.{_+_, _≤_};
 ghost use Rattle.base.specs.Limits.{maxDepth, maxChallenges};
 ghost use Rattle.base.specs.Choice.{pick};
 ghost use Rattle.tree.specs.Openings.{openingSize};
-ghost use Rattle.proof_file.specs.Layout.{openingFrom};
-ghost use Rattle.proof_file.specs.Head.{headOf, hasOpening, partStart, partLength, openingPart};
-use crate::HeadNumbers;
-use crate::head::read_head;
-use crate::sizes::file_length;
-use crate::sizes::opening_start;
+ghost use Rattle.file_head.specs.Layout.{openingFrom};
+ghost use Rattle.file_head.specs.Head.{headOf, hasOpening, partStart, partLength, openingPart};
+use file_head::HeadNumbers;
+use file_head::file_length;
+use file_head::opening_start;
+use file_head::read_head;
 use refusal::beyond;
 
 // A part of the bytes; 0 and 0 where there is none.

@@ -1,14 +1,14 @@
 // Document 01, 'A proof under reading is the caller's bytes with a place': a struct that holds the slice. Each function takes it
 // apart and calls one with a plain slice.
+use file_head::HeadNumbers;
 use groups::Cursor;
 use groups::Number;
-use proof_file::HeadNumbers;
 ghost use mathlib.Core.Path.{_≡_};
 ghost use Prim.Native.Nat.{_+_, min};
 ghost use lib.ListN.{length};
 ghost use Rattle.groups.specs.Groups.{maxGroups};
 ghost use Rattle.groups.specs.Reading.{answerOf, readAt};
-ghost use Rattle.proof_file.specs.Head.{headAnswer, headOf, partStart, openingPart};
+ghost use Rattle.file_head.specs.Head.{headAnswer, headOf, partStart, openingPart};
 ghost use Rattle.reader.specs.Moving.{placeAfter};
 
 // The caller's bytes and a place in them.
@@ -67,7 +67,7 @@ pub fn after_number<'a>(r: Reader<'a>, most: usize) -> Reader<'a>
 pub fn head<'a>(r: Reader<'a>) -> HeadNumbers
     ensures { λ h. ⌜ headAnswer h ≡ headOf (now (r .entry .src)) ⌝ }
 {
-    proof_file::read_head(r.src)
+    file_head::read_head(r.src)
 }
 
 // Opening i, from 1, as that part of the caller's bytes; empty where there is none.

@@ -13,13 +13,13 @@ use Rattle.machine.proofs.StepLaws.{step-last}
 use Rattle.tree.specs.Nodes.{Node, node, root, InTree, labellingOrder}
 use Rattle.tree.specs.Walk.{nodesIn}
 use Rattle.tree.proofs.Order.{nodesIn-suc, tree-at}
-use Rattle.label.specs.Step.{nextNode, nextLabel, heldWith}
-use Rattle.label.proofs.Walking.{full}
+use Rattle.labelling.specs.Step.{nextNode, nextLabel, heldWith}
+use Rattle.base.proofs.Powers.{shifted-one}
 use Rattle.run.specs.Steps.{Stamped, runOf, stamped, stored, stepped, runMachine, steps}
 
 -- the number of nodes, as it is computed
 pub nodes-full : (n : ℕ) → n ≤ maxDepth → 2 * ((1 * 2 ^ n) % 2 ^ 64) - 1 ≡ nodesIn n
-nodes-full n small = omega (arith, full n small, nodesIn-suc n)
+nodes-full n small = omega (arith, shifted-one n small, nodesIn-suc n)
 
 pub small-nodes : (n : ℕ) → n ≤ maxDepth → nodesIn n < 2 ^ (maxDepth + 2)
 small-nodes n small = omega (arith, nodesIn-suc n, pow-mono {i = n} {j = maxDepth} small)
@@ -30,7 +30,7 @@ next-in-tree n k l p few is = subst (λ (w : Node). InTree n w) (sym is) (tree-a
 
 module _ (m : ℕ) (store : List ℕ) (l p : ℕ) (label : List ℕ) where
   pub kept : l ≤ maxDepth → l ≤ m → written store (32 * ((1 * 2 ^ l) % 2 ^ 64 - 1 + p)) label ≡ stored m store (node l p) label
-  kept small low = rw (full l small, le-leb l m low)
+  kept small low = rw (shifted-one l small, le-leb l m low)
 
   pub not-kept : m < l → store ≡ stored m store (node l p) label
   not-kept high = rw (lt-leb l m high)

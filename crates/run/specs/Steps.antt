@@ -13,7 +13,7 @@ use Rattle.tree.specs.Nodes.{Node, root}
 use Rattle.tree.specs.Walk.{nodesIn}
 use Rattle.tree.specs.Labels.{Label}
 use Rattle.tree.specs.Store.{slot}
-use Rattle.label.specs.Step.{nextNode, nextLabel, heldWith}
+use Rattle.labelling.specs.Step.{nextNode, nextLabel, heldWith}
 use Rattle.run.specs.declared.Run.{Run}
 use Rattle.run.specs.Rows.{startRow, continueRow}
 

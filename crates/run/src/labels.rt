@@ -10,8 +10,8 @@ ghost use Rattle.run.specs.Steps.{runOf, stamped, stored, stepped, steps
 use crate::Run;
 use base::EDITION;
 use base::put;
-use label::Labelled;
-use label::label_next;
+use labelling::Labelled;
+use labelling::label_next;
 
 // Writes a label of levels 0 to m to its slot.
 fn keep(store: &mut [u8], memory: u64, w: Labelled)

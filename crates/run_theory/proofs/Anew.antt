@@ -23,7 +23,7 @@ use Rattle.tree.proofs.Order.{Inside, inside-level, nodesIn-suc, nodesIn-step, 
 use Rattle.tree.proofs.HeldLaws.{order-inside}
 use Rattle.tree.proofs.OpeningLaws.{halved-first}
 use Rattle.opening.specs.Rows.{nodesAnew}
-use Rattle.opening.specs.Steps.{ancestor, beside}
+use Rattle.opening_places.specs.Places.{ancestor, beside}
 use Rattle.run_theory.specs.Openings.{openingNode, besides, copiedNodes, anewNodes}
 use Rattle.run_theory.proofs.Places.{Within}
 

@@ -20,7 +20,8 @@ use Rattle.tree.specs.Store.{storeSize}
 use Rattle.tree.specs.Openings.{openingNodes, openingSize}
 use Rattle.opening.specs.declared.Opening.{Opening}
 use Rattle.opening.specs.Rows.{nodesAnew, openRow, reopenRow}
-use Rattle.opening.specs.Steps.{copiedAll, newOpening, started, startedOut, Open, steps, labelsIn, advanced, openingMachine}
+use Rattle.opening_places.specs.Places.{copiedAll}
+use Rattle.opening.specs.Steps.{newOpening, started, startedOut, Open, steps, labelsIn, advanced, openingMachine}
 use Rattle.run_theory.specs.Reached.{labelsOf}
 use Rattle.run_theory.specs.Openings.{HoldsLabels, Openable, openingAfter, outAfter, newOpen, openAfter}
 use Rattle.run_theory.proofs.OpeningRun.{opening-start, opening-reached, length-after, opening-done}

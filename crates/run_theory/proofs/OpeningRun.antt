@@ -25,9 +25,10 @@ use Rattle.tree.specs.TreeOpening.{treeOpening}
 use Rattle.tree.proofs.Order.{order-length}
 use Rattle.tree.proofs.OpeningLaws.{left-siblings-same, tree-leaf, tree-sibling}
 use Rattle.label.specs.Rule.{stampRule}
-use Rattle.label.specs.Step.{nextNode, nextLabel, heldWith}
+use Rattle.labelling.specs.Step.{nextNode, nextLabel, heldWith}
 use Rattle.opening.specs.Rows.{nodesAnew}
-use Rattle.opening.specs.Steps.{labelIn, ancestor, beside, placed, copied, copiedAll, front, stepped, steps, openingMachine}
+use Rattle.opening_places.specs.Places.{labelIn, ancestor, beside, placed, copied, copiedAll, front}
+use Rattle.opening.specs.Steps.{stepped, steps, openingMachine}
 use Rattle.run_theory.specs.Reached.{labelOf, labelsOf, heldBytes}
 use Rattle.run_theory.specs.Openings.{HoldsLabels, openingNode, besides, copiedNodes, anewNodes, outWith, outAfter, newOpen, openAfter}
 use Rattle.run_theory.proofs.Step.{next-label, next-held, held-none}

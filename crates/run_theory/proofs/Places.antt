@@ -20,7 +20,7 @@ use Rattle.tree.specs.Labels.{Label}
 use Rattle.tree.specs.Openings.{sibling, openingSize}
 use Rattle.tree.proofs.Among.{sameNode-true, sameNode-refl, false-if-not, true-not-false, among-here, among-there}
 use Rattle.tree.proofs.OpeningLaws.{sibling-differs}
-use Rattle.opening.specs.Steps.{beside, placed}
+use Rattle.opening_places.specs.Places.{beside, placed}
 use Rattle.run_theory.specs.Reached.{labelOf}
 use Rattle.run_theory.specs.Openings.{openingNode, outWith}
 use Rattle.run_theory.proofs.Step.{label-size}

@@ -16,7 +16,7 @@ use Rattle.machine.proofs.CallLaws.{done-after, advanced-after, finished-done, 
 use Rattle.tree.specs.Nodes.{Node, root, InTree, leftSiblings}
 use Rattle.tree.specs.Walk.{nodesIn}
 use Rattle.tree.specs.Store.{slot}
-use Rattle.label.specs.Step.{nextNode, nextLabel}
+use Rattle.labelling.specs.Step.{nextNode, nextLabel}
 use Rattle.run.specs.Rows.{continueRow}
 use Rattle.run.specs.Steps.{Stamped, stepped, runMachine, steps, labelsIn, advanced}
 use Rattle.run_theory.specs.Reached.{labelOf, heldBytes, storeAfter, runAfter}

@@ -25,9 +25,10 @@ use Rattle.tree.proofs.Parents.{leftSiblingsBelow-count, parents-of-inner}
 use Rattle.tree.proofs.Cut.{labels-back}
 use Rattle.tree.proofs.Labelling.{label-parents}
 use Rattle.tree.proofs.HeldLaws.{heldBelow-before, heldBelow-after, heldBelow-few, held-start, held-all, leaf-parents, inner-parents}
-use Rattle.label.proofs.RuleLaws.{digest-length, stamp-hash}
+use Rattle.sha256.proofs.Digests.{digest-length}
+use Rattle.label.proofs.RuleLaws.{stamp-hash}
 use Rattle.label.specs.Rule.{stampRule}
-use Rattle.label.specs.Step.{nextNode, placeOf, isLeaf, hashedLabels, nextLabel, heldWith}
+use Rattle.labelling.specs.Step.{nextNode, placeOf, isLeaf, hashedLabels, nextLabel, heldWith}
 use Rattle.run_theory.specs.Reached.{labelOf, labelsOf, heldBytes}
 
 below-size :

@@ -19,7 +19,7 @@ use Rattle.tree.specs.Walk.{nodesIn}
 use Rattle.tree.specs.Store.{slot, storeSize}
 use Rattle.tree.proofs.Order.{tree-length, tree-at, tree-has, tree-once}
 use Rattle.tree.proofs.Slots.{slots-apart, slot-inside}
-use Rattle.label.specs.Step.{nextNode}
+use Rattle.labelling.specs.Step.{nextNode}
 use Rattle.run.specs.Steps.{stored}
 use Rattle.run_theory.specs.Reached.{labelOf, storeWith, storeAfter}
 use Rattle.run_theory.proofs.Step.{label-size}

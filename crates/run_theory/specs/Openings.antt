@@ -10,7 +10,8 @@ use Rattle.tree.specs.Nodes.{Node, node, InTree, orderBelow}
 use Rattle.tree.specs.Openings.{sibling, openingSize}
 use Rattle.tree.specs.Store.{storeSize}
 use Rattle.opening.specs.declared.Opening.{Opening}
-use Rattle.opening.specs.Steps.{labelIn, ancestor, beside, placed, copiedAll, newOpening, Open}
+use Rattle.opening_places.specs.Places.{labelIn, ancestor, beside, placed, copiedAll}
+use Rattle.opening.specs.Steps.{newOpening, Open}
 use Rattle.run_theory.specs.Reached.{labelOf, heldBytes}
 
 -- the store holds the label of each node of levels 0 to m in its slot, as a finished run left it

@@ -4,7 +4,7 @@ use Prim.Native.Nat.{ℕ, _+_, _-_, _≤_, min}
 use mathlib.Core.List.{List, _++_}
 use lib.ListN.{length, drop}
 use Rattle.base.specs.Limits.{edition}
-use Rattle.proof_file.specs.Layout.{fileSize}
+use Rattle.file_head.specs.Layout.{fileSize}
 use Rattle.run_theory.specs.Openings.{HoldsLabels}
 use Rattle.check_theory.specs.TreeFile.{rootOf, treeFile}
 use Rattle.writing.specs.declared.Writing.{Writing}

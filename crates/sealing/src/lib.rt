@@ -9,7 +9,7 @@ ghost use Prim.Native.Nat.{_+_};
 ghost use lib.ListN.{length, drop};
 ghost use Rattle.base.specs.Limits.{edition};
 ghost use Rattle.tree.specs.Walk.{nodesIn};
-ghost use Rattle.proof_file.specs.Layout.{fileSize};
+ghost use Rattle.file_head.specs.Layout.{fileSize};
 ghost use Rattle.run.specs.Steps.{steps};
 ghost use Rattle.run_theory.specs.Runs.{atStart};
 ghost use Rattle.check_theory.specs.TreeFile.{rootOf, treeFile};

@@ -4,7 +4,7 @@ ghost use mathlib.Core.List.{_++_};
 ghost use Prim.Native.Nat.{_+_, _^_, _≤_, _<_};
 ghost use lib.ListN.{length, drop};
 ghost use Rattle.base.specs.Limits.{edition};
-ghost use Rattle.proof_file.specs.Layout.{fileSize};
+ghost use Rattle.file_head.specs.Layout.{fileSize};
 ghost use Rattle.run_theory.specs.Openings.{HoldsLabels};
 ghost use Rattle.check_theory.specs.TreeFile.{rootOf, treeFile};
 ghost use Rattle.writing_theory.specs.Filed.{Writable, labelsAnew};

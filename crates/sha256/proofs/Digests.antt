@@ -7,8 +7,10 @@ use native.Mathlib.Omega.{arith}
 use lib.ListN.{length, take, length-append, length-replicate}
 use lib.Seq.{take-all}
 use Rattle.sha256.specs.declared.Hash.{Hash}
+use Rattle.sha256.specs.declared.Words.{Words}
 use Rattle.sha256.specs.Constants.{initial}
 use Rattle.base.specs.Bytes.{bigEndian}
+use Rattle.base.proofs.BytesLaws.{length-bigEndian}
 use Rattle.sha256.specs.Padding.{zeroBytes, padding, padded, blocks}
 use Rattle.sha256.specs.Digest.{hashAfter, digestOf, digest}
 use Rattle.sha256.specs.Portions.{newHash, pushedAll}
@@ -49,3 +51,12 @@ digest-pushed m =
     sym (pushedAll-append newHash m (padding (length m))) ∙
     ap (pushedAll newHash) (sym whole) ∙
     pushedAll-blocks initial 0 p (blocks p) refl (omega (arith, length-padded m)))
+
+-- ---- a digest has 32 bytes
+words-length : (v : Words) → length (digestOf v) ≡ 32
+unfolding digestOf
+words-length v = simp (length-append, length-bigEndian)
+
+pub digest-length : (x : List ℕ) → length (digest x) ≡ 32
+unfolding digest
+digest-length x = words-length _

@@ -12,7 +12,7 @@ use Rattle.sha256.specs.declared.Hash.{Hash}
 use Rattle.sha256.specs.Portions.{updateState, updatedAll}
 use Rattle.run.specs.declared.Run.{Run}
 use Rattle.run.specs.Steps as runs
-use Rattle.proof_file.specs.Challenge.{challenged}
+use Rattle.challenges.specs.Challenge.{challenged}
 use Rattle.writing.specs.declared.Writing.{Writing}
 use Rattle.writing.specs.Possible.{writtenOf}
 use Rattle.writing.specs.Steps as writings

@@ -4,7 +4,7 @@ use mathlib.Core.List.{List, [], _∷_, _++_}
 use lib.ListN.{length}
 use Rattle.base.specs.Limits.{edition}
 use Rattle.run.specs.Steps as runs
-use Rattle.proof_file.specs.Challenge.{challenged}
+use Rattle.challenges.specs.Challenge.{challenged}
 use Rattle.writing.specs.Steps as writings
 
 -- the store after a run is started and called with the greatest budget

@@ -7,7 +7,7 @@ ghost use Rattle.machine.specs.Calls.{afterCalls, labelsOver};
 ghost use Rattle.sha256.specs.Portions.{digestAnswer};
 ghost use Rattle.run.specs.Steps.{stamped, started, advanced};
 ghost use Rattle.opening.specs.Steps as opens;
-ghost use Rattle.opening.specs.Possible.{openOf};
+ghost use Rattle.opening.specs.Names.{openOf};
 use opening::Opening;
 use run::Run;
 use sha256::digest;

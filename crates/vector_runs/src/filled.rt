@@ -11,7 +11,7 @@ ghost use Rattle.vector_runs.specs.Whole.{wholeRun, wholeFile, leavesTo}
 use base::MAX_LEAVES;
 use base::big_endian;
 use base::label_at;
-use proof_file::challenge;
+use challenges::challenge;
 use run::Run;
 use sha256::Hash;
 use writing::Writing;

@@ -11,12 +11,12 @@ use Rattle.tree.specs.Openings.{openingSize}
 use Rattle.opening.specs.declared.Opening.{Opening}
 use Rattle.opening.specs.Rows.{nodesAnew}
 use Rattle.opening.specs.Steps as openings
-use Rattle.opening.specs.Possible.{openOf}
-use Rattle.proof_file.specs.Challenge.{challengeLeaf, challenged}
-use Rattle.proof_file.specs.Layout.{head, headSize, openingFrom, headWritten}
+use Rattle.opening.specs.Names.{openOf}
+use Rattle.challenges.specs.Challenge.{challengeLeaf, challenged}
+use Rattle.file_head.specs.Layout.{head, headSize, openingFrom, headWritten}
 use Rattle.run_theory.specs.Openings.{Openable}
 use Rattle.run_theory.proofs.OpeningCalls.{started-fits, startedOut-fits}
-use Rattle.proof_file.proofs.Leaves.{challengeLeaf-small}
+use Rattle.challenges.proofs.Leaves.{challengeLeaf-small}
 use Rattle.check_theory.proofs.RowLaws.{challenge-done, head-done}
 use Rattle.writing.specs.declared.Writing.{Writing}
 use Rattle.writing.specs.Possible.{Room, Ready, writingOf, writtenOf, labelled}

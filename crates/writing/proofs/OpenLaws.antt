@@ -14,12 +14,13 @@ use Rattle.machine.specs.Machines as machines
 use Rattle.machine.proofs.StepLaws.{done-some, advanced-by}
 use Rattle.tree.specs.Nodes.{Node, node, sameNode}
 use Rattle.tree.specs.Openings.{openingSize}
-use Rattle.label.specs.Step.{nextNode, nextLabel}
-use Rattle.label.proofs.RuleLaws.{digest-length}
+use Rattle.labelling.specs.Step.{nextNode, nextLabel}
+use Rattle.sha256.proofs.Digests.{digest-length}
 use Rattle.opening.specs.declared.Opening.{Opening}
 use Rattle.opening.specs.Rows.{nodesAnew}
-use Rattle.opening.specs.Possible.{openOf}
-use Rattle.opening.specs.Steps.{Open, ancestor, beside, placed, front, stepped, openingMachine, steps, labelsIn, advanced}
+use Rattle.opening.specs.Names.{openOf}
+use Rattle.opening_places.specs.Places.{ancestor, beside, placed, front}
+use Rattle.opening.specs.Steps.{Open, stepped, openingMachine, steps, labelsIn, advanced}
 use Rattle.opening.proofs.StepLaws.{anew-few, next-below}
 use Rattle.run_theory.specs.Openings.{Openable}
 use Rattle.run_theory.proofs.OpeningCalls.{reopen-fits}

@@ -10,8 +10,8 @@ use Rattle.base.specs.Bytes.{written}
 use Rattle.base.proofs.WrittenLaws.{written-over}
 use Rattle.base.proofs.Parts.{part-length}
 use Rattle.tree.specs.Openings.{openingSize}
-use Rattle.proof_file.specs.Layout.{headSize, openingFrom, fileSize}
-use Rattle.proof_file.proofs.HeadLaws.{opening-inside}
+use Rattle.file_head.specs.Layout.{headSize, openingFrom, fileSize}
+use Rattle.file_head.proofs.HeadLaws.{opening-inside}
 
 -- ---- where it lies
 module _ (n t i : ℕ) (low : 1 ≤ i) (high : i ≤ t) where

@@ -17,8 +17,8 @@ use Rattle.opening.specs.Rows.{nodesAnew}
 use Rattle.machine.specs.Machines as machines
 use Rattle.machine.proofs.StepLaws.{no-step}
 use Rattle.opening.specs.Steps as openings
-use Rattle.opening.specs.Possible.{openOf}
-use Rattle.proof_file.specs.Layout.{headSize, openingFrom}
+use Rattle.opening.specs.Names.{openOf}
+use Rattle.file_head.specs.Layout.{headSize, openingFrom}
 use Rattle.writing.specs.declared.Writing.{Writing}
 use Rattle.writing.specs.Possible.{Ready, writtenOf, labelled}
 use Rattle.writing.specs.Steps.{Written, partOf, mayFollow, followed, stepped, remaining, writingMachine, steps}

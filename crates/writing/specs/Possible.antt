@@ -11,8 +11,8 @@ use Rattle.run.specs.Rows.{impossible}
 use Rattle.opening.specs.declared.Opening.{Opening}
 use Rattle.opening.specs.Rows.{nodesAnew}
 use Rattle.opening.specs.Steps as openings
-use Rattle.opening.specs.Possible.{openOf}
-use Rattle.proof_file.specs.Layout.{fileSize}
+use Rattle.opening.specs.Names.{openOf}
+use Rattle.file_head.specs.Layout.{fileSize}
 use Rattle.writing.specs.declared.Writing.{Writing}
 use Rattle.writing.specs.Steps.{Written, partOf, withPart, mayFollow, remaining}
 

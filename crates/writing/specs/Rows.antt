@@ -10,7 +10,7 @@ use Rattle.tree.specs.Store.{storeSize}
 use Rattle.run.specs.Rows.{impossible}
 use Rattle.opening.specs.declared.Opening.{Opening}
 use Rattle.opening.specs.Rows.{nodesAnew}
-use Rattle.proof_file.specs.Layout.{fileSize}
+use Rattle.file_head.specs.Layout.{fileSize}
 use Rattle.writing.specs.declared.Writing.{Writing}
 
 -- 1, 2, 3; 8: t not 1..200; 7: less than the whole file fits

@@ -15,8 +15,9 @@ use Rattle.machine.specs.Machines.{Machine}
 use Rattle.opening.specs.declared.Opening.{Opening}
 use Rattle.opening.specs.Rows.{nodesAnew}
 use Rattle.opening.specs.Steps as openings
-use Rattle.proof_file.specs.Challenge.{challengeLeaf}
-use Rattle.proof_file.specs.Layout.{head, headSize, openingFrom}
+use Rattle.opening_places.specs.Places.{copiedAll}
+use Rattle.challenges.specs.Challenge.{challengeLeaf}
+use Rattle.file_head.specs.Layout.{head, headSize, openingFrom}
 use Rattle.writing.specs.declared.Writing.{Writing}
 use Rattle.writing.specs.Rows.{writeRow, rewriteRow}
 
@@ -38,7 +39,7 @@ begun statement root n m t store i file =
     let leaf : ℕ = challengeLeaf edition n statement root i in
     record {
       writing = record { root = root; count = t; number = i; opening = openings.newOpening statement n m leaf };
-      file = withPart n t i file (openings.copiedAll n m leaf store (partOf n t i file));
+      file = withPart n t i file (copiedAll n m leaf store (partOf n t i file));
     }
 
 -- the opening under way is done and is not the last

@@ -13,8 +13,8 @@ use crate::Writing;
 use crate::parts::begin;
 use crate::parts::label_part;
 use base::smaller;
+use file_head::write_head;
 use opening::nodes_anew;
-use proof_file::write_head;
 
 // The opening under way is done and is not the last.
 pub fn may_follow(made: u64, anew: u64, number: u64, count: u64) -> bool

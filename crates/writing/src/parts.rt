@@ -5,13 +5,13 @@ ghost use lib.ListN.{length};
 ghost use Rattle.base.specs.Limits.{maxDepth, maxChallenges};
 ghost use Rattle.tree.specs.Openings.{openingSize};
 ghost use Rattle.opening.specs.Rows.{nodesAnew};
-ghost use Rattle.proof_file.specs.Layout.{headSize, openingFrom, fileSize};
+ghost use Rattle.file_head.specs.Layout.{headSize, openingFrom, fileSize};
 ghost use Rattle.writing.specs.Possible.{Room, Ready, writtenOf, labelled};
 ghost use Rattle.writing.specs.Steps.{begun};
 use crate::Writing;
+use challenges::challenge;
+use file_head::file_size;
 use opening::Opening;
-use proof_file::challenge;
-use proof_file::file_size;
 
 // Where opening i begins: t + 1 − i openings before the file's end.
 fn part_start(n: u64, t: u64, i: u64) -> usize

@@ -10,7 +10,7 @@ use Rattle.base.specs.Limits.{edition}
 use Rattle.machine.specs.Machines.{Goes}
 use Rattle.machine.specs.Calls.{total, afterCalls}
 use Rattle.machine.proofs.CallLaws.{done-after, progress, advanced-after, calls-end}
-use Rattle.proof_file.specs.Layout.{fileSize}
+use Rattle.file_head.specs.Layout.{fileSize}
 use Rattle.proof_file.specs.FileCheck.{fileCheck}
 use Rattle.run_theory.specs.Openings.{HoldsLabels}
 use Rattle.run_theory.proofs.OpeningRun.{length-after}

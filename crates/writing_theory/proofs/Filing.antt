@@ -18,8 +18,9 @@ use Rattle.groups.proofs.Steps.{lt-or-le}
 use Rattle.tree.specs.Openings.{openingSize}
 use Rattle.opening.specs.Rows.{nodesAnew}
 use Rattle.machine.specs.Machines as machines
-use Rattle.opening.specs.Steps.{Open, copiedAll}
-use Rattle.proof_file.specs.Layout.{fileSize}
+use Rattle.opening_places.specs.Places.{copiedAll}
+use Rattle.opening.specs.Steps.{Open}
+use Rattle.file_head.specs.Layout.{fileSize}
 use Rattle.proof_file.specs.FileCheck.{fileCheck}
 use Rattle.run_theory.specs.Openings.{HoldsLabels, newOpen, openAfter, outAfter}
 use Rattle.run_theory.proofs.OpeningRun.{opening-start, opening-step, length-after, opening-done}

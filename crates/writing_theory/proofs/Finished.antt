@@ -13,7 +13,7 @@ use Rattle.tree.specs.Nodes.{root}
 use Rattle.tree.specs.Walk.{nodesIn}
 use Rattle.run.specs.Steps as runs
 use Rattle.run.specs.Steps.{Stamped}
-use Rattle.proof_file.specs.Layout.{fileSize}
+use Rattle.file_head.specs.Layout.{fileSize}
 use Rattle.proof_file.specs.FileCheck.{fileCheck}
 use Rattle.run_theory.specs.Runs.{Startable, atStart, called}
 use Rattle.run_theory.proofs.Step.{label-size}

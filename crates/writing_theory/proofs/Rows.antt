@@ -12,7 +12,7 @@ use Rattle.refusal.proofs.RowLaws.{none-holds, NoneHolds}
 use Rattle.tree.specs.Store.{storeSize}
 use Rattle.run.specs.Rows.{startRow}
 use Rattle.opening.specs.Rows.{nodesAnew}
-use Rattle.proof_file.specs.Layout.{fileSize, headRow}
+use Rattle.file_head.specs.Layout.{fileSize, headRow}
 use Rattle.run_theory.specs.Runs.{Startable}
 use Rattle.run_theory.proofs.StartLaws.{start-bounds}
 use Rattle.check_theory.proofs.RowLaws.{within, done-head}

@@ -13,8 +13,8 @@ use Rattle.tree.specs.Openings.{openingSize}
 use Rattle.run.specs.Steps.{Stamped}
 use Rattle.opening.specs.Rows.{nodesAnew}
 use Rattle.opening.specs.Steps.{Open}
-use Rattle.proof_file.specs.Challenge.{challengeLeaf}
-use Rattle.proof_file.specs.Layout.{head, headSize, fileSize}
+use Rattle.challenges.specs.Challenge.{challengeLeaf}
+use Rattle.file_head.specs.Layout.{head, headSize, fileSize}
 use Rattle.run_theory.specs.Openings.{openAfter}
 use Rattle.check_theory.specs.TreeFile.{rootOf, treeOpenings}
 use Rattle.writing.specs.Steps.{Written, newWriting, started, advanced}

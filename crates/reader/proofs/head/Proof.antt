@@ -35,14 +35,14 @@ use denote.Triple.Table.{entered, cited}
 use denote.Triple.Walked.{says, Stays, stay-none, walkOf, goes-none, Walks, ends-at, walked, walk-meets}
 use denote.Exit.{yes}
 use denote.Triple.Clauses.{ensured, lasts}
-use Rattle.proof_file.specs.Head.{HeadAnswer, headAnswer, headOf}
-use Rattle.proof_file.specs.declared.HeadNumbers.{HeadNumbers}
-use Rattle.proof_file.proofs.HeadNumbers as S
-use Rattle.proof_file.proofs.HeadNumbers.Laws as S′
-use Rattle.proof_file.proofs.read_head as callee
-use Rattle.proof_file.proofs.read_head.Symbol as callee-def
-use Rattle.proof_file.proofs.read_head.Symbol.{name as #proof-file·read-head}
-use Rattle.proof_file.proofs.read_head.Met as callee-thm
+use Rattle.file_head.specs.Head.{HeadAnswer, headAnswer, headOf}
+use Rattle.file_head.specs.declared.HeadNumbers.{HeadNumbers}
+use Rattle.file_head.proofs.HeadNumbers as S
+use Rattle.file_head.proofs.HeadNumbers.Laws as S′
+use Rattle.file_head.proofs.read_head as callee
+use Rattle.file_head.proofs.read_head.Symbol as callee-def
+use Rattle.file_head.proofs.read_head.Symbol.{name as #file-head·read-head}
+use Rattle.file_head.proofs.read_head.Met as callee-thm
 use Rattle.reader.specs.declared.Reader.{Reader}
 use Rattle.reader.proofs.Reader.Laws as T′
 use Rattle.reader.proofs.Held.{B, D, L, srcVal, Own, SrcOwn, src-out}
@@ -106,7 +106,7 @@ module _ {M : Type 1} (𝓤 : URA M) (H : Heap 𝓤) (A : Atoms 𝓤) (W : Given
       r (tt, tt) (tt, tt)) $ says ! e $
       move ! (1 ∷ []) $ frame ! $ nothing ! $ move ! (2 ∷ 0 ∷ []) $ fjoin ! $ frame ! $ done !
 
-  module _ (C : Calls 𝓤 H) (Λ : Loops 𝓤 H) (fm : FmC 𝓤 H (W .laws) C) (known : Triple 𝓤 (C #proof-file·read-head) (ReadHead 𝓤 H A mem run)) where
+  module _ (C : Calls 𝓤 H) (Λ : Loops 𝓤 H) (fm : FmC 𝓤 H (W .laws) C) (known : Triple 𝓤 (C #file-head·read-head) (ReadHead 𝓤 H A mem run)) where
     walk :
         Holds (hasTy (T′.mir (named 0)) mach) × WT mach
         → ent 𝓤 (onEntry 𝓤 H A head.signature (κ, tt) (q, tt) (d, tt) (mach ∷ [], tt))
@@ -128,7 +128,7 @@ module _ {M : Type 1} (𝓤 : URA M) (H : Heap 𝓤) (A : Atoms 𝓤) (W : Given
         move ! (7 ∷ 8 ∷ []) $ free1 ! $ move ! (5 ∷ 6 ∷ []) $ free1 ! $ move ! (3 ∷ 4 ∷ []) $ free1 ! $ free0 ! $ by ! (exits r u e))))))))
 
 module _ {M : Type 1} (𝓤 : URA M) (H : Heap 𝓤) (A : Atoms 𝓤) (W : Given 𝓤 H A) (mem : Memory → SProp 𝓤) (run : Routine → Fun 𝓤) where
-  head-walks : (C : Calls 𝓤 H) (Λ : Loops 𝓤 H) → FmC 𝓤 H (W .laws) C → Triple 𝓤 (C #proof-file·read-head) (ReadHead 𝓤 H A mem run)
+  head-walks : (C : Calls 𝓤 H) (Λ : Loops 𝓤 H) → FmC 𝓤 H (W .laws) C → Triple 𝓤 (C #file-head·read-head) (ReadHead 𝓤 H A mem run)
       → Walks 𝓤 H A head.ended stayed (WpFn 𝓤 H C Λ code.function) (head.clauses 𝓤 H A mem run)
   head-walks C Λ fm known =
       walked 𝓤 H A head.ended stayed (head.clauses 𝓤 H A mem run) (WpFn 𝓤 H C Λ code.function) (λ κs. (LL.vals (D κs) (L κs), tt))
@@ -139,7 +139,7 @@ module _ {M : Type 1} (𝓤 : URA M) (H : Heap 𝓤) (A : Atoms 𝓤) (W : Given
       (LL.lawful (D κs) (L κs) 𝓤 H A W .typed (a .0) _ (are .0) .0)))
 
 head-meets : {M : Type 1} (𝓤 : URA M) (H : Heap 𝓤) (A : Atoms 𝓤) (W : Given 𝓤 H A) (mem : Memory → SProp 𝓤) (run : Routine → Fun 𝓤) (𝓣 : Tables 𝓤 H)
-    → Triple 𝓤 (𝓣 .C #proof-file·read-head) (ReadHead 𝓤 H A mem run)
+    → Triple 𝓤 (𝓣 .C #file-head·read-head) (ReadHead 𝓤 H A mem run)
     → Meets 𝓤 H A head.signature (WpFn 𝓤 H (𝓣 .C) (𝓣 .Λ) code.function) (head.spec 𝓤 H A mem run)
 head-meets 𝓤 H A W mem run 𝓣 known =
     walk-meets 𝓤 H A head.ended stayed W (goes-none 𝓤 H A W 1 B yes (λ κs x f. refl), tt) (head.clauses 𝓤 H A mem run)
@@ -153,4 +153,4 @@ head-spec 𝓤 H 𝓜 𝓖 𝓡 =
     (tables 𝓤 H 𝓜 𝓡 code.env .C) (tables 𝓤 H 𝓜 𝓡 code.env .Λ) #reader·head code.function (code.unfolded 𝓤 H 𝓜 𝓡)
     (head-meets 𝓤 H (𝓖 .A) (givenOf 𝓤 H 𝓜 𝓖) (𝓜 .mem) (𝓡 .run) (tablesOf 𝓤 H 𝓜 (tables 𝓤 H 𝓜 𝓡 code.env))
     (cited 𝓤 H (ReadHead 𝓤 H (𝓖 .A) (𝓜 .mem)
-    (𝓡 .run)) 𝓜 𝓡 code.env #proof-file·read-head callee-def.routine code.calls-proof-file·read-head (callee-thm.met 𝓤 H 𝓜 𝓖 𝓡)))
+    (𝓡 .run)) 𝓜 𝓡 code.env #file-head·read-head callee-def.routine code.calls-file-head·read-head (callee-thm.met 𝓤 H 𝓜 𝓖 𝓡)))

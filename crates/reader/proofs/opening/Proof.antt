@@ -37,7 +37,7 @@ use denote.Triple.Table.{entered, cited}
 use denote.Triple.Walked.{says, Stays, stay-none, walkOf, goes-none, Walks, ends-at, walked, walk-meets}
 use denote.Exit.{yes}
 use denote.Triple.Clauses.{ensured, lasts}
-use Rattle.proof_file.specs.Head.{headOf, partStart, openingPart}
+use Rattle.file_head.specs.Head.{headOf, partStart, openingPart}
 use Rattle.proof_file.proofs.opening_part as callee
 use Rattle.proof_file.proofs.opening_part.Symbol as callee-def
 use Rattle.proof_file.proofs.opening_part.Symbol.{name as #proof-file·opening-part}

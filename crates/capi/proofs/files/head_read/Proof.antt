@@ -1,5 +1,5 @@
 use mathlib.Core.Path.{sym, ap, _∙_}
-use Rattle.proof_file.specs.Head.{headAnswer}
+use Rattle.file_head.specs.Head.{headAnswer}
 use Rattle.capi.proofs.Numbers.{same-head}
 use borrow.Author.Needs.{needs}
 use Rattle.capi.proofs.files.head_read.Statement.{statement}

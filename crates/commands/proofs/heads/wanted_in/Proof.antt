@@ -1,7 +1,7 @@
 -- `commands::heads::wanted_in` meets its contract.
 use mathlib.Core.Path.{sym, ap, _∙_}
 use borrow.Author.Needs.{needs}
-use Rattle.proof_file.specs.Head.{headAnswer, headDepth, headCount}
+use Rattle.file_head.specs.Head.{headAnswer, headDepth, headCount}
 use Rattle.commands.proofs.heads.wanted_in.Statement.{statement}
 use Rattle.commands.proofs.heads.wanted_in.Tie as tie
 

@@ -5,7 +5,7 @@ use Prim.Native.Nat.{ℕ, _<_}
 use lib.ListN.{length, getD, take}
 use lib.Seq.{length-take-le}
 use Rattle.base.specs.Limits.{edition}
-use Rattle.proof_file.specs.Head.{lengthFrom}
+use Rattle.file_head.specs.Head.{lengthFrom}
 use Rattle.check_theory.specs.IsProof.{IsProof}
 use Rattle.check_theory.proofs.Soundness.{accepted-proof}
 use Rattle.draw.specs.Drawing.{leavesOf}

@@ -6,7 +6,7 @@ use borrow.Author.Needs.{needs}
 use lib.Dec.{leb}
 use Rattle.refusal.specs.Row.{either}
 use Rattle.run.specs.Rows.{impossible}
-use Rattle.opening.specs.Possible.{Possible}
+use Rattle.opening_places.specs.Possible.{Possible}
 use Rattle.opening.specs.Rows.{nodesAnew, reopenRow}
 use Rattle.opening.proofs.RowLaws.{can-be}
 use Rattle.opening.proofs.checks.may_continue.Statement.{statement}

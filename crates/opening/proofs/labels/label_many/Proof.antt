@@ -8,8 +8,9 @@ use lib.ListN.{length-take, length}
 use lib.Seq.{length-take-le}
 use Rattle.base.specs.Limits.{heldSize}
 use Rattle.opening.specs.Steps.{Open, steps}
-use Rattle.opening.specs.Possible.{openingOf, openOf, frontSize}
-use Rattle.opening.proofs.AboveLaws.{above-few}
+use Rattle.opening_places.specs.Possible.{frontSize}
+use Rattle.opening.specs.Names.{openingOf, openOf}
+use Rattle.opening_places.proofs.AboveLaws.{above-few}
 use Rattle.opening.proofs.StepLaws.{anew-small, steps-none, steps-more}
 use Rattle.opening.proofs.labels.label_many.Statement.{statement}
 use Rattle.opening.proofs.labels.label_many.Tie as tie

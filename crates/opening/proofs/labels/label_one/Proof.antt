@@ -3,10 +3,10 @@ use Prim.Native.Nat.{_-_, _/_, _^_}
 use native.Mathlib.Omega.{arith}
 use borrow.Author.Needs.{needs}
 use Rattle.tree.specs.Nodes.{node}
-use Rattle.label.proofs.OneStep.{next-level}
-use Rattle.opening.specs.Steps.{ancestor}
+use Rattle.labelling.proofs.OneStep.{next-level}
+use Rattle.opening_places.specs.Places.{ancestor}
 use Rattle.opening.proofs.StepLaws.{one-step, anew-few, next-below}
-use Rattle.opening.proofs.PlaceLaws.{way-inside}
+use Rattle.opening_places.proofs.PlaceLaws.{way-inside}
 use Rattle.opening.proofs.labels.label_one.Statement.{statement}
 use Rattle.opening.proofs.labels.label_one.Tie as tie
 

@@ -4,7 +4,7 @@ use Prim.Native.Nat.{_≤_}
 use native.Mathlib.Omega.{arith}
 use borrow.Author.Needs.{needs}
 use Rattle.base.specs.Limits.{edition, maxDepth, IsDepth}
-use Rattle.label.proofs.Walking.{full}
+use Rattle.base.proofs.Powers.{shifted-one}
 use Rattle.opening_check.proofs.OneOpening.{depth-refused, leaf-refused, short-refused, long-refused, rest-right}
 use Rattle.refusal.proofs.Ranges.{range-of}
 use Rattle.opening_check.proofs.way.check_opening.Statement.{statement}
@@ -50,7 +50,7 @@ returns-4 c =
 right-requires : tie.Need-right-requires
 right-requires c κs =
     let d = within-depth (c .before .before .before) in
-    (d .0, d .1, rw (full _ (d .1)) at (c .before .before .if2 .left), omega arith)
+    (d .0, d .1, rw (shifted-one _ (d .1)) at (c .before .before .if2 .left), omega arith)
 
 returns-5 : tie.Need-returns-5
 returns-5 c =

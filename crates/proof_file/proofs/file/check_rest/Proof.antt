@@ -3,7 +3,7 @@ use mathlib.Core.Path.{sym, _∙_}
 use native.Mathlib.Omega.{arith}
 use borrow.Author.Tests.{not-true, not-false}
 use borrow.Author.Needs.{needs}
-use Rattle.proof_file.specs.Head.{statementAt}
+use Rattle.file_head.specs.Head.{statementAt}
 use Rattle.proof_file.proofs.FileLaws.{too-short, too-long, not-wanted, is-wanted, wanted-statement}
 use Rattle.proof_file.proofs.file.check_rest.Statement.{statement}
 use Rattle.proof_file.proofs.file.check_rest.Tie as tie

@@ -6,7 +6,7 @@ use borrow.Author.Needs.{needs}
 use lib.ListN.{length}
 use Rattle.base.proofs.Parts.{part-size, part-length}
 use Rattle.base.specs.Lists.{sameBytes}
-use Rattle.proof_file.specs.Head.{statementAt}
+use Rattle.file_head.specs.Head.{statementAt}
 use Rattle.proof_file.proofs.FileLaws.{other-depth, other-count, statement-left}
 use Rattle.proof_file.proofs.file.is_wanted.Statement.{statement}
 use Rattle.proof_file.proofs.file.is_wanted.Tie as tie

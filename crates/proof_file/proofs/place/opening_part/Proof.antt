@@ -1,8 +1,8 @@
 -- `proof_file::opening_part` meets its contract: the part and its place.
 use native.Mathlib.Omega.{arith}
 use borrow.Author.Needs.{needs}
-use Rattle.proof_file.specs.Head.{headOf}
-use Rattle.proof_file.proofs.HeadLaws.{part-inside, is-part}
+use Rattle.file_head.specs.Head.{headOf}
+use Rattle.file_head.proofs.HeadLaws.{part-inside, is-part}
 use Rattle.proof_file.proofs.place.opening_part.Statement.{statement}
 use Rattle.proof_file.proofs.place.opening_part.Tie as tie
 

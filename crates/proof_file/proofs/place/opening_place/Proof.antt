@@ -2,8 +2,8 @@
 use mathlib.Core.Path.{sym, ap, _∙_}
 use native.Mathlib.Omega.{arith}
 use borrow.Author.Needs.{needs}
-use Rattle.proof_file.specs.Head.{headAnswer}
-use Rattle.proof_file.proofs.HeadLaws.{head-within}
+use Rattle.file_head.specs.Head.{headAnswer}
+use Rattle.file_head.proofs.HeadLaws.{head-within}
 use Rattle.proof_file.proofs.place.opening_place.Statement.{statement}
 use Rattle.proof_file.proofs.place.opening_place.Tie as tie
 

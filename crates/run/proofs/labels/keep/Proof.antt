@@ -6,7 +6,7 @@ use lib.Pow.{pow-pos, pow-mono}
 use Rattle.base.specs.Limits.{maxDepth}
 use Rattle.tree.specs.Nodes.{node}
 use Rattle.tree.proofs.Slots.{slot-inside}
-use Rattle.label.proofs.Walking.{full}
+use Rattle.base.proofs.Powers.{shifted-one}
 use Rattle.run.proofs.StepLaws.{kept, not-kept}
 use borrow.Author.Needs.{needs}
 use Rattle.run.proofs.labels.keep.Statement.{statement}
@@ -16,7 +16,7 @@ use Rattle.run.proofs.labels.keep.Tie as tie
 small-power : (c : tie.Start) → let l = c .args .w .level in ((1 * 2 ^ l) % 2 ^ 64 ≡ 2 ^ l) × (0 < 2 ^ l) × (2 ^ l ≤ 2 ^ maxDepth)
 small-power c =
     let l = c .args .w .level in
-    (full l (c .pre .0), pow-pos l, pow-mono {i = l} {j = maxDepth} (c .pre .0))
+    (shifted-one l (c .pre .0), pow-pos l, pow-mono {i = l} {j = maxDepth} (c .pre .0))
 
 sub-at : tie.Need-sub-at
 sub-at c = let entry = c .before .before .before .before in omega (arith, small-power entry, entry .pre .1)

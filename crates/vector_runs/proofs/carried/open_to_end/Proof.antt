@@ -7,7 +7,7 @@ use borrow.Author.Needs.{needs}
 use lib.ListN.{length, replicate}
 use Rattle.opening.specs.Steps as opens
 use Rattle.opening.specs.Steps.{Open}
-use Rattle.opening.specs.Possible.{openOf}
+use Rattle.opening.specs.Names.{openOf}
 use Rattle.machine.specs.Calls.{afterCalls, labelsOver}
 use Rattle.vector_runs.proofs.CallLaws.{calls-idle, labels-idle, calls-more, labels-more, calls-none, labels-none, opening-idle, counted-more}
 use Rattle.vector_runs.proofs.CallLaws.{counted-all}

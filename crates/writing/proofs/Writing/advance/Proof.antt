@@ -6,7 +6,7 @@ use borrow.Author.Tests.{ltb-false}
 use lib.Dec.{ltb}
 use Rattle.refusal.proofs.RowLaws.{NoneHolds, none-holds, is-done, is-refused}
 use Rattle.tree.specs.Store.{storeSize}
-use Rattle.proof_file.specs.Layout.{fileSize}
+use Rattle.file_head.specs.Layout.{fileSize}
 use Rattle.writing.specs.declared.Writing.{Writing}
 use Prim.Native.Nat.{ℕ, min}
 use native.Mathlib.Omega.{arith}

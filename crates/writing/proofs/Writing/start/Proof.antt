@@ -9,7 +9,7 @@ use Rattle.base.specs.Limits.{maxDepth, maxMemory, maxChallenges, IsCount}
 use Rattle.refusal.specs.Row.{outside, memoryOver}
 use Rattle.refusal.proofs.RowLaws.{NoneHolds, none-holds, is-done, is-refused}
 use Rattle.tree.specs.Store.{storeSize}
-use Rattle.proof_file.specs.Layout.{fileSize}
+use Rattle.file_head.specs.Layout.{fileSize}
 use Rattle.check_theory.proofs.RowLaws.{bounds}
 use Rattle.writing.specs.Possible.{Room}
 use borrow.Author.Needs.{needs}

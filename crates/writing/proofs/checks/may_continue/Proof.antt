@@ -6,7 +6,7 @@ use native.Mathlib.Omega.{arith}
 use borrow.Author.Tests.{lt-ltb, le-ltb}
 use lib.Dec.{ltb}
 use Rattle.tree.specs.Store.{storeSize}
-use Rattle.proof_file.specs.Layout.{fileSize}
+use Rattle.file_head.specs.Layout.{fileSize}
 use Rattle.writing.specs.Rows.{rewriteRow}
 use Rattle.writing.specs.Possible.{stateOutside}
 use Rattle.writing.proofs.RowLaws.{Bounded, state-bounds}

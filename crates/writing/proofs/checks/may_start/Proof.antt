@@ -8,7 +8,7 @@ use Rattle.base.specs.Limits.{maxDepth, maxChallenges}
 use Rattle.refusal.specs.Row.{outside, memoryOver}
 use Rattle.tree.specs.Store.{storeSize}
 use Rattle.refusal.proofs.Ranges.{depth-inside, memory-inside}
-use Rattle.proof_file.specs.Layout.{fileSize}
+use Rattle.file_head.specs.Layout.{fileSize}
 use Rattle.check_theory.proofs.RowLaws.{bounds}
 use Rattle.writing.specs.Rows.{writeRow}
 use Rattle.writing.proofs.checks.may_start.Statement.{statement}

@@ -1,7 +1,7 @@
 -- `writing::parts::part_start` meets its contract: the openings from number i on end the file.
 use borrow.Author.Needs.{needs}
 use native.Mathlib.Omega.{arith}
-use Rattle.proof_file.specs.Layout.{fileSize}
+use Rattle.file_head.specs.Layout.{fileSize}
 use Rattle.writing.proofs.PartLaws.{part-from, part-fits}
 use Rattle.writing.proofs.parts.part_start.Statement.{statement}
 use Rattle.writing.proofs.parts.part_start.Tie as tie

@@ -1,0 +1,26 @@
+-- The checks of leaf positions, and what is known of leaves that passed them.
+use mathlib.Core.Path.{_≡_}
+use Prim.Native.Nat.{ℕ, _≤_}
+use mathlib.Core.Bool.{true, not}
+use mathlib.Core.List.{List, [], _∷_}
+use lib.ListN.{length}
+use Rattle.base.specs.Choice.{every}
+use Rattle.base.specs.Limits.{maxDepth, maxChallenges}
+use Rattle.refusal.specs.Row.{firstOf, outside}
+use Rattle.chain_theory.specs.Planning.{isLeaf}
+
+-- at most 200 leaves of a depth of at most 40
+pub record Leaves (n : ℕ) (leaves : List ℕ) : Type 0 where
+  pub depth : n ≤ maxDepth
+  pub few : length leaves ≤ maxChallenges
+  pub inside : every (isLeaf n) leaves ≡ true
+
+-- the planning row up to the list: 1; 8: not 1..200 leaves; 6
+unfoldable pub leavesRow : ℕ → List ℕ → ℕ
+leavesRow n leaves =
+    firstOf
+    ((outside 1 maxDepth n, 1)
+    ∷ (outside 1 maxChallenges (length leaves), 8)
+    ∷ (not (every (isLeaf n) leaves), 6)
+    ∷ []
+    )

@@ -1,0 +1,2 @@
+pub mod ChallengeLaws
+pub mod Leaves

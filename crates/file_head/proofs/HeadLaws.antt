@@ -1,0 +1,191 @@
+-- Laws of reading: the head's numbers one by one, their bounds, sizes, and openings as parts of the bytes.
+use mathlib.Core.Path.{_≡_, refl, sym, _∙_}
+use mathlib.Core.Bool.{Bool, true, false, not}
+use mathlib.Core.List.{List}
+use Prim.Native.Nat.{ℕ, _+_, _-_, _*_, _≤_, _<_}
+use native.Mathlib.Nat.{mul-le-mul-right, add-comm}
+use native.Mathlib.Omega.{arith}
+use borrow.Author.Tests.{eq-eqb, ne-eqb, eqb-true, not-true}
+use lib.Dec.{eqb}
+use lib.ListN.{length, take, drop, getD}
+use Rattle.base.specs.Limits.{maxDepth, maxChallenges, edition, maxOpenings, IsDepth, IsCount}
+use Rattle.base.proofs.ChoiceLaws.{both-first, both-second}
+use Rattle.refusal.specs.Row.{outside}
+use Rattle.groups.specs.Reading.{Answer, value, refused, readAt, checked}
+use Rattle.groups.proofs.Checked.{checked-refused, checked-bad, checked-next}
+use Rattle.groups.proofs.Sizes.{length-groups-le}
+use Rattle.groups.proofs.Steps.{read-number}
+use Rattle.groups.proofs.ShortestOnly.{only-shortest}
+use Rattle.tree.specs.Openings.{openingSize}
+use Rattle.file_head.specs.Head.{HeadAnswer, numbers, notRead, headOf, lengthFrom, hasOpening, partStart, partLength, openingPart}
+use Rattle.file_head.specs.HeadSteps.{countFrom, depthFrom}
+use Rattle.base.proofs.Parts.{part-size}
+use Rattle.refusal.proofs.Ranges.{range-of}
+
+module _ (bytes : List ℕ) (n at : ℕ) where
+  pub count-refused : (r : ℕ) → readAt bytes at 2 ≡ refused r → notRead r ≡ countFrom bytes n at
+  unfolding countFrom
+  count-refused r e = checked-refused notRead (readAt bytes at 2) _ _ _ r e
+
+  pub count-bad : (t end : ℕ) → readAt bytes at 2 ≡ value t end → outside 1 maxChallenges t ≡ true → notRead 8 ≡ countFrom bytes n at
+  unfolding countFrom
+  count-bad t end e b = checked-bad notRead (readAt bytes at 2) (outside 1 maxChallenges) _ _ t end e b
+
+  pub count-read : (t end : ℕ) → readAt bytes at 2 ≡ value t end → outside 1 maxChallenges t ≡ false
+      → numbers n t end ≡ countFrom bytes n at
+  unfolding countFrom
+  count-read t end e b = checked-next notRead (readAt bytes at 2) (outside 1 maxChallenges) 8 (λ t at. numbers n t at) t end e b
+
+module _ (bytes : List ℕ) (at : ℕ) where
+  pub depth-refused : (r : ℕ) → readAt bytes at 2 ≡ refused r → notRead r ≡ depthFrom bytes at
+  unfolding depthFrom
+  depth-refused r e = checked-refused notRead (readAt bytes at 2) _ _ _ r e
+
+  pub depth-bad : (n end : ℕ) → readAt bytes at 2 ≡ value n end → outside 1 maxDepth n ≡ true → notRead 1 ≡ depthFrom bytes at
+  unfolding depthFrom
+  depth-bad n end e b = checked-bad notRead (readAt bytes at 2) (outside 1 maxDepth) _ _ n end e b
+
+  pub depth-read : (n end : ℕ) → readAt bytes at 2 ≡ value n end → outside 1 maxDepth n ≡ false
+      → countFrom bytes n end ≡ depthFrom bytes at
+  unfolding depthFrom
+  depth-read n end e b = checked-next notRead (readAt bytes at 2) (outside 1 maxDepth) 1 (countFrom bytes) n end e b
+
+abbrev notEdition : ℕ → Bool
+notEdition e = not (eqb e edition)
+
+module _ (bytes : List ℕ) where
+  by-steps : headOf bytes ≡ checked notRead (readAt bytes 0 2) notEdition 12 (λ e at. depthFrom bytes at)
+  unfolding headOf depthFrom countFrom
+  by-steps = refl
+
+  pub edition-refused : (r : ℕ) → readAt bytes 0 2 ≡ refused r → notRead r ≡ headOf bytes
+  edition-refused r e = checked-refused notRead (readAt bytes 0 2) notEdition 12 (λ e at. depthFrom bytes at) r e ∙ sym by-steps
+
+  pub edition-bad : (x end : ℕ) → readAt bytes 0 2 ≡ value x end → (x ≡ edition → ⊥) → notRead 12 ≡ headOf bytes
+  edition-bad x end e b =
+      checked-bad notRead (readAt bytes 0 2) notEdition 12 (λ e at. depthFrom bytes at) x end e (rw (ne-eqb x edition b)) ∙ sym by-steps
+
+  pub edition-read : (x end : ℕ) → readAt bytes 0 2 ≡ value x end → x ≡ edition → depthFrom bytes end ≡ headOf bytes
+  edition-read x end e b =
+      checked-next notRead (readAt bytes 0 2) notEdition 12 (λ e at. depthFrom bytes at) x end e (rw (eq-eqb x edition b)) ∙ sym by-steps
+
+-- ---- the numbers of a head that was read
+-- a number that was not refused
+pub record Passed (number : Answer) (bad : ℕ → Bool) (next : ℕ → ℕ → HeadAnswer) (n t at : ℕ) : Type 0 where
+  pub x : ℕ
+  pub end : ℕ
+  pub read : number ≡ value x end
+  pub good : bad x ≡ false
+  pub after : next x end ≡ numbers n t at
+
+not-numbers : {A : Type 0} {r n t at : ℕ} → notRead r ≡ numbers n t at → A
+not-numbers e = let no : _≡_ {A = ℕ} 0 1 = cc in absurd (omega arith)
+
+pub passed : (number : Answer) (bad : ℕ → Bool) (refusal : ℕ) (next : ℕ → ℕ → HeadAnswer) (n t at : ℕ)
+    → checked notRead number bad refusal next ≡ numbers n t at → Passed number bad next n t at
+passed (refused r) bad refusal next n t at e = not-numbers e
+passed (value x end) bad refusal next n t at e = cases (bad x) refl
+  where
+    cases : (b : Bool) → bad x ≡ b → Passed (value x end) bad next n t at
+    cases true b = not-numbers (rw b at e)
+    cases false b = record { x = x; end = end; read = refl; good = b; after = rw b at e }
+
+-- a number ends at most two bytes on
+two-bytes : (bytes : List ℕ) (at x end : ℕ) → ((j : ℕ) → getD bytes j 0 < 256) → readAt bytes at 2 ≡ value x end → end ≤ at + 2
+two-bytes bytes at x end b e = omega (arith, only-shortest bytes at 2 x end b e .ends, length-groups-le 2 x)
+
+pub record Within (n t at : ℕ) : Type 0 where
+  pub depth : IsDepth n
+  pub count : IsCount t
+  pub place : at ≤ 6
+
+pub head-within : (bytes : List ℕ) (n t at : ℕ) → ((j : ℕ) → getD bytes j 0 < 256) → headOf bytes ≡ numbers n t at → Within n t at
+unfolding depthFrom countFrom
+head-within bytes n t at b e =
+    let first = passed (readAt bytes 0 2) notEdition 12 (λ e at. depthFrom bytes at) n t at (sym (by-steps bytes) ∙ e) in
+    let second = passed (readAt bytes (first .end) 2) (outside 1 maxDepth) 1 (λ n at. countFrom bytes n at) n t at (first .after) in
+    let third =
+    passed (readAt bytes (second .end) 2) (outside 1 maxChallenges) 8 (λ t at. numbers (second .x) t at) n t at (second .after) in
+    let sameDepth : second .x ≡ n = (let last = third .after in cc) in
+    let sameCount : third .x ≡ t = (let last = third .after in cc) in
+    let samePlace : third .end ≡ at = (let last = third .after in cc) in
+    record {
+      depth = rw sameDepth at (range-of 1 maxDepth (second .x) (second .good));
+      count = rw sameCount at (range-of 1 maxChallenges (third .x) (third .good));
+      place = omega (
+        arith,
+        samePlace,
+        two-bytes bytes 0 (first .x) (first .end) b (first .read),
+        two-bytes bytes (first .end) (second .x) (second .end) b (second .read),
+        two-bytes bytes (second .end) (third .x) (third .end) b (third .read),
+      );
+    }
+
+-- a head that is refused is refused with a number
+pub head-number : (bytes : List ℕ) (r : ℕ) → headOf bytes ≡ notRead r → 1 ≤ r
+unfolding headOf
+head-number bytes r e =
+    refusal-of (readAt bytes 0 2) notEdition 12 _ r (read-number bytes 0 2) (omega arith)
+    (λ x at f. refusal-of (readAt bytes at 2) (outside 1 maxDepth) 1 _ r (read-number bytes at 2) (omega arith)
+    (λ n at f. refusal-of (readAt bytes at 2) (outside 1 maxChallenges) 8 _ r (read-number bytes at 2) (omega arith)
+    (λ t at f. not-refused f) f) f) e
+  where
+    not-refused : {n t at r : ℕ} → numbers n t at ≡ notRead r → 1 ≤ r
+    not-refused f = let no : _≡_ {A = ℕ} 0 1 = cc in absurd (omega arith)
+
+    refusal-of : (number : Answer) (bad : ℕ → Bool) (refusal : ℕ) (next : ℕ → ℕ → HeadAnswer) (r : ℕ)
+        → ((k : ℕ) → number ≡ refused k → 1 ≤ k) → 1 ≤ refusal → ((x end : ℕ) → next x end ≡ notRead r → 1 ≤ r)
+        → checked notRead number bad refusal next ≡ notRead r → 1 ≤ r
+    refusal-of (refused k) bad refusal next r some given rest e = let same : k ≡ r = cc in omega (arith, some k refl)
+    refusal-of (value x end) bad refusal next r some given rest e = cases (bad x) refl
+      where
+        cases : (b : Bool) → bad x ≡ b → 1 ≤ r
+        cases true b = let same : refusal ≡ r = (let f = rw b at e in cc) in omega arith
+        cases false b = rest x end (rw b at e)
+
+-- ---- sizes
+pub openings-small : (n t : ℕ) → n ≤ maxDepth → t ≤ maxChallenges → t * openingSize n ≤ maxOpenings
+openings-small n t hn ht = omega (arith, mul-le-mul-right {m = t} {n = maxChallenges} (openingSize n) ht)
+
+pub opening-inside : (n t i : ℕ) → 1 ≤ i → i ≤ t → (i - 1) * openingSize n + openingSize n ≤ t * openingSize n
+opening-inside n t i low high = next (i - 1) (omega arith)
+  where
+    next : (j : ℕ) → j + 1 ≤ t → j * openingSize n + openingSize n ≤ t * openingSize n
+    next j h = omega (arith, mul-le-mul-right {m = j + 1} {n = t} (openingSize n) h)
+
+-- ---- parts
+module _ (bytes : List ℕ) (n t at i : ℕ) where
+  pub other-length : (length bytes ≡ lengthFrom n t at → ⊥) → hasOpening bytes n t at i ≡ false
+  other-length d = rw (ne-eqb (length bytes) (lengthFrom n t at) d)
+
+  pub no-opening : length bytes ≡ lengthFrom n t at → outside 1 t i ≡ true → hasOpening bytes n t at i ≡ false
+  no-opening e o = rw (eq-eqb (length bytes) (lengthFrom n t at) e, o)
+
+  pub an-opening : length bytes ≡ lengthFrom n t at → outside 1 t i ≡ false → hasOpening bytes n t at i ≡ true
+  an-opening e o = rw (eq-eqb (length bytes) (lengthFrom n t at) e, o)
+
+-- an opening's part lies within the bytes
+pub part-inside : (bytes : List ℕ) (i : ℕ) (h : HeadAnswer) → partStart bytes i h + partLength bytes i h ≤ length bytes
+part-inside bytes i (notRead r) = omega arith
+part-inside bytes i (numbers n t at) = cases (hasOpening bytes n t at i) refl
+  where
+    cases : (b : Bool) → hasOpening bytes n t at i ≡ b
+        → partStart bytes i (numbers n t at) + partLength bytes i (numbers n t at) ≤ length bytes
+    cases false e = rw e (omega arith)
+    cases true e =
+        let len =
+        eqb-true (length bytes) (lengthFrom n t at)
+        (both-first (eqb (length bytes) (lengthFrom n t at)) (not (outside 1 t i)) e) in
+        let range =
+        range-of 1 t i
+        (not-true (outside 1 t i) (both-second (eqb (length bytes) (lengthFrom n t at)) (not (outside 1 t i)) e)) in
+        rw e (omega (arith, len, opening-inside n t i (range .0) (range .1)))
+
+-- the part from its start to its end, and its place
+pub is-part : (bytes : List ℕ) (ptr : ℕ × ℕ) (i start size : ℕ) → start ≡ partStart bytes i (headOf bytes) → size ≡ partLength bytes
+    i (headOf bytes)
+    → (take (start + size - start) (drop start bytes) ≡ openingPart bytes i) × (_≡_ {A =
+    ℕ × ℕ} (ptr .0, start + ptr .1) (ptr .0, ptr .1 + partStart bytes i (headOf bytes)))
+unfolding openingPart
+is-part bytes ptr i start size s n =
+    (part-size bytes start size ∙ rw (s, n), rw (s, add-comm (partStart bytes i (headOf bytes)) (ptr .1)))

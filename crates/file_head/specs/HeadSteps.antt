@@ -1,0 +1,17 @@
+-- Reading the head number by number: the steps of `headOf`.
+use Prim.Native.Nat.{ℕ}
+use mathlib.Core.List.{List}
+use Rattle.base.specs.Limits.{maxDepth, maxChallenges}
+use Rattle.refusal.specs.Row.{outside}
+use Rattle.groups.specs.Reading.{readAt, checked}
+use Rattle.file_head.specs.Layout.{numberGroups}
+use Rattle.file_head.specs.Head.{HeadAnswer, numbers, notRead}
+
+-- the count at a place, after the depth
+unfoldable pub countFrom : List ℕ → ℕ → ℕ → HeadAnswer
+countFrom bytes n at =
+    checked notRead (readAt bytes at numberGroups) (outside 1 maxChallenges) 8 (λ t at. numbers n t at)
+
+-- the depth at a place, after the edition
+unfoldable pub depthFrom : List ℕ → ℕ → HeadAnswer
+depthFrom bytes at = checked notRead (readAt bytes at numberGroups) (outside 1 maxDepth) 1 (λ n at. countFrom bytes n at)

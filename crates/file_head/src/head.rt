@@ -1,0 +1,60 @@
+// Document 01, 'Challenges and the file': the file's numbers read.
+ghost use mathlib.Core.Path.{_≡_};
+ghost use Rattle.file_head.specs.Head.{headAnswer, headOf};
+ghost use Rattle.file_head.specs.HeadSteps.{countFrom, depthFrom};
+use crate::HeadNumbers;
+use base::EDITION;
+use base::MAX_CHALLENGES;
+use base::MAX_DEPTH;
+use groups::Cursor;
+use groups::Number;
+use refusal::Refusal;
+use refusal::beyond;
+
+// The count, after the depth.
+fn read_count(bytes: &[u8], n: u64, from: Cursor) -> HeadNumbers
+    ensures { λ r. ⌜ headAnswer r ≡ countFrom (now (bytes .entry)) n (from .at) ⌝ }
+{
+    let number = groups::read(bytes, from, 2);
+    match number {
+        Number::Refused(r) => HeadNumbers::NotRead(r),
+        Number::Value(t, next) => {
+            if beyond(MAX_CHALLENGES, t) {
+                return HeadNumbers::NotRead(Refusal::Count);
+            }
+            HeadNumbers::Numbers(n, t, next)
+        }
+    }
+}
+
+// The depth and the count, after the edition.
+fn read_depth(bytes: &[u8], from: Cursor) -> HeadNumbers
+    ensures { λ r. ⌜ headAnswer r ≡ depthFrom (now (bytes .entry)) (from .at) ⌝ }
+{
+    let number = groups::read(bytes, from, 2);
+    match number {
+        Number::Refused(r) => HeadNumbers::NotRead(r),
+        Number::Value(n, next) => {
+            if beyond(MAX_DEPTH, n) {
+                return HeadNumbers::NotRead(Refusal::Depth);
+            }
+            read_count(bytes, n, next)
+        }
+    }
+}
+
+// The head's numbers, or the first refusal.
+pub fn read_head(bytes: &[u8]) -> HeadNumbers
+    ensures { λ r. ⌜ headAnswer r ≡ headOf (now (bytes .entry)) ⌝ }
+{
+    let number = groups::read(bytes, Cursor { at: 0 }, 2);
+    match number {
+        Number::Refused(r) => HeadNumbers::NotRead(r),
+        Number::Value(edition, next) => {
+            if edition == EDITION {
+                return read_depth(bytes, next);
+            }
+            HeadNumbers::NotRead(Refusal::Edition)
+        }
+    }
+}

@@ -1,0 +1,12 @@
+-- `label::hashed::tag` meets its contract.
+use mathlib.Core.Path.{refl}
+use Rattle.tree.specs.Labels.{tag}
+use Rattle.label.proofs.tag.Statement.{statement}
+use Rattle.label.proofs.tag.Tie as tie
+
+returns : tie.Need-returns
+unfolding tag
+returns c = refl
+
+pub tag-spec : {M : Type 1} → statement M
+tag-spec = tie.close (tie.spec returns)

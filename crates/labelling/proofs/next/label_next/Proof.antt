@@ -1,0 +1,113 @@
+-- `label::next::label_next` meets its contract: the next node lies in the subtree, and each kind of node has its law.
+use mathlib.Core.Path.{_∙_}
+use Prim.Native.Nat.{_+_, _-_, _≤_}
+use native.Mathlib.Omega.{arith}
+use borrow.Author.Needs.{needs}
+use Rattle.labelling.proofs.OneStep.{place-le, next-level, next-ones, next-few, leaf-label, leaf-held, inner-label, inner-held}
+use Rattle.labelling.proofs.next.label_next.Statement.{statement}
+use Rattle.labelling.proofs.next.label_next.Tie as tie
+
+-- where the next node lies
+at-level :
+    (c : tie.After-next-node)
+    → (c .before .before .before .args .level ≤ c .next-node .result .level)
+    × (c .next-node .result .level ≤ c .before .before .before .args .level + c .before .before .before .args .height)
+at-level c =
+    let entry = c .before .before .before in
+    let a = entry .args in
+    next-level (a .height) (a .level) (a .position) (a .made) (c .next-node .result .level) (c .next-node .result .position)
+    (entry .pre .0 .2) (c .next-node .ensures)
+
+-- an inner node's place is below its level within the subtree
+at-place :
+    (c : tie.After-place)
+    → c .place .result ≤ c .before .before .before .before .next-node .result .level -
+    c .before .before .before .before .before .before .before .args .level
+at-place c =
+    let next-node = c .before .before .before .before .next-node in
+    omega (
+      arith,
+      c .place .ensures,
+      place-le (next-node .result .level - c .before .before .before .before .before .before .before .args .level)
+          (next-node .result .position),
+    )
+
+label-leaf-requires : tie.Need-label-leaf-requires
+label-leaf-requires c κs =
+    let s = c .before .before .before .before .before .before in
+    let a = s .args in
+    let w = c .before .before .before .next-node in
+    let e = next-ones (a .height) (a .level) (a .position) (a .made) (w .result .level) (w .result .position) (s .pre .0 .2) (w .ensures) in
+    let f =
+    next-few (a .height) (a .level) (a .position) (a .made) (w .result .level) (w .result .position) (s .pre .0 .2)
+    (w .ensures) (s .pre .0 .1) in (
+      (
+        omega (arith, at-level (c .before .before .before)),
+        s .pre .0 .0,
+        omega (arith, at-level (c .before .before .before)),
+        s .pre .1 .1,
+      ),
+      omega (arith, s .pre .1 .0),
+    )
+
+sub-place : tie.Need-sub-place
+sub-place c = omega (arith, at-level (c .before .before .before))
+
+place-requires : tie.Need-place-requires
+place-requires c κs = omega (arith, at-level (c .before .before .before))
+
+mul-at : tie.Need-mul-at
+mul-at c = omega (arith, at-level (c .before .before .before .before), at-place c)
+
+label-inner-requires : tie.Need-label-inner-requires
+label-inner-requires c κs =
+    omega (
+      arith,
+      at-level (c .before .before .before .before .before),
+      at-place (c .before),
+      c .before .before .before .before .before .before .before .before .pre,
+    )
+
+returns : tie.Need-returns
+returns c =
+    let if1 = c .before .before .before .before .if1 in
+    let s = c .before .before .before .before .before .before .before .before .before in
+    let w = c .before .before .before .before .before .before .next-node in (
+      w .ensures,
+      (
+        c .before .before .label-leaf .ensures .0
+            ∙ leaf-label (s .args .height) (s .args .level) (s .args .position) (s .args .made) (w .result .level)
+            (w .result .position) (s .pre .0 .2) (w .ensures) (s .args .edition) (s .args .statement) (s .args .front .now) (s .args .held .now)
+            (if1 .taken) (s .pre .1 .0),
+        c .before .before .label-leaf .ensures .1
+            ∙ leaf-held (s .args .height) (s .args .level) (s .args .position) (s .args .made) (w .result .level)
+            (w .result .position) (s .pre .0 .2) (w .ensures) (s .args .edition) (s .args .statement) (s .args .front .now) (s .args .held .now)
+            (if1 .taken) (s .pre .1 .0) (c .before .before .label-leaf .result),
+      ),
+    )
+
+returns-2 : tie.Need-returns-2
+returns-2 c =
+    let if1 = c .before .before .before .before .before .before .if1 in
+    let place = c .before .before .before .before .place in
+    let s = c .before .before .before .before .before .before .before .before .before .before .before in
+    let w = c .before .before .before .before .before .before .before .before .next-node in (
+      w .ensures,
+      (
+        c .before .before .label-inner .ensures .0
+            ∙ inner-label (s .args .height) (s .args .level) (s .args .position) (s .args .made) (w .result .level)
+            (w .result .position) (s .pre .0 .2) (w .ensures) (s .args .edition) (s .args .statement) (s .args .front .now) (s .args .held .now)
+            (if1 .left) _ (place .ensures),
+        c .before .before .label-inner .ensures .1
+            ∙ inner-held (s .args .height) (s .args .level) (s .args .position) (s .args .made) (w .result .level)
+            (w .result .position) (s .pre .0 .2) (w .ensures) (s .args .edition) (s .args .statement) (s .args .front .now) (s .args .held .now)
+            (if1 .left) _ (place .ensures) (c .before .before .label-inner .result),
+      ),
+    )
+
+pub label-next-spec : {M : Type 1} → statement M
+label-next-spec =
+    tie.close
+    (tie.spec
+    (λ c κs. search needs) (λ c. search needs) label-leaf-requires sub-place place-requires mul-at label-inner-requires
+    (λ c. search needs) returns (λ c. search needs) returns-2)

@@ -1,0 +1,8 @@
+// The next label of a subtree whose nodes are labelled in order, for runs and openings alike.
+mod next; // next.rt: one step
+mod walk; // walk.rt: the next node from the number of nodes labelled
+
+pub use next::Labelled;
+pub use next::label_next;
+pub use walk::Place;
+pub use walk::next_node;
