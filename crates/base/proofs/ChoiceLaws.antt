@@ -1,10 +1,12 @@
--- Tests joined, and odd positions.
+-- Tests joined, choices, and odd positions.
 use mathlib.Core.Path.{_≡_, refl}
-use Prim.Native.Nat.{ℕ, _%_}
+use Prim.Native.Nat.{ℕ, _%_, _<_, _≤_}
 use native.Mathlib.Omega.{arith}
 use mathlib.Core.Bool.{Bool, true, false}
-use borrow.Author.Tests.{eqb-true, eqb-false, eq-eqb, ne-eqb}
-use Rattle.base.specs.Choice.{both, odd}
+use mathlib.Core.Logic.{_⊎_, inl, inr}
+use lib.Dec.{ltb}
+use borrow.Author.Tests.{eqb-true, eqb-false, eq-eqb, ne-eqb, ltb-true, ltb-false}
+use Rattle.base.specs.Choice.{pick, both, odd}
 
 pub both-first : (a b : Bool) → both a b ≡ true → a ≡ true
 both-first true b e = refl
@@ -35,6 +37,19 @@ true-false t p q =
 pub not-so : (t : Bool) → (t ≡ true → ⊥) → t ≡ false
 not-so true d = absurd (d refl)
 not-so false d = refl
+
+-- one of two tests of order holds
+pub lt-or-le : (x bound : ℕ) → (x < bound) ⊎ (bound ≤ x)
+lt-or-le x bound = cases (ltb x bound) refl
+  where
+    cases : (t : Bool) → ltb x bound ≡ t → (x < bound) ⊎ (bound ≤ x)
+    cases true e = inl (ltb-true x bound e)
+    cases false e = inr (ltb-false x bound e)
+
+-- a choice that gives another value than its first is its second
+pub second-picked {ℓ} : {A : Type ℓ} (b : Bool) (x y z : A) → (x ≡ z → ⊥) → pick b x y ≡ z → (b ≡ false) × (y ≡ z)
+second-picked true x y z d e = absurd (d e)
+second-picked false x y z d e = (refl, e)
 
 pub odd-true : (p : ℕ) → odd p ≡ true → p % 2 ≡ 1
 odd-true p e = eqb-true (p % 2) 1 e

@@ -1,2 +1,3 @@
 pub mod ChallengeLaws
 pub mod Leaves
+pub mod RowLaws

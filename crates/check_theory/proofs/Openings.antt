@@ -4,7 +4,7 @@ use mathlib.Core.Logic.{⊎-elim}
 use Prim.Native.Nat.{ℕ, zero, suc, _+_, _≤_, _<_}
 use native.Mathlib.Omega.{arith}
 use mathlib.Core.List.{List}
-use Rattle.groups.proofs.Steps.{lt-or-le}
+use Rattle.base.proofs.ChoiceLaws.{lt-or-le}
 use Rattle.challenges.specs.Challenge.{challengeLeaf}
 use Rattle.file_head.specs.Head.{statementAt, rootAt, openingAt}
 use Rattle.opening_check.specs.OpeningCheck.{rightRow}

@@ -1,4 +1,4 @@
--- Document 01's rows of a challenge, a head and an opening: each is done just when none of its conditions holds.
+-- Document 01's row 'One opening checked' is done just when none of its conditions holds.
 use mathlib.Core.Path.{_≡_, refl}
 use Prim.Native.Nat.{ℕ, _^_, _≤_}
 use native.Mathlib.Omega.{arith}
@@ -6,64 +6,18 @@ use mathlib.Core.Bool.{Bool, true, false, not}
 use mathlib.Core.List.{List, [], _∷_}
 use lib.Dec.{ltb, leb}
 use lib.ListN.{length}
-use borrow.Author.Tests.{leb-true, leb-false, le-leb, lt-leb, ltb-false, le-ltb, not-false}
-use Rattle.base.specs.Choice.{pick, both}
+use borrow.Author.Tests.{leb-false, lt-leb, ltb-false, le-ltb, not-false}
 use Rattle.base.specs.Lists.{sameBytes}
-use Rattle.base.specs.Limits.{maxDepth, maxChallenges, IsDepth, IsCount}
-use Rattle.base.proofs.ChoiceLaws.{both-first, both-second}
+use Rattle.base.specs.Limits.{maxDepth}
 use Rattle.base.proofs.ListsLaws.{test-same, tells-bytes}
 use Rattle.refusal.proofs.RowLaws.{NoneHolds, none-holds}
+use Rattle.refusal.proofs.Ranges.{within, range-of}
 use Rattle.refusal.specs.Row.{firstOf, outside}
 use Rattle.tree.specs.Openings.{LeafRight, RootRight, openingSize}
 use Rattle.label.specs.Rule.{stampRule}
-use Rattle.challenges.specs.Challenge.{challengeRow}
-use Rattle.file_head.specs.Layout.{fileSize, headRow}
 use Rattle.opening_check.specs.OpeningCheck.{givenBy, leafWrong, rootWrong, rightRow, openingRow}
 use Rattle.check_theory.specs.IsProof.{OpeningRight, RightAlone}
 
--- a choice that gives another value than its first is its second
-pub second-picked {ℓ} : {A : Type ℓ} (b : Bool) (x y z : A) → (x ≡ z → ⊥) → pick b x y ≡ z → (b ≡ false) × (y ≡ z)
-second-picked true x y z d e = absurd (d e)
-second-picked false x y z d e = (refl, e)
-
--- a number from low to high
-module _ (low high x : ℕ) where
-  pub within : (low ≤ x) × (x ≤ high) → outside low high x ≡ false
-  within h = rw (le-leb low x (h .0), le-leb x high (h .1))
-
-  pub bounds : outside low high x ≡ false → (low ≤ x) × (x ≤ high)
-  bounds e =
-      let inside : both (leb low x) (leb x high) ≡ true = not-false (both (leb low x) (leb x high)) e in
-      (leb-true low x (both-first (leb low x) (leb x high) inside), leb-true x high (both-second (leb low x) (leb x high) inside))
-
--- ---- the row 'A challenge'
-module _ (n i : ℕ) where
-  pub challenge-done : IsDepth n → IsCount i → challengeRow n i ≡ 0
-  unfolding challengeRow
-  challenge-done depth count = rw (within 1 maxDepth n depth, within 1 maxChallenges i count)
-
-  pub done-challenge : challengeRow n i ≡ 0 → IsDepth n × IsCount i
-  unfolding challengeRow
-  done-challenge e =
-      let row : List (Bool × ℕ) = (outside 1 maxDepth n, 1) ∷ (outside 1 maxChallenges i, 8) ∷ [] in
-      let none : NoneHolds row = none-holds row refl e in
-      (bounds 1 maxDepth n (none .0), bounds 1 maxChallenges i (none .1 .0))
-
--- ---- the row 'Writing the file's head'
-module _ (n t out : ℕ) where
-  pub head-done : IsDepth n → IsCount t → fileSize n t ≤ out → headRow n t out ≡ 0
-  unfolding headRow
-  head-done depth count fits = rw (within 1 maxDepth n depth, within 1 maxChallenges t count, le-ltb out (fileSize n t) fits)
-
-  pub done-head : headRow n t out ≡ 0 → IsDepth n × IsCount t × (fileSize n t ≤ out)
-  unfolding headRow
-  done-head e =
-      let row : List (Bool × ℕ) =
-      (outside 1 maxDepth n, 1) ∷ (outside 1 maxChallenges t, 8) ∷ (ltb out (fileSize n t), 7) ∷ [] in
-      let none : NoneHolds row = none-holds row refl e in
-      (bounds 1 maxDepth n (none .0), bounds 1 maxChallenges t (none .1 .0), ltb-false out (fileSize n t) (none .1 .1 .0))
-
--- ---- the row 'One opening checked'
 -- a test that two lists are not the same
 module _ (x y : List ℕ) where
   same-passes : x ≡ y → not (sameBytes x y) ≡ false
@@ -125,7 +79,7 @@ module _ (edition : ℕ) (statement : List ℕ) (n leaf : ℕ) (root bytes : Lis
       let enough : openingSize n ≤ length bytes = ltb-false (length bytes) (openingSize n) (none .1 .1 .0) in
       let no-more : length bytes ≤ openingSize n = ltb-false (openingSize n) (length bytes) (none .1 .1 .1 .0) in
       record {
-        depth = bounds 1 maxDepth n (none .0);
+        depth = range-of 1 maxDepth n (none .0);
         position = leb-false (2 ^ n) leaf (none .1 .0);
         size = omega arith;
         right = passes-right (none .1 .1 .1 .1 .0) (none .1 .1 .1 .1 .1 .0);

@@ -28,7 +28,9 @@ use Rattle.proof_file.specs.FileCheck.{foundIn, openingsFrom, wanted, fileRest,
 use Rattle.file_head.proofs.HeadLaws.{passed, head-number}
 use Rattle.check_theory.specs.IsProof.{OpeningRight, nth, IsProof}
 use Rattle.check_theory.specs.Heads.{NumbersRead}
-use Rattle.check_theory.proofs.RowLaws.{second-picked, bounds, done-right}
+use Rattle.base.proofs.ChoiceLaws.{second-picked}
+use Rattle.refusal.proofs.Ranges.{range-of}
+use Rattle.check_theory.proofs.RowLaws.{done-right}
 use Rattle.check_theory.proofs.Reading.{opening-back}
 use Rattle.check_theory.proofs.Openings.{rowOf, accepted-rows}
 
@@ -66,8 +68,8 @@ numbers-read bytes n t at small e =
     let last = p₃ .after in
     same-read limits.edition bytes (p₂ .x) (p₃ .x) (p₃ .end) n t at (cc) (cc) (cc)
     (numbers-of limits.edition bytes (p₂ .x) (p₃ .x) (p₁ .end) (p₂ .end) (p₃ .end)
-    (bounds 1 maxDepth (p₂ .x) (p₂ .good))
-    (bounds 1 maxChallenges (p₃ .x) (p₃ .good))
+    (range-of 1 maxDepth (p₂ .x) (p₂ .good))
+    (range-of 1 maxChallenges (p₃ .x) (p₃ .good))
     (rw one at (only-shortest bytes 0 numberGroups (p₁ .x) (p₁ .end) small (p₁ .read)))
     (only-shortest bytes (p₁ .end) numberGroups (p₂ .x) (p₂ .end) small (p₂ .read))
     (only-shortest bytes (p₂ .end) numberGroups (p₃ .x) (p₃ .end) small (p₃ .read)))

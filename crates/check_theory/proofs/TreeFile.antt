@@ -19,7 +19,7 @@ use Rattle.tree.specs.Openings.{siblings, openingNodes, openingSize}
 use Rattle.tree.specs.TreeOpening.{treeOpening}
 use Rattle.tree.proofs.Labelling.{label-length}
 use Rattle.tree.proofs.OpeningLaws.{tree-right, tree-sized}
-use Rattle.groups.proofs.Steps.{lt-or-le}
+use Rattle.base.proofs.ChoiceLaws.{lt-or-le}
 use Rattle.label.specs.Rule.{stampRule}
 use Rattle.challenges.specs.Challenge.{challengeLeaf}
 use Rattle.file_head.specs.Layout.{fileSize}

@@ -5,7 +5,7 @@ use Prim.Native.Nat.{ℕ, _+_, _-_, _≤_}
 use lib.Pow.{pow-mono}
 use native.Mathlib.Omega.{arith}
 use Rattle.base.specs.Limits.{maxDepth, maxChallenges, maxFile, ownStore, ownLevel}
-use Rattle.groups.proofs.Steps.{lt-or-le}
+use Rattle.base.proofs.ChoiceLaws.{lt-or-le}
 use Rattle.tree.specs.Store.{storeSize}
 use Rattle.file_head.specs.Layout.{fileSize}
 use Rattle.file_head.proofs.HeadLaws.{openings-small}

@@ -28,7 +28,8 @@ use Rattle.run_theory.proofs.OpeningCalls.{started-fits, startedOut-fits}
 use Rattle.run_theory.proofs.Finished.{finished-length, finished-opening}
 use Rattle.check_theory.specs.TreeFile.{treeFile, openingOf}
 use Rattle.challenges.proofs.Leaves.{challengeLeaf-small}
-use Rattle.check_theory.proofs.RowLaws.{challenge-done, opening-done, done-opening}
+use Rattle.challenges.proofs.RowLaws.{challenge-done}
+use Rattle.check_theory.proofs.RowLaws.{opening-done, done-opening}
 use Rattle.check_theory.proofs.TreeFile.{opening-size, opening-right, length-treeFile}
 use Rattle.check_theory.proofs.Accepted.{exactly-proofs}
 use Rattle.writing_theory.specs.Filed.{fileFrom}

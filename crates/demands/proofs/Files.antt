@@ -15,7 +15,8 @@ use Rattle.base.proofs.ChoiceLaws.{both-first, both-second, both-false, true-fa
 use Rattle.base.proofs.ListsLaws.{tells-bytes, test-same}
 use Rattle.refusal.specs.Row.{outside}
 use Rattle.groups.specs.Reading.{Answer, value, refused, ended, readFrom, readAt, checked}
-use Rattle.groups.proofs.Steps.{read-none, read-end, read-last, read-more, lt-or-le}
+use Rattle.groups.proofs.Steps.{read-none, read-end, read-last, read-more}
+use Rattle.base.proofs.ChoiceLaws.{lt-or-le}
 use Rattle.opening_check.specs.OpeningCheck.{rightRow}
 use Rattle.file_head.specs.Head.{HeadAnswer, numbers, notRead, headOf, lengthFrom, statementAt}
 use Rattle.file_head.specs.HeadSteps.{countFrom, depthFrom}

@@ -15,7 +15,8 @@ use Rattle.refusal.specs.Row.{either}
 use Rattle.groups.specs.Reading.{Answer, value, refused, ended, readFrom, readAt}
 use Rattle.demands.specs.Rows.{IsFirst, byteAt, GoOn, NumberEnds, NotLast, NotShortest, readingNumber}
 use Rattle.demands.specs.Demand1.{answerNumber, ReadingNumber}
-use Rattle.groups.proofs.Steps.{read-none, read-end, read-last, read-more, lt-or-le, small, added-below}
+use Rattle.groups.proofs.Steps.{read-none, read-end, read-last, read-more, small, added-below}
+use Rattle.base.proofs.ChoiceLaws.{lt-or-le}
 
 -- `NotShortest` from group i on
 abbrev NotShortestFrom : List ℕ → ℕ → ℕ → ℕ → Type 0

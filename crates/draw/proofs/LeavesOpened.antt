@@ -17,7 +17,7 @@ use Rattle.chain_theory.proofs.Lists.{every-both}
 use Rattle.file_head.specs.declared.HeadNumbers.{HeadNumbers}
 use Rattle.challenges.specs.Challenge.{challengeLeaf, challenged}
 use Rattle.file_head.specs.Head.{HeadAnswer, headAnswer}
-use Rattle.check_theory.proofs.RowLaws.{challenge-done}
+use Rattle.challenges.proofs.RowLaws.{challenge-done}
 use Rattle.challenges.proofs.Leaves.{challengeLeaf-small}
 use Rattle.draw.specs.Drawing.{leavesFrom, numbersEnd}
 

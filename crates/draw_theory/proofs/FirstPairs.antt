@@ -5,7 +5,7 @@ use Prim.Native.Nat.{ℕ, zero, suc, _+_, _≤_, _<_}
 use native.Mathlib.Omega.{arith}
 use mathlib.Core.Bool.{Bool, true, false}
 use Rattle.base.specs.Choice.{pick}
-use Rattle.groups.proofs.Steps.{lt-or-le}
+use Rattle.base.proofs.ChoiceLaws.{lt-or-le}
 use Rattle.compare.specs.declared.Pair.{Pair}
 use Rattle.compare.specs.declared.Pair.the-variants.{Agree, Disagree}
 use Rattle.compare.specs.FirstPair.{levelsFrom, orElse, secondsFrom, firstsFrom, firstPair}

@@ -12,7 +12,7 @@ use borrow.Author.Tests.{lt-ltb, le-ltb}
 use Rattle.base.specs.Choice.{every}
 use Rattle.base.specs.Limits.{edition}
 use Rattle.base.proofs.ChoiceLaws.{true-false}
-use Rattle.groups.proofs.Steps.{lt-or-le}
+use Rattle.base.proofs.ChoiceLaws.{lt-or-le}
 use Rattle.tree.specs.Nodes.{Node, onWay}
 use Rattle.tree.specs.Openings.{Right, openingSize}
 use Rattle.tree.specs.Disagreement.{Given32, disagreeAt}

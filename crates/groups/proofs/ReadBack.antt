@@ -16,7 +16,8 @@ use Rattle.base.specs.Bytes.{written}
 use Rattle.groups.specs.Groups.{groups, groupsOf, maxGroups}
 use Rattle.groups.specs.Reading.{value, ended, readFrom, readAt}
 use Rattle.groups.specs.Writing.{putRow, outputAfter}
-use Rattle.groups.proofs.Steps.{groups-last, groups-more, rest-below, two-left, lt-or-le, read-last, read-more, next-weight, add-group, small}
+use Rattle.groups.proofs.Steps.{groups-last, groups-more, rest-below, two-left, read-last, read-more, next-weight, add-group, small}
+use Rattle.base.proofs.ChoiceLaws.{lt-or-le}
 
 -- the first of the bytes at a place
 record Opened (bytes : List ℕ) (at byte : ℕ) (rest : List ℕ) : Type 0 where

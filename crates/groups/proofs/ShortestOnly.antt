@@ -14,7 +14,8 @@ use lib.Seq.{take-at, drop-cons}
 use Rattle.base.specs.Choice.{both}
 use Rattle.groups.specs.Groups.{groups}
 use Rattle.groups.specs.Reading.{value, refused, ended, readFrom, readAt}
-use Rattle.groups.proofs.Steps.{groups-last, groups-more, lt-or-le, read-none, read-end, read-last, read-more, next-weight, add-group, small}
+use Rattle.groups.proofs.Steps.{groups-last, groups-more, read-none, read-end, read-last, read-more, next-weight, add-group, small}
+use Rattle.base.proofs.ChoiceLaws.{lt-or-le}
 use Rattle.groups.proofs.Sizes.{groups-same}
 
 -- a refusal is no number

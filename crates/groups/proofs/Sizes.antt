@@ -6,7 +6,8 @@ use native.Mathlib.Nat.{suc-add}
 use native.Mathlib.Omega.{arith}
 use lib.ListN.{length, getD}
 use Rattle.groups.specs.Groups.{groups}
-use Rattle.groups.proofs.Steps.{groups-last, groups-more, rest-below, two-left, lt-or-le}
+use Rattle.groups.proofs.Steps.{groups-last, groups-more, rest-below, two-left}
+use Rattle.base.proofs.ChoiceLaws.{lt-or-le}
 
 -- at most k groups
 pub length-groups-le : (k x : ℕ) → length (groups k x) ≤ k

@@ -102,14 +102,6 @@ pub read-whole :
 unfolding readAt
 read-whole bytes at limit most answer l r = rw (← l) (sym r)
 
--- one of the two tests holds
-pub lt-or-le : (x bound : ℕ) → (x < bound) ⊎ (bound ≤ x)
-lt-or-le x bound = cases (ltb x bound) refl
-  where
-    cases : (t : Bool) → ltb x bound ≡ t → (x < bound) ⊎ (bound ≤ x)
-    cases true e = inl (ltb-true x bound e)
-    cases false e = inr (ltb-false x bound e)
-
 -- a group and the number of those after it, at any weight
 pub add-group : (q r weight : ℕ) → r * weight + q * (weight * 128) ≡ (q * 128 + r) * weight
 add-group q r weight = omega arith

@@ -20,6 +20,9 @@ module _ (low high x : ℕ) where
   pub in-range : low ≤ x → x ≤ high → outside low high x ≡ false
   in-range l h = rw (le-leb low x l, le-leb x high h)
 
+  pub within : (low ≤ x) × (x ≤ high) → outside low high x ≡ false
+  within h = in-range (h .0) (h .1)
+
   pub range-of : outside low high x ≡ false → (low ≤ x) × (x ≤ high)
   range-of e =
       let t : both (leb low x) (leb x high) ≡ true = not-false (both (leb low x) (leb x high)) e in

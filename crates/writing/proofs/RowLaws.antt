@@ -14,7 +14,7 @@ use Rattle.machine.proofs.StepLaws as machines
 use Rattle.machine.proofs.StepLaws.{done-some, done-refused}
 use Rattle.opening.specs.declared.Opening.{Opening}
 use Rattle.opening.specs.Rows.{nodesAnew}
-use Rattle.check_theory.proofs.RowLaws.{bounds}
+use Rattle.refusal.proofs.Ranges.{range-of}
 use Rattle.writing.specs.declared.Writing.{Writing}
 use Rattle.writing.specs.Rows.{writeRow, rewriteRow}
 use Rattle.writing.specs.Possible.{stateOutside, writtenOf}
@@ -43,12 +43,12 @@ state-bounds w e =
     let (t, r) = neither (outside 1 maxChallenges (w .count)) _ q in
     let (i, u) = neither (outside 1 (w .count) (w .number)) (mayFollow w) r in
     record {
-      depth = bounds 1 maxDepth n d;
+      depth = range-of 1 maxDepth n d;
       memory = ltb-false (min n maxMemory) m l;
       few = ltb-false anew (o .made) k;
       position = leb-false (2 ^ n) (o .leaf) p;
-      count = bounds 1 maxChallenges (w .count) t;
-      number = bounds 1 (w .count) (w .number) i;
+      count = range-of 1 maxChallenges (w .count) t;
+      number = range-of 1 (w .count) (w .number) i;
       under = u;
     }
 

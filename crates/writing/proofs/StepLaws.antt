@@ -10,7 +10,7 @@ use borrow.Author.Tests.{eq-eqb, ne-eqb, ltb-false}
 use lib.Dec.{ltb}
 use lib.ListN.{length}
 use Rattle.base.proofs.WrittenLaws.{written-here}
-use Rattle.groups.proofs.Steps.{lt-or-le}
+use Rattle.base.proofs.ChoiceLaws.{lt-or-le}
 use Rattle.base.proofs.Parts.{part-length}
 use Rattle.tree.specs.Openings.{openingSize}
 use Rattle.opening.specs.Rows.{nodesAnew}

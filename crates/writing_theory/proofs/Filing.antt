@@ -14,7 +14,7 @@ use borrow.Author.Tests.{eq-eqb, ne-eqb, lt-ltb, le-ltb}
 use Rattle.base.specs.Limits.{edition}
 use Rattle.base.proofs.ChoiceLaws.{both-false}
 use Rattle.base.proofs.WrittenLaws.{written-over}
-use Rattle.groups.proofs.Steps.{lt-or-le}
+use Rattle.base.proofs.ChoiceLaws.{lt-or-le}
 use Rattle.tree.specs.Openings.{openingSize}
 use Rattle.opening.specs.Rows.{nodesAnew}
 use Rattle.machine.specs.Machines as machines

@@ -15,7 +15,8 @@ use Rattle.opening.specs.Rows.{nodesAnew}
 use Rattle.file_head.specs.Layout.{fileSize, headRow}
 use Rattle.run_theory.specs.Runs.{Startable}
 use Rattle.run_theory.proofs.StartLaws.{start-bounds}
-use Rattle.check_theory.proofs.RowLaws.{within, done-head}
+use Rattle.refusal.proofs.Ranges.{within}
+use Rattle.file_head.proofs.RowLaws.{done-head}
 use Rattle.writing.specs.declared.Writing.{Writing}
 use Rattle.writing.specs.Rows.{writeRow, rewriteRow}
 use Rattle.writing.specs.Steps.{mayFollow, newWriting, started}

@@ -10,7 +10,7 @@ use Rattle.refusal.specs.Row.{outside, memoryOver}
 use Rattle.refusal.proofs.RowLaws.{NoneHolds, none-holds, is-done, is-refused}
 use Rattle.tree.specs.Store.{storeSize}
 use Rattle.file_head.specs.Layout.{fileSize}
-use Rattle.check_theory.proofs.RowLaws.{bounds}
+use Rattle.refusal.proofs.Ranges.{range-of}
 use Rattle.writing.specs.Possible.{Room}
 use borrow.Author.Needs.{needs}
 use mathlib.Core.Path.{_≡_, refl, ap, _∙_}
@@ -33,9 +33,9 @@ write-room n m t store file e =
     ∷ (ltb file (fileSize n t), 7)
     ∷ [] in
     let none : NoneHolds row = none-holds row refl e in
-    let count : IsCount t = bounds 1 maxChallenges t (none .1 .1 .1 .0) in
+    let count : IsCount t = range-of 1 maxChallenges t (none .1 .1 .1 .0) in
     record {
-      depth = bounds 1 maxDepth n (none .0);
+      depth = range-of 1 maxDepth n (none .0);
       memory = ltb-false (min n maxMemory) m (none .1 .0);
       storeFits = ltb-false store (storeSize m) (none .1 .1 .0);
       number = (omega arith, count .0);

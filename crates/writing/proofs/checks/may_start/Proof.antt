@@ -9,7 +9,7 @@ use Rattle.refusal.specs.Row.{outside, memoryOver}
 use Rattle.tree.specs.Store.{storeSize}
 use Rattle.refusal.proofs.Ranges.{depth-inside, memory-inside}
 use Rattle.file_head.specs.Layout.{fileSize}
-use Rattle.check_theory.proofs.RowLaws.{bounds}
+use Rattle.refusal.proofs.Ranges.{range-of}
 use Rattle.writing.specs.Rows.{writeRow}
 use Rattle.writing.proofs.checks.may_start.Statement.{statement}
 use Rattle.writing.proofs.checks.may_start.Tie as tie
@@ -64,7 +64,7 @@ returns-4 c =
 
 file-size-requires : tie.Need-file-size-requires
 file-size-requires c κs =
-    (depth-inside _ (depth-fits (c .before .before .before .before .before .before)), bounds 1 maxChallenges _ (count-fits c) .1)
+    (depth-inside _ (depth-fits (c .before .before .before .before .before .before)), range-of 1 maxChallenges _ (count-fits c) .1)
 
 returns-5 : tie.Need-returns-5
 unfolding writeRow

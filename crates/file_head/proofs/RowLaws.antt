@@ -1,0 +1,25 @@
+-- Document 01's row 'Writing the file's head' is done just when none of its conditions holds.
+use mathlib.Core.Path.{_≡_, refl}
+use Prim.Native.Nat.{ℕ, _≤_}
+use mathlib.Core.Bool.{Bool}
+use mathlib.Core.List.{List, [], _∷_}
+use lib.Dec.{ltb}
+use borrow.Author.Tests.{ltb-false, le-ltb}
+use Rattle.base.specs.Limits.{maxDepth, maxChallenges, IsDepth, IsCount}
+use Rattle.refusal.specs.Row.{outside}
+use Rattle.refusal.proofs.RowLaws.{NoneHolds, none-holds}
+use Rattle.refusal.proofs.Ranges.{within, range-of}
+use Rattle.file_head.specs.Layout.{fileSize, headRow}
+
+module _ (n t out : ℕ) where
+  pub head-done : IsDepth n → IsCount t → fileSize n t ≤ out → headRow n t out ≡ 0
+  unfolding headRow
+  head-done depth count fits = rw (within 1 maxDepth n depth, within 1 maxChallenges t count, le-ltb out (fileSize n t) fits)
+
+  pub done-head : headRow n t out ≡ 0 → IsDepth n × IsCount t × (fileSize n t ≤ out)
+  unfolding headRow
+  done-head e =
+      let row : List (Bool × ℕ) =
+      (outside 1 maxDepth n, 1) ∷ (outside 1 maxChallenges t, 8) ∷ (ltb out (fileSize n t), 7) ∷ [] in
+      let none : NoneHolds row = none-holds row refl e in
+      (range-of 1 maxDepth n (none .0), range-of 1 maxChallenges t (none .1 .0), ltb-false out (fileSize n t) (none .1 .1 .0))
