@@ -11,7 +11,7 @@ use Rattle.base.proofs.BytesLaws.{length-bigEndian}
 use Rattle.base.proofs.Copying.{length-written}
 use Rattle.base.proofs.WrittenLaws.{drop-written}
 use Rattle.base.proofs.Zeros.{drop-zeros}
-use Rattle.sha256.specs.Padding.{padding, padded, blocks}
+use Rattle.sha256.specs.Padding.{padding, padded, blocks, blocksOf}
 use Rattle.sha256.specs.Constants.{initial}
 use Rattle.sha256.specs.Digest.{hashAfter, digestOf, digest}
 use Rattle.sha256.proofs.Padded.{paddedSize, padded-front}
@@ -25,10 +25,10 @@ module _ (input : List ℕ) (len : ℕ) (small : len ≤ maxLabelInput) (front :
   abbrev laid : List ℕ
   laid = written (written input len (128 ∷ [])) (paddedSize len - 8) (bigEndian 8 (8 * len))
 
-  abbrev blocksOf : List ℕ
-  blocksOf = take (paddedSize len) laid
+  abbrev wholeBlocks : List ℕ
+  wholeBlocks = take (paddedSize len) laid
 
-  padded-buffer : blocksOf ≡ padded (take len input)
+  padded-buffer : wholeBlocks ≡ padded (take len input)
   unfolding padded
   padded-buffer =
       let n : length (take len input) ≡ len = length-take len input ∙ omega (arith, length-front) in
@@ -38,7 +38,7 @@ module _ (input : List ℕ) (len : ℕ) (small : len ≤ maxLabelInput) (front :
       ∙ padded-front (take len input) len len (inputSpace - len) n refl (omega arith)
       ∙ ap (λ (k : ℕ). take len input ++ padding k) (sym n)
 
-  pub hashed-front : digestOf (hashAfter initial blocksOf (blocks blocksOf)) ≡ digest (take len input)
+  hashed-front : digestOf (hashAfter initial wholeBlocks (blocks wholeBlocks)) ≡ digest (take len input)
   unfolding digest
   hashed-front = rw padded-buffer
 
@@ -59,7 +59,7 @@ module _ (input : List ℕ) (len : ℕ) (small : len ≤ maxLabelInput) (front :
       ∙ drop-zeros (inputSpace - len) (paddedSize len - len) (omega arith)
       ∙ ap zeros rest
 
-  pub laid-padded : laid ≡ paddedIn inputSpace (take len input)
+  laid-padded : laid ≡ paddedIn inputSpace (take len input)
   laid-padded =
       let marked : length (written input len (128 ∷ [])) ≡ inputSpace =
       length-written input len (128 ∷ []) (omega (arith, length-front)) ∙ length-front in
@@ -69,3 +69,16 @@ module _ (input : List ℕ) (len : ℕ) (small : len ≤ maxLabelInput) (front :
       let size : length (padded (take len input)) ≡ paddedSize len =
       ap length (sym padded-buffer) ∙ length-take-le (paddedSize len) laid (omega arith) in
       sym (take-append-drop (paddedSize len) laid) ∙ rw (zeros-behind, padded-buffer, size)
+
+  -- what is hashed and what is left, with each part as the code makes it
+  pub hashed-laid : {n : ℕ} {bits marked all r : List ℕ} → n ≡ blocksOf len → bits ≡ bigEndian 8 (8 * len)
+      → marked ≡ written input len (128 ∷ []) → all ≡ written marked (64 * n - 8) bits
+      → r ≡ digestOf (hashAfter initial (take (64 * n) all) (blocks (take (64 * n) all)))
+      → (r ≡ digest (take len input)) × (all ≡ paddedIn inputSpace (take len input))
+  hashed-laid count bits-are marked-is all-is r-is =
+      let e = all-is ∙ (λ i. written (marked-is i) (64 * count i - 8) (bits-are i)) in (
+        r-is
+            ∙ (λ i. let m : List ℕ = take (64 * count i) (e i) in digestOf (hashAfter initial m (blocks m)))
+            ∙ hashed-front,
+        e ∙ laid-padded,
+      )

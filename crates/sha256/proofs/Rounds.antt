@@ -1,6 +1,6 @@
 -- The schedule and the rounds of FIPS 180-4, 6.2.2, sixteen at a time.
 use Prim.Native.Nat.{ℕ, zero, suc, _+_, _-_, _*_}
-use mathlib.Core.Path.{_≡_, refl, sym, ap, _∙_}
+use mathlib.Core.Path.{_≡_, refl, sym, ap, ap₂, _∙_}
 use mathlib.Core.List.{List, [], _∷_, _++_, append-assoc}
 use native.Mathlib.Nat.{add-suc}
 use native.Mathlib.Omega.{arith}
@@ -9,8 +9,34 @@ use lib.Seq.{getD-append-add}
 use Rattle.sha256.specs.declared.Words.{Words}
 use Rattle.sha256.specs.declared.block.Block.{Block}
 use Rattle.sha256.specs.Constants.{constant}
-use Rattle.sha256.specs.Compression.{nextWord, extended, schedule, rounds, compressed, added}
+use Rattle.sha256.specs.Words.{sum, ch, maj, bigSigma0, bigSigma1}
+use Rattle.sha256.specs.Compression.{nextWord, extended, schedule, round, rounds, compressed, added}
 use Rattle.sha256.specs.Block.{listOf, Follows, sixteenRounds}
+use Rattle.sha256.proofs.Bitwise.{t1-early}
+
+-- a round from its two sums, T1 in the order of the code
+pub round-parts : (k w : ℕ) (v : Words) {t1 t2 x y : ℕ}
+    → t1 ≡ sum (sum (sum (v .h) (sum k w)) (ch (v .e) (v .f) (v .g))) (bigSigma1 (v .e))
+    → t2 ≡ sum (bigSigma0 (v .a)) (maj (v .a) (v .b) (v .c)) → x ≡ sum t1 t2 → y ≡ sum (v .d) t1
+    → record { a = x; b = v .a; c = v .b; d = v .c; e = y; f = v .e; g = v .f; h = v .g } ≡ round k w v
+unfolding round
+round-parts k w v p q r s =
+    let t1-is = p ∙ t1-early (v .h) (bigSigma1 (v .e)) (ch (v .e) (v .f) (v .g)) k w in
+    λ i.
+    record {
+      a = (r ∙ ap₂ sum t1-is q) i;
+      b = v .a;
+      c = v .b;
+      d = v .c;
+      e = (s ∙ ap (sum (v .d)) t1-is) i;
+      f = v .e;
+      g = v .f;
+      h = v .g;
+    }
+
+-- a round after others
+pub round-after : (k w : ℕ) {x y z : Words} → x ≡ round k w y → y ≡ z → x ≡ round k w z
+round-after k w e f = e ∙ ap (round k w) f
 
 -- the constants of the rounds 16 i to 16 i + 15
 abbrev pub constantsFrom : ℕ → Block

@@ -2,7 +2,8 @@
 ghost use Prim.Native.Nat.{_%_, _≤_};
 ghost use mathlib.Core.Path.{_≡_};
 ghost use lib.ListN.{length, take};
-ghost use mathlib.Core.List.{_++_};
+ghost use mathlib.Core.List.{[], _∷_, _++_};
+ghost use Rattle.base.specs.Bytes.{bigEndian};
 ghost use Rattle.sha256.specs.Padding.{padding, blocksOf};
 ghost use Rattle.sha256.specs.Digest.{digestOf};
 ghost use Rattle.base.specs.Limits.{maxHashed};
@@ -10,43 +11,70 @@ use crate::Words;
 use base::big_endian;
 use base::put;
 
+// The four bytes of a word, highest first.
+struct FourBytes {
+    first: u8,
+    second: u8,
+    third: u8,
+    fourth: u8,
+}
+
+fn bytes_of(word: u32) -> FourBytes
+    ensures { λ r. ⌜ r .first ∷ r .second ∷ r .third ∷ r .fourth ∷ [] ≡ bigEndian 4 word ⌝ }
+{
+    FourBytes {
+        first: ((word >> 24) % 256) as u8,
+        second: ((word >> 16) % 256) as u8,
+        third: ((word >> 8) % 256) as u8,
+        fourth: (word % 256) as u8,
+    }
+}
+
 // The hash words as bytes.
 pub fn digest_bytes(v: Words) -> [u8; 32]
     ensures { λ r. ⌜ r ≡ digestOf v ⌝ }
 {
+    let a = bytes_of(v.a);
+    let b = bytes_of(v.b);
+    let c = bytes_of(v.c);
+    let d = bytes_of(v.d);
+    let e = bytes_of(v.e);
+    let f = bytes_of(v.f);
+    let g = bytes_of(v.g);
+    let h = bytes_of(v.h);
     [
-        ((v.a >> 24) % 256) as u8,
-        ((v.a >> 16) % 256) as u8,
-        ((v.a >> 8) % 256) as u8,
-        (v.a % 256) as u8,
-        ((v.b >> 24) % 256) as u8,
-        ((v.b >> 16) % 256) as u8,
-        ((v.b >> 8) % 256) as u8,
-        (v.b % 256) as u8,
-        ((v.c >> 24) % 256) as u8,
-        ((v.c >> 16) % 256) as u8,
-        ((v.c >> 8) % 256) as u8,
-        (v.c % 256) as u8,
-        ((v.d >> 24) % 256) as u8,
-        ((v.d >> 16) % 256) as u8,
-        ((v.d >> 8) % 256) as u8,
-        (v.d % 256) as u8,
-        ((v.e >> 24) % 256) as u8,
-        ((v.e >> 16) % 256) as u8,
-        ((v.e >> 8) % 256) as u8,
-        (v.e % 256) as u8,
-        ((v.f >> 24) % 256) as u8,
-        ((v.f >> 16) % 256) as u8,
-        ((v.f >> 8) % 256) as u8,
-        (v.f % 256) as u8,
-        ((v.g >> 24) % 256) as u8,
-        ((v.g >> 16) % 256) as u8,
-        ((v.g >> 8) % 256) as u8,
-        (v.g % 256) as u8,
-        ((v.h >> 24) % 256) as u8,
-        ((v.h >> 16) % 256) as u8,
-        ((v.h >> 8) % 256) as u8,
-        (v.h % 256) as u8,
+        a.first,
+        a.second,
+        a.third,
+        a.fourth,
+        b.first,
+        b.second,
+        b.third,
+        b.fourth,
+        c.first,
+        c.second,
+        c.third,
+        c.fourth,
+        d.first,
+        d.second,
+        d.third,
+        d.fourth,
+        e.first,
+        e.second,
+        e.third,
+        e.fourth,
+        f.first,
+        f.second,
+        f.third,
+        f.fourth,
+        g.first,
+        g.second,
+        g.third,
+        g.fourth,
+        h.first,
+        h.second,
+        h.third,
+        h.fourth,
     ]
 }
 

@@ -4,7 +4,7 @@ use native.Mathlib.Omega.{arith}
 use borrow.Author.Needs.{needs}
 use lib.ListN.{length, length-take}
 use Rattle.label.specs.Buffer.{inputSpace}
-use Rattle.label.proofs.Padded.{length-front, hashed-front, laid-padded}
+use Rattle.label.proofs.Padded.{length-front, hashed-laid}
 use Rattle.label.proofs.hash_front.Statement.{statement}
 use Rattle.label.proofs.hash_front.Tie as tie
 
@@ -30,12 +30,13 @@ slice-aggregate-digest-padded c = simp length-take (omega (arith, slice-reshare-
 
 returns : tie.Need-returns
 returns c =
-    let called = c .before .before .before .before .before .before .before .before .before .before .before .before .before in
+    let put2 = c .before .before .before .before in
+    let put = put2 .before .before .before .before .before in
+    let bits = put .before .before .before in
+    let called = bits .before in
     let s = called .before .before in
-    let n = called .block-count .ensures in
-    let d = hashed-front (s .args .input .now) (s .args .len) (s .pre .0) (s .pre .1) in
-    let l = laid-padded (s .args .input .now) (s .args .len) (s .pre .0) (s .pre .1) in
-    (cc, cc)
+    hashed-laid (s .args .input .now) (s .args .len) (s .pre .0) (s .pre .1)
+    (called .block-count .ensures) (bits .big-endian .ensures) (put .put .ensures) (put2 .put2 .ensures) (c .digest-padded .ensures)
 
 pub hash-front-spec : {M : Type 1} → statement M
 hash-front-spec =

@@ -1,6 +1,9 @@
 -- `label::next::label_inner` meets its contract: its two labels are all that is hashed.
 use mathlib.Core.Path.{ap, _∙_}
+use Prim.Native.Nat.{ℕ, _+_}
+use mathlib.Core.List.{List}
 use borrow.Author.Needs.{needs}
+use Rattle.base.specs.Bytes.{zeros, written}
 use Rattle.tree.specs.Nodes.{node}
 use Rattle.tree.specs.Labels.{labelBy}
 use Rattle.label.specs.Rule.{stampRule}
@@ -10,12 +13,15 @@ use Rattle.labelling.proofs.next.label_inner.Tie as tie
 
 returns : tie.Need-returns
 returns c =
-    let s = c .before .before .before .before .before .before .before .before .before .before .before .before .before .before .before in (
-      c .before .before .before .before .before .before .before .before .before .before .label .ensures
+    let put2 = c .before .before in
+    let put = put2 .before .before .before .before .before in
+    let label = put .before .before .before in
+    let s = label .before .before .before .before .before in (
+      label .label .ensures
           ∙ ap
           (labelBy (stampRule (s .args .edition) (s .args .depth) (s .args .statement)) (node (s .args .w .level) (s .args .w .position)))
           (two-hashed (s .args .held .now) (s .args .at)),
-      cc,
+      put2 .put2 .ensures ∙ ap (λ (l : List ℕ). written l (s .args .at + 32) (zeros 32)) (put .put .ensures),
     )
 
 pub label-inner-spec : {M : Type 1} → statement M

@@ -1,5 +1,4 @@
 -- `sha256::compress::compress` meets its contract. Four times sixteen rounds, and the sums.
-use borrow.Author.Needs.{needs}
 use mathlib.Core.Path.{_∙_}
 use Rattle.sha256.proofs.Rounds.{compressed-sixteens}
 use Rattle.sha256.proofs.compress.compress.Statement.{statement}
@@ -25,5 +24,5 @@ pub compress-spec : {M : Type 1} → statement M
 compress-spec =
     tie.close
     (tie.spec
-    (λ c κs. search needs) (λ c κs. search needs) (λ c κs. search needs) (λ c κs. search needs) (λ c κs. search needs)
+    (λ c κs. tt) (λ c κs. tt) (λ c κs. tt) (λ c κs. tt) (λ c κs. tt)
     returns)

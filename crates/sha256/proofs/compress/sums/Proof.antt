@@ -1,24 +1,31 @@
 -- `sha256::compress::sums` meets its contract.
-use borrow.Author.Needs.{needs}
 use Rattle.sha256.proofs.compress.sums.Statement.{statement}
 use Rattle.sha256.proofs.compress.sums.Tie as tie
 
 returns : tie.Need-returns
 returns c =
-    rw (
-      c .add8 .ensures,
-      c .before .add7 .ensures,
-      c .before .before .add6 .ensures,
-      c .before .before .before .add5 .ensures,
-      c .before .before .before .before .add4 .ensures,
-      c .before .before .before .before .before .add3 .ensures,
-      c .before .before .before .before .before .before .add2 .ensures,
-      c .before .before .before .before .before .before .before .add .ensures,
-    )
+    let s7 = c .before in
+    let s6 = s7 .before in
+    let s5 = s6 .before in
+    let s4 = s5 .before in
+    let s3 = s4 .before in
+    let s2 = s3 .before in
+    let s1 = s2 .before in
+    λ i.
+    record {
+      a = s1 .add .ensures i;
+      b = s2 .add2 .ensures i;
+      c = s3 .add3 .ensures i;
+      d = s4 .add4 .ensures i;
+      e = s5 .add5 .ensures i;
+      f = s6 .add6 .ensures i;
+      g = s7 .add7 .ensures i;
+      h = c .add8 .ensures i;
+    }
 
 pub sums-spec : {M : Type 1} → statement M
 sums-spec =
     tie.close
     (tie.spec
-    (λ c κs. search needs) (λ c κs. search needs) (λ c κs. search needs) (λ c κs. search needs) (λ c κs. search needs)
-    (λ c κs. search needs) (λ c κs. search needs) (λ c κs. search needs) returns)
+    (λ c κs. tt) (λ c κs. tt) (λ c κs. tt) (λ c κs. tt) (λ c κs. tt) (λ c κs. tt) (λ c κs. tt) (λ c κs. tt)
+    returns)

@@ -1,22 +1,30 @@
 -- `sha256::compress::turn` meets its contract. T1 is summed in another order than FIPS 180-4 writes it.
-use Rattle.sha256.specs.Words.{ch, bigSigma1}
-use Rattle.sha256.specs.Compression.{round}
-use Rattle.sha256.proofs.Bitwise.{t1-early}
-use borrow.Author.Needs.{needs}
+use mathlib.Core.Path.{_∙_, ap, ap₂}
+use Rattle.sha256.specs.Words.{sum}
+use Rattle.sha256.proofs.Rounds.{round-parts}
 use Rattle.sha256.proofs.compress.turn.Statement.{statement}
 use Rattle.sha256.proofs.compress.turn.Tie as tie
 
 returns : tie.Need-returns
-unfolding round
 returns c =
-    let entry = c .before .before .before .before .before .before .before .before .before .before .before in
-    let v = entry .args .v in
-    cc (t1-early (v .h) (bigSigma1 (v .e)) (ch (v .e) (v .f) (v .g)) (entry .args .k) (entry .args .w))
+    let t2 = c .before .before in
+    let t1 = t2 .before .before .before in
+    let h-k-w-ch = t1 .before .before in
+    let h-k-w = h-k-w-ch .before .before in
+    let k-w = h-k-w .before in
+    round-parts _ _ _
+    (t1 .add4 .ensures
+    ∙ ap₂ sum
+    (h-k-w-ch .add3 .ensures ∙ ap₂ sum (h-k-w .add2 .ensures ∙ ap (sum _) (k-w .add .ensures)) (h-k-w-ch .before .choose .ensures))
+    (t1 .before .big1 .ensures))
+    (t2 .add5 .ensures ∙ ap₂ sum (t2 .before .before .big0 .ensures) (t2 .before .majority .ensures))
+    (c .before .add6 .ensures)
+    (c .add7 .ensures)
 
 pub turn-spec : {M : Type 1} → statement M
 turn-spec =
     tie.close
     (tie.spec
-    (λ c κs. search needs) (λ c κs. search needs) (λ c κs. search needs) (λ c κs. search needs) (λ c κs. search needs)
-    (λ c κs. search needs) (λ c κs. search needs) (λ c κs. search needs) (λ c κs. search needs) (λ c κs. search needs)
-    (λ c κs. search needs) returns)
+    (λ c κs. tt) (λ c κs. tt) (λ c κs. tt) (λ c κs. tt) (λ c κs. tt) (λ c κs. tt) (λ c κs. tt) (λ c κs. tt)
+    (λ c κs. tt) (λ c κs. tt) (λ c κs. tt)
+    returns)

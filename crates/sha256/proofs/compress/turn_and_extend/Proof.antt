@@ -1,6 +1,6 @@
 -- `sha256::compress::turn_and_extend` meets its contract. Each round goes on from the one before, each word from those before it.
-use borrow.Author.Needs.{needs}
 use Rattle.sha256.specs.Block.{sixteenRounds}
+use Rattle.sha256.proofs.Rounds.{round-after}
 use Rattle.sha256.proofs.compress.turn_and_extend.Statement.{statement}
 use Rattle.sha256.proofs.compress.turn_and_extend.Tie as tie
 
@@ -23,24 +23,22 @@ returns c =
     let s3 = s4 .before .before in
     let s2 = s3 .before .before in
     let s1 = s2 .before .before in (
-      rw (
-        s16 .before .turn16 .ensures,
-        s15 .before .turn15 .ensures,
-        s14 .before .turn14 .ensures,
-        s13 .before .turn13 .ensures,
-        s12 .before .turn12 .ensures,
-        s11 .before .turn11 .ensures,
-        s10 .before .turn10 .ensures,
-        s9 .before .turn9 .ensures,
-        s8 .before .turn8 .ensures,
-        s7 .before .turn7 .ensures,
-        s6 .before .turn6 .ensures,
-        s5 .before .turn5 .ensures,
-        s4 .before .turn4 .ensures,
-        s3 .before .turn3 .ensures,
-        s2 .before .turn2 .ensures,
-        s1 .before .turn .ensures,
-      ),
+      round-after _ _ (s16 .before .turn16 .ensures)
+          (round-after _ _ (s15 .before .turn15 .ensures)
+          (round-after _ _ (s14 .before .turn14 .ensures)
+          (round-after _ _ (s13 .before .turn13 .ensures)
+          (round-after _ _ (s12 .before .turn12 .ensures)
+          (round-after _ _ (s11 .before .turn11 .ensures)
+          (round-after _ _ (s10 .before .turn10 .ensures)
+          (round-after _ _ (s9 .before .turn9 .ensures)
+          (round-after _ _ (s8 .before .turn8 .ensures)
+          (round-after _ _ (s7 .before .turn7 .ensures)
+          (round-after _ _ (s6 .before .turn6 .ensures)
+          (round-after _ _ (s5 .before .turn5 .ensures)
+          (round-after _ _ (s4 .before .turn4 .ensures)
+          (round-after _ _ (s3 .before .turn3 .ensures)
+          (round-after _ _ (s2 .before .turn2 .ensures)
+          (s1 .before .turn .ensures))))))))))))))),
       rw (c .block-of .ensures) (record {
         w0 =
             s1 .schedule .ensures;
@@ -69,10 +67,9 @@ pub turn-and-extend-spec : {M : Type 1} → statement M
 turn-and-extend-spec =
     tie.close
     (tie.spec
-    (λ c κs. search needs) (λ c κs. search needs) (λ c κs. search needs) (λ c κs. search needs) (λ c κs. search needs)
-    (λ c κs. search needs) (λ c κs. search needs) (λ c κs. search needs) (λ c κs. search needs) (λ c κs. search needs)
-    (λ c κs. search needs) (λ c κs. search needs) (λ c κs. search needs) (λ c κs. search needs) (λ c κs. search needs)
-    (λ c κs. search needs) (λ c κs. search needs) (λ c κs. search needs) (λ c κs. search needs) (λ c κs. search needs)
-    (λ c κs. search needs) (λ c κs. search needs) (λ c κs. search needs) (λ c κs. search needs) (λ c κs. search needs)
-    (λ c κs. search needs) (λ c κs. search needs) (λ c κs. search needs) (λ c κs. search needs) (λ c κs. search needs)
-    (λ c κs. search needs) (λ c κs. search needs) (λ c κs. search needs) returns)
+    (λ c κs. tt) (λ c κs. tt) (λ c κs. tt) (λ c κs. tt) (λ c κs. tt) (λ c κs. tt) (λ c κs. tt) (λ c κs. tt)
+    (λ c κs. tt) (λ c κs. tt) (λ c κs. tt) (λ c κs. tt) (λ c κs. tt) (λ c κs. tt) (λ c κs. tt) (λ c κs. tt)
+    (λ c κs. tt) (λ c κs. tt) (λ c κs. tt) (λ c κs. tt) (λ c κs. tt) (λ c κs. tt) (λ c κs. tt) (λ c κs. tt)
+    (λ c κs. tt) (λ c κs. tt) (λ c κs. tt) (λ c κs. tt) (λ c κs. tt) (λ c κs. tt) (λ c κs. tt) (λ c κs. tt)
+    (λ c κs. tt)
+    returns)
