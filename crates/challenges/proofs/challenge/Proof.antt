@@ -1,4 +1,4 @@
--- `proof_file::challenge` meets its contract: one law for each return.
+-- `challenges::challenge` meets its contract: one law for each return.
 use mathlib.Core.Path.{sym, _∙_}
 use borrow.Author.Needs.{needs}
 use Rattle.base.specs.Limits.{maxDepth, edition}

@@ -1,4 +1,4 @@
--- `proof_file::challenge_hash` meets its contract: the four parts laid in a buffer of 77 bytes are the input.
+-- `challenges::challenge_hash` meets its contract: the four parts laid in a buffer of 77 bytes are the input.
 use mathlib.Core.Path.{ap, _∙_}
 use borrow.Author.Needs.{needs}
 use Rattle.sha256.specs.Digest.{digest}

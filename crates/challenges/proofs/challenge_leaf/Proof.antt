@@ -1,4 +1,4 @@
--- `proof_file::challenge_leaf` meets its contract: the first n bits of 256 are those of the first 64.
+-- `challenges::challenge_leaf` meets its contract: the first n bits of 256 are those of the first 64.
 use borrow.Author.Needs.{needs}
 use Rattle.challenges.proofs.ChallengeLaws.{leaf-bits}
 use Rattle.challenges.proofs.challenge_leaf.Statement.{statement}

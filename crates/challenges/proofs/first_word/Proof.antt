@@ -1,4 +1,4 @@
--- `proof_file::first_word` meets its contract. The invariant: the value is that of the first i bytes. The measure is what is left
+-- `challenges::first_word` meets its contract. The invariant: the value is that of the first i bytes. The measure is what is left
 -- of eight.
 use mathlib.Core.Path.{_≡_}
 use Prim.Native.Nat.{_-_, _^_, _≤_, _<_}

@@ -1,4 +1,4 @@
--- `compare::table::cell_at` meets its contract.
+-- `child_table::cell_at` meets its contract.
 use Rattle.base.proofs.Parts.{part-size}
 use Prim.Native.Nat.{_+_, _-_, _*_}
 use Rattle.child_table.specs.Table.{cell, rowSize}

@@ -1,4 +1,4 @@
--- `compare::table::fill_node` meets its contract: the label is hashed over the 64 bytes just written.
+-- `child_table::fill_node` meets its contract: the label is hashed over the 64 bytes just written.
 use Rattle.child_table.proofs.Filling.{label-over}
 use mathlib.Core.Path.{_∙_}
 use Prim.Native.Nat.{_/_}

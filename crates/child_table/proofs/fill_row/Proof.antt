@@ -1,4 +1,4 @@
--- `compare::table::fill_row` meets its contract. The invariant: the child's label is the computed one, and the cells below are
+-- `child_table::fill_row` meets its contract. The invariant: the child's label is the computed one, and the cells below are
 -- filled. The measure is what is left of the way.
 use mathlib.Core.Path.{_≡_, refl, ap, _∙_}
 use Prim.Native.Nat.{_+_, _-_, _*_, _≤_}

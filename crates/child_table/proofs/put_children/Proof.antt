@@ -1,4 +1,4 @@
--- `compare::table::put_children` meets its contract, for a right child and for a left one.
+-- `child_table::put_children` meets its contract, for a right child and for a left one.
 use Rattle.child_table.proofs.Filling.{right-put, left-put}
 use borrow.Author.Needs.{needs}
 use Rattle.child_table.proofs.put_children.Statement.{statement}

@@ -1,4 +1,4 @@
--- `label::hashed::hash_front` meets its contract: the buffer has 1,344 bytes, and the padded message is FIPS's.
+-- `label::hash_front` meets its contract: the buffer has 1,344 bytes, and the padded message is FIPS's.
 use mathlib.Core.Path.{_≡_}
 use native.Mathlib.Omega.{arith}
 use borrow.Author.Needs.{needs}

@@ -1,4 +1,4 @@
--- `label::hashed::label` meets its contract: the number of parents gives the length of the input, and zeros follow it.
+-- `label::label` meets its contract: the number of parents gives the length of the input, and zeros follow it.
 use mathlib.Core.Path.{_≡_, refl, ap, _∙_}
 use Prim.Native.Nat.{ℕ, _+_, _-_, _*_}
 use mathlib.Core.List.{List, _++_}

@@ -1,4 +1,4 @@
--- `label::hashed::put_input` meets its contract: the five parts stand in the buffer one after another.
+-- `label::put_input` meets its contract: the five parts stand in the buffer one after another.
 use mathlib.Core.Path.{_≡_}
 use borrow.Author.Needs.{needs}
 use lib.ListN.{length}

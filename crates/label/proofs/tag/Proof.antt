@@ -1,4 +1,4 @@
--- `label::hashed::tag` meets its contract.
+-- `label::tag` meets its contract.
 use mathlib.Core.Path.{refl}
 use Rattle.tree.specs.Labels.{tag}
 use Rattle.label.proofs.tag.Statement.{statement}

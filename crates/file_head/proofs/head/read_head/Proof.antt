@@ -1,4 +1,4 @@
--- `proof_file::read_head` meets its contract: refused, bad or read.
+-- `file_head::read_head` meets its contract: refused, bad or read.
 use mathlib.Core.Path.{sym, ap, _∙_}
 use borrow.Author.Needs.{needs}
 use Rattle.groups.specs.Reading.{answerOf}

@@ -1,4 +1,4 @@
--- `proof_file::file_length` meets its contract: at most 200 openings of at most 1,312 bytes fit.
+-- `file_head::file_length` meets its contract: at most 200 openings of at most 1,312 bytes fit.
 use native.Mathlib.Omega.{arith}
 use borrow.Author.Needs.{needs}
 use Rattle.file_head.proofs.HeadLaws.{openings-small}

@@ -1,4 +1,4 @@
--- `proof_file::opening_start` meets its contract: at most 199 openings of at most 1,312 bytes lie before.
+-- `file_head::opening_start` meets its contract: at most 199 openings of at most 1,312 bytes lie before.
 use Prim.Native.Nat.{_-_}
 use native.Mathlib.Omega.{arith}
 use borrow.Author.Needs.{needs}

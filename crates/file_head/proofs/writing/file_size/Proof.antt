@@ -1,4 +1,4 @@
--- `proof_file::file_size` meets its contract: the count takes one byte or two.
+-- `file_head::file_size` meets its contract: the count takes one byte or two.
 use mathlib.Core.Path.{_∙_}
 use borrow.Author.Needs.{needs}
 use Rattle.file_head.proofs.WritingLaws.{size-three, size-four}

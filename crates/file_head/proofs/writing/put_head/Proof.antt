@@ -1,4 +1,4 @@
--- `proof_file::put_head` meets its contract: numbers, statement and root one behind the other.
+-- `file_head::put_head` meets its contract: numbers, statement and root one behind the other.
 use native.Mathlib.Omega.{arith}
 use borrow.Author.Needs.{needs}
 use Rattle.file_head.proofs.WritingLaws.{head-put, size-numbers}

@@ -1,4 +1,4 @@
--- `proof_file::put_number` meets its contract: at most two groups.
+-- `file_head::put_number` meets its contract: at most two groups.
 use mathlib.Core.Path.{_≡_, ap, _∙_}
 use Prim.Native.Nat.{ℕ, _+_}
 use native.Mathlib.Omega.{arith}

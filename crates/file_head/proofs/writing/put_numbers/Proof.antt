@@ -1,4 +1,4 @@
--- `proof_file::put_numbers` meets its contract: the three numbers one behind the other.
+-- `file_head::put_numbers` meets its contract: the three numbers one behind the other.
 use mathlib.Core.Path.{_∙_}
 use native.Mathlib.Omega.{arith}
 use native.Mathlib.Nat.{zero-add}

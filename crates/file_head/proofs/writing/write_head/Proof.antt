@@ -1,4 +1,4 @@
--- `proof_file::write_head` meets its contract: one law for each return.
+-- `file_head::write_head` meets its contract: one law for each return.
 use mathlib.Core.Path.{sym, _∙_}
 use native.Mathlib.Omega.{arith}
 use borrow.Author.Needs.{needs}

@@ -1,4 +1,4 @@
--- `label::next::label_inner` meets its contract: its two labels are all that is hashed.
+-- `labelling::next::label_inner` meets its contract: its two labels are all that is hashed.
 use mathlib.Core.Path.{ap, _∙_}
 use Prim.Native.Nat.{ℕ, _+_}
 use mathlib.Core.List.{List}

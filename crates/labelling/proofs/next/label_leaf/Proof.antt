@@ -1,4 +1,4 @@
--- `label::next::label_leaf` meets its contract: the labels in front and the held ones before its place are 32 bytes for each one-bit.
+-- `labelling::next::label_leaf` meets its contract: the labels in front and the held ones before its place are 32 bytes for each one-bit.
 use native.Mathlib.Omega.{arith}
 use borrow.Author.Needs.{needs}
 use lib.ListN.{length-take}

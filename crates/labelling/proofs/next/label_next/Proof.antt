@@ -1,4 +1,4 @@
--- `label::next::label_next` meets its contract: the next node lies in the subtree, and each kind of node has its law.
+-- `labelling::next::label_next` meets its contract: the next node lies in the subtree, and each kind of node has its law.
 use mathlib.Core.Path.{_∙_}
 use Prim.Native.Nat.{_+_, _-_, _≤_}
 use native.Mathlib.Omega.{arith}

@@ -1,4 +1,4 @@
--- `label::next::place` meets its contract: a mask of ones is the rest of a division.
+-- `labelling::next::place` meets its contract: a mask of ones is the rest of a division.
 use native.Mathlib.Omega.{arith}
 use borrow.Author.Needs.{needs}
 use lib.Pow.{pow-pos}

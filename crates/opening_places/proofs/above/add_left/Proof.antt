@@ -1,4 +1,4 @@
--- `opening::above::add_left` meets its contract, by parity.
+-- `opening_places::above::add_left` meets its contract, by parity.
 use mathlib.Core.Path.{_∙_}
 use native.Mathlib.Omega.{arith}
 use borrow.Author.Needs.{needs}

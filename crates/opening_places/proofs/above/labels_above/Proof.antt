@@ -1,4 +1,4 @@
--- `opening::above::labels_above` meets its contract. The invariant: the first `filled` bytes are the labels of levels 1 to `level`, and
+-- `opening_places::above::labels_above` meets its contract. The invariant: the first `filled` bytes are the labels of levels 1 to `level`, and
 -- zeros follow. The measure is what is left of m.
 use mathlib.Core.Path.{_≡_, refl}
 use Prim.Native.Nat.{_+_, _-_, _*_, _/_, _^_, _≤_}

@@ -1,4 +1,4 @@
--- `opening::places::copy_held` meets its contract, by whether m is n.
+-- `opening_places::places::copy_held` meets its contract, by whether m is n.
 use mathlib.Core.Path.{_∙_}
 use native.Mathlib.Omega.{arith}
 use borrow.Author.Needs.{needs}

@@ -1,4 +1,4 @@
--- `opening::places::copy_label` meets its contract: the part lent is the label in the store.
+-- `opening_places::places::copy_label` meets its contract: the part lent is the label in the store.
 use mathlib.Core.Path.{ap, _∙_}
 use borrow.Author.Needs.{needs}
 use Rattle.opening_places.specs.Places.{placed}

@@ -1,4 +1,4 @@
--- `opening::places::copy_siblings` meets its contract. The invariant: the siblings of levels 1 to `level` are copied. The measure is
+-- `opening_places::places::copy_siblings` meets its contract. The invariant: the siblings of levels 1 to `level` are copied. The measure is
 -- what is left of m.
 use mathlib.Core.Path.{_≡_, refl, _∙_}
 use Prim.Native.Nat.{_+_, _-_, _≤_}

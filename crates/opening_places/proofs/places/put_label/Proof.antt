@@ -1,4 +1,4 @@
--- `opening::places::put_label` meets its contract: each return by the two tests.
+-- `opening_places::places::put_label` meets its contract: each return by the two tests.
 use mathlib.Core.Path.{sym, _∙_}
 use borrow.Author.Needs.{needs}
 use Rattle.opening_places.proofs.PlaceLaws.{placed-leaf, placed-beside, placed-nowhere}

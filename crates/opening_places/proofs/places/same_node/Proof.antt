@@ -1,4 +1,4 @@
--- `opening::places::same_node` meets its contract, by its two comparisons.
+-- `opening_places::places::same_node` meets its contract, by its two comparisons.
 use borrow.Author.Tests.{eq-eqb, ne-eqb}
 use Rattle.opening_places.proofs.places.same_node.Statement.{statement}
 use Rattle.opening_places.proofs.places.same_node.Tie as tie

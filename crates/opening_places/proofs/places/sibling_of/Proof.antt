@@ -1,4 +1,4 @@
--- `opening::places::sibling_of` meets its contract, by parity.
+-- `opening_places::places::sibling_of` meets its contract, by parity.
 use native.Mathlib.Omega.{arith}
 use borrow.Author.Needs.{needs}
 use Rattle.base.proofs.ChoiceLaws.{is-odd, is-even}

@@ -1,4 +1,4 @@
--- `opening::places::slot_of` meets its contract: no number is beyond 2^46.
+-- `opening_places::places::slot_of` meets its contract: no number is beyond 2^46.
 use native.Mathlib.Omega.{arith}
 use borrow.Author.Needs.{needs}
 use lib.Pow.{pow-pos, pow-mono}
