@@ -1,4 +1,4 @@
-// Planning a chain from leaf positions, and drawing it from a proof.
+// Planning a chain from leaf positions.
 mod climbing;
 mod planning;
 

@@ -1,4 +1,4 @@
--- `reader::head` meets its contract: a walk of its MIR, by hand. The struct is taken apart, and `proof_file::read_head` is called on the slice.
+-- `reader::head` meets its contract: a walk of its MIR, by hand. The struct is taken apart, and `file_head::read_head` is called on the slice.
 -- What src owns goes to the callee beside the lifetime's token, which comes back. Of `read_head` only its contract is used.
 use mathlib.Core.Path.{_≡_, refl}
 use mathlib.Core.List.{[], _∷_}
