@@ -9,7 +9,7 @@ use lines::say;
 use lines::say_text;
 use planning::MAX_OUTPUT;
 use verdict_lines::clash_lines;
-use verdict_lines::put_drawing;
+use drawing_text::put_drawing;
 use verdict_lines::verdict;
 
 // Places for the longest chain.

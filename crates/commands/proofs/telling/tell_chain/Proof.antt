@@ -3,7 +3,7 @@ use mathlib.Core.Path.{_≡_}
 use native.Mathlib.Omega.{arith}
 use lib.ListN.{length}
 use Rattle.base.specs.Limits.{maxChain}
-use Rattle.verdict_lines.proofs.ChainLaws.{chain-in}
+use Rattle.drawing_text.proofs.ChainLaws.{chain-in}
 use borrow.Author.Needs.{needs}
 use Rattle.commands.proofs.telling.tell_chain.Statement.{statement}
 use Rattle.commands.proofs.telling.tell_chain.Tie as tie

@@ -19,8 +19,8 @@ use Rattle.chain.specs.PlanRow.{planRow}
 use Rattle.chain.proofs.Rows.{list-check}
 use Rattle.planning.specs.Output.{places}
 use Rattle.decimal.specs.Steps.{Wrote}
 use Rattle.verdict_lines.specs.Verdict.{refusalText, clashLines}
-use Rattle.verdict_lines.specs.Text.{chainText, ChainIn}
+use Rattle.drawing_text.specs.Text.{chainText, ChainIn}
 use Rattle.compare.specs.declared.Pair.{Pair}
 use Rattle.compare.specs.declared.Pair.the-variants.{Agree, Disagree}
 use Rattle.draw.specs.declared.Drawing.{Drawing}

@@ -1,11 +1,11 @@
--- `verdict_lines::drawing::put_drawing` meets its contract.
+-- `drawing_text::put_drawing` meets its contract.
 use mathlib.Core.Path.{sym, ap, _∙_}
 use lib.Seq.{length-take-le}
 use Rattle.draw.specs.Drawing.{drawnChain}
-use Rattle.verdict_lines.proofs.ChainLaws.{refused-wrote, chain-wrote, clash-wrote}
+use Rattle.drawing_text.proofs.ChainLaws.{refused-wrote, chain-wrote, clash-wrote}
 use borrow.Author.Needs.{needs}
-use Rattle.verdict_lines.proofs.drawing.put_drawing.Statement.{statement}
-use Rattle.verdict_lines.proofs.drawing.put_drawing.Tie as tie
+use Rattle.drawing_text.proofs.put_drawing.Statement.{statement}
+use Rattle.drawing_text.proofs.put_drawing.Tie as tie
 
 slice-aggregate-put-chain : tie.Need-slice-aggregate-put-chain
 slice-aggregate-put-chain c =

@@ -1,4 +1,4 @@
--- `verdict_lines::drawing::put_chain` meets its contract: a drawn chain is the plan of the opened leaves.
+-- `drawing_text::put_chain` meets its contract: a drawn chain is the plan of the opened leaves.
 use mathlib.Core.Path.{sym, _∙_}
 use native.Mathlib.Omega.{arith}
 use Prim.Native.Nat.{ℕ, _<_}
@@ -7,10 +7,10 @@ use lib.Seq.{length-take-le}
 use Rattle.base.specs.Limits.{maxChain}
 use Rattle.planning.proofs.AnswerLaws.{done-wrote}
 use Rattle.draw.proofs.AcceptedFile.{depth-known, count-known, size-known, leaves-known}
-use Rattle.verdict_lines.proofs.ChainLaws.{file-accepted, plan-done}
+use Rattle.drawing_text.proofs.ChainLaws.{file-accepted, plan-done}
 use borrow.Author.Needs.{needs}
-use Rattle.verdict_lines.proofs.drawing.put_chain.Statement.{statement}
-use Rattle.verdict_lines.proofs.drawing.put_chain.Tie as tie
+use Rattle.drawing_text.proofs.put_chain.Statement.{statement}
+use Rattle.drawing_text.proofs.put_chain.Tie as tie
 
 add-label-at : tie.Need-add-label-at
 add-label-at c =

@@ -1,13 +1,13 @@
--- `verdict_lines::drawing::put_line` meets its contract.
+-- `drawing_text::put_line` meets its contract.
 use mathlib.Core.Path.{_≡_, sym}
 use native.Mathlib.Omega.{arith}
 use lib.ListN.{length}
 use lib.Seq.{length-take-le}
 use Rattle.lines.specs.Line.{lineOf}
-use Rattle.verdict_lines.proofs.ChainLaws.{line-whole, line-first}
+use Rattle.drawing_text.proofs.ChainLaws.{line-whole, line-first}
 use borrow.Author.Needs.{needs}
-use Rattle.verdict_lines.proofs.drawing.put_line.Statement.{statement}
-use Rattle.verdict_lines.proofs.drawing.put_line.Tie as tie
+use Rattle.drawing_text.proofs.put_line.Statement.{statement}
+use Rattle.drawing_text.proofs.put_line.Tie as tie
 
 put-requires : tie.Need-put-requires
 put-requires c κs =
