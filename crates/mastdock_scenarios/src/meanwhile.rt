@@ -3,12 +3,12 @@ use crate::make;
 use crate::run;
 use crate::say;
 use crate::streams::show;
-use commands::Part;
-use commands::keep_proof;
-use commands::make_part;
-use commands::take_room;
 use lines::add;
 use lines::empty;
+use saving::Part;
+use saving::keep_proof;
+use saving::make_part;
+use saving::take_room;
 
 fn keep(part: Part, proof: &[u8]) {
     if keep_proof(part, proof, b"abc", 1) {
