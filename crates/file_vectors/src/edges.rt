@@ -2,9 +2,9 @@
 use opening::Opening;
 use refusal::outcome_number;
 use vector_runs::digest_column;
+use vector_runs::flag_digest;
 use vector_runs::hash;
 use vector_text::column;
-use vector_text::flag;
 use vector_text::named;
 use writing::Writing;
 
@@ -14,7 +14,7 @@ fn starts(n: u64, m: u64, t: u64, store: &[u8], file: &mut [u8]) {
     let start = Writing::start([7u8; 32], [8u8; 32], n, m, t, store, file);
     let outcome = start.outcome;
     named(b": start ", outcome_number(outcome));
-    flag(check::same(&before, &hash(file)));
+    flag_digest(before, file);
 }
 
 // An opening under way in a file under writing.
@@ -44,7 +44,7 @@ fn continues(writing: Writing, store: &[u8], file: &mut [u8]) {
     let outcome = step.outcome;
     named(b" continue ", outcome_number(outcome));
     named(b" labels ", step.labels);
-    flag(check::same(&before, &hash(file)));
+    flag_digest(before, file);
     let after = step.writing;
     whole(after);
 }

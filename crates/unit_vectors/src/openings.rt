@@ -4,10 +4,10 @@ use opening::Opening;
 use refusal::outcome_number;
 use sha256::Hash;
 use vector_runs::finished;
+use vector_runs::flag_digest;
 use vector_runs::hash;
 use vector_runs::open_to_end;
 use vector_text::column;
-use vector_text::flag;
 use vector_text::named;
 use vector_text::named_hex;
 
@@ -95,7 +95,7 @@ fn starts(n: u64, m: u64, leaf: u64, store: &[u8], out: &mut [u8]) {
     let start = Opening::start([7u8; 32], n, m, leaf, store, out);
     let outcome = start.outcome;
     named(b": start ", outcome_number(outcome));
-    flag(check::same(&before, &hash(out)));
+    flag_digest(before, out);
 }
 
 // The same of continuing.
@@ -114,7 +114,7 @@ fn continues(n: u64, m: u64, leaf: u64, made: u64, store: &[u8], out: &mut [u8])
     let outcome = step.outcome;
     named(b" continue ", outcome_number(outcome));
     named(b" labels ", step.labels);
-    flag(check::same(&before, &hash(out)));
+    flag_digest(before, out);
 }
 
 fn starts_at(n: u64, m: u64, leaf: u64, store: usize, out: usize) {

@@ -25,6 +25,11 @@ pub fn named_digest(name: &[u8], bytes: &[u8]) {
     vector_text::named_hex(name, &hash(bytes));
 }
 
+// Writes whether the bytes still have the digest that they had before.
+pub fn flag_digest(before: [u8; 32], bytes: &[u8]) {
+    vector_text::flag(check::same(&before, &hash(bytes)));
+}
+
 // Writes the digest with a blank before it.
 pub fn digest_column(bytes: &[u8]) {
     named_digest(b" ", bytes);

@@ -4,6 +4,7 @@ mod filled; // filled.rt: files, and the leaves of challenges
 
 pub use carried::digest_column;
 pub use carried::finished;
+pub use carried::flag_digest;
 pub use carried::hash;
 pub use carried::named_digest;
 pub use carried::open_to_end;
