@@ -1,5 +1,5 @@
 """What each program of the gate must print, made by the model. A generator gives the whole text; its inputs are those that the
-program's source names, or the crate's stdin."""
+program's source names, or the crate's stdin or data."""
 from functools import cache
 from pathlib import Path
 
@@ -16,9 +16,9 @@ def crate(name):
     return ROOT / "crates" / name
 
 
-def lines(name):
-    """The lines of a crate's standard input that are no comment, as fields."""
-    text = (crate(name) / "stdin").read_text()
+def lines(name, file="stdin"):
+    """The lines of a crate's standard input, or of another file of it, that are no comment, as fields."""
+    text = (crate(name) / file).read_text()
     return [line.split(" ") for line in text.split("\n") if line and not line.startswith("#")]
 
 
@@ -60,7 +60,7 @@ def sha256_vectors():
     return text
 
 
-# run_vectors
+# unit_vectors
 
 RUNS = """1 0 0|2 1 0|3 3 3|4 3 3|5 1 0|6 3 0|7 6 6|8 0 7|9 4 3|10 9 1|11 5 0|12 0 0|13 10 8|14 0 14|15 12 6|16 13 0"""
 
@@ -72,7 +72,7 @@ def run_lines(statement, n, m):
     return f"depth {n} memory {m}\n" + "".join(f"budget {budget}{end}" for budget in (1000000, 1000, 1))
 
 
-def run_vectors():
+def runs():
     text = ""
     for entry in RUNS.split("|"):
         n, *levels = map(int, entry.split())
@@ -103,9 +103,6 @@ def run_edges():
     return text
 
 
-# opening_vectors
-
-
 def opened(labels, m, leaf, size):
     """An opening over bytes that held something else: by the machine, which must give the definition's."""
     out = bytearray([90] * size)
@@ -124,7 +121,7 @@ OPENING_EDGES = [
 ]
 
 
-def opening_vectors():
+def openings():
     text = ""
     for n in range(1, 7):
         labels = tree(sha(b"openings"), n)
@@ -161,12 +158,11 @@ def openings_checked():
                 answers = [md.check_opening(statement, n, l, r, o) for l, r, o in tries]
                 changed = [md.check_opening(statement, n, leaf, root, flipped(out, at, 4)[:size]) for at in range(5, size, 33)]
                 text += f"leaf {leaf} {' '.join(map(str, answers))} changed {' '.join(map(str, changed))}\n"
-    for field, n, t, _ in lines("opening_vectors"):
-        labels = tree(sha(report(field)), int(n))
-        digest = sha(labels.file(int(t))[len(md.head(md.ZERO, md.ZERO, int(n), int(t))) :]).hex()
-        for m in range(int(n) + 1):
-            text += f"file depth {n} count {t} memory {m} {digest} {digest} {digest}\n"
     return text
+
+
+def unit_vectors():
+    return runs() + run_edges() + openings() + openings_checked()
 
 
 # file_vectors
@@ -182,7 +178,7 @@ def written(labels, m, t, budget):
     return refusal, calls, made, bytes(file)
 
 
-def file_vectors():
+def files():
     text = ""
     for field, depth, count, file in lines("file_vectors"):
         labels, n, t, file = tree(sha(report(field)), int(depth)), int(depth), int(count), bytes.fromhex(file)
@@ -229,12 +225,19 @@ def file_edges():
     return text
 
 
-# check_vectors
-
-
-def check_vectors():
+def challenged():
     text = ""
-    vectors = lines("check_vectors")
+    for field, n, t, _ in lines("file_vectors"):
+        labels = tree(sha(report(field)), int(n))
+        digest = sha(labels.file(int(t))[len(md.head(md.ZERO, md.ZERO, int(n), int(t))) :]).hex()
+        for m in range(int(n) + 1):
+            text += f"file depth {n} count {t} memory {m} {digest} {digest} {digest}\n"
+    return text
+
+
+def checks():
+    text = ""
+    vectors = lines("file_vectors", "data/checks")
     for file, statement, n, t, *_ in vectors:
         text += f"vector {n} {t} {md.check_code(report(file), bytes.fromhex(statement), int(n), int(t))}\n"
     file, statement = report(vectors[0][0])[:131], bytes.fromhex(vectors[0][1])
@@ -260,7 +263,11 @@ def check_vectors():
     return text
 
 
-# chain_vectors, compare_vectors
+def file_vectors():
+    return files() + file_edges() + challenged() + checks()
+
+
+# chain_vectors
 
 
 def drawn(name, file, statement, n, t, places):
@@ -276,7 +283,7 @@ def drawn(name, file, statement, n, t, places):
     return f"{name} {answer} {sha(first).hex()} {sha(second).hex()} {places_digest(after)}\n"
 
 
-def chain_vectors():
+def chains():
     text = ""
     for field, n, t, size, _, count, _ in lines("chain_vectors"):
         labels, n, t, size, count = tree(sha(report(field)), int(n)), int(n), int(t), int(size), int(count)
@@ -318,7 +325,7 @@ COMPARE_EDGES = [
 ]
 
 
-def compare_vectors():
+def comparisons():
     labels, text = tree(sha(b"compared"), 3), ""
     for name, leaves, changes in COMPARED:
         data = b"".join(map(labels.opening, leaves))
@@ -333,6 +340,10 @@ def compare_vectors():
     for leaves in [(0, 2**40 - 1), (733007751850, 733007751851), (733007751850, 733007751850)]:
         text += compared("deep", 40, list(leaves), pattern)
     return text
+
+
+def chain_vectors():
+    return chains() + comparisons()
 
 
 # plan, plan_vectors

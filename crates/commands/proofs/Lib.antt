@@ -1,2 +1,1 @@
-pub mod FolderLaws
 pub mod SealLaws

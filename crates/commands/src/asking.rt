@@ -1,11 +1,11 @@
 // Report and proof read, and what is asked of them told.
 use crate::advice::note_empty;
 use crate::heads::wanted_in;
-use crate::reading::empty_file;
-use crate::reading::load_proof;
-use crate::reading::state_report;
 use crate::telling::tell_chain;
 use crate::telling::tell_verdict;
+use file_reading::load_proof;
+use file_reading::state_report;
+use saving::empty_file;
 
 // The verdict by the depth and count of the head, or by those given; or the chain.
 enum Asked {

@@ -2,10 +2,7 @@
 mod advice; // advice.rt: usage, and what is wrong with the words
 mod arguments; // arguments.rt: the program's arguments as one line of words
 mod asking; // asking.rt: report and proof read, and what is asked of them told
-mod folder; // folder.rt: the folder of a file, synced
 mod heads; // heads.rt: the depth and count of a head
-mod reading; // reading.rt: the report's statement, and a proof file in memory
-mod saving; // saving.rt: a proof written under a temporary name, synced and renamed
 mod seal; // seal.rt: the word `seal`
 mod telling; // telling.rt: verdict, chain and clash written
 
@@ -15,10 +12,6 @@ use asking::chain;
 use asking::verify;
 use asking::verify_as;
 use lines::complain;
-pub use saving::Part;
-pub use saving::keep_proof;
-pub use saving::make_part;
-pub use saving::take_room;
 use seal::seal;
 pub use telling::say_clash;
 use words::Order;

@@ -3,24 +3,36 @@ ghost use mathlib.Core.Path.{_≡_};
 ghost use Rattle.words.specs.declared.Words.the-variants.{Right};
 ghost use Rattle.words.specs.Orders.{sealRow};
 use crate::advice::note_empty;
-use crate::reading::empty_file;
-use crate::reading::state_report;
-use crate::saving::Part;
-use crate::saving::is_free;
-use crate::saving::keep_proof;
-use crate::saving::make_part;
 use base::OWN_STORE;
+use file_reading::state_report;
 use lines::complain;
 use lines::fact;
 use lines::fact_bytes;
 use lines::progress;
 use lines::say;
+use saving::Part;
+use saving::empty_file;
+use saving::is_free;
+use saving::keep_proof;
+use saving::make_part;
 use sealing::all_labels;
 use sealing::make_proof;
 
 // The store of memory level 14.
 fn empty_store() -> [u8; OWN_STORE] {
     [0u8; OWN_STORE]
+}
+
+// The last fact, and a complaint if it could not be written.
+fn say_hashes(hashes: u64, out: i32, err: i32) {
+    let said = say(out, fact(b"hashes ", hashes));
+    if !said {
+        complain(
+            err,
+            b"standard output",
+            b"could not be written; the proof stands",
+        );
+    }
 }
 
 // One fact a line; the last one is there only if the proof stands under its name.
@@ -37,14 +49,7 @@ fn say_facts(
     say(out, fact_bytes(b"root ", &root));
     say(out, fact(b"depth ", depth));
     say(out, fact(b"challenges ", challenges));
-    let said = say(out, fact(b"hashes ", hashes));
-    if !said {
-        complain(
-            err,
-            b"standard output",
-            b"could not be written; the proof stands",
-        );
-    }
+    say_hashes(hashes, out, err);
 }
 
 // The first line of progress, since the next one can take long.

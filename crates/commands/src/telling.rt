@@ -4,12 +4,12 @@ ghost use Rattle.base.specs.Bytes.{zeros};
 ghost use Rattle.planning.specs.Output.{places, maxOutput};
 use crate::heads::wanted_in;
 use base::MAX_CHAIN;
+use drawing_text::put_drawing;
 use lines::complain;
 use lines::say;
 use lines::say_text;
 use planning::MAX_OUTPUT;
 use verdict_lines::clash_lines;
-use drawing_text::put_drawing;
 use verdict_lines::verdict;
 
 // Places for the longest chain.

@@ -5,5 +5,6 @@ mod whole_input; // whole_input.rt: a descriptor read to its end
 
 pub use same_file::names;
 pub use standard_streams::occupy;
+pub use whole_input::follows;
 pub use whole_input::read_once;
 pub use whole_input::read_whole;

@@ -53,3 +53,16 @@ pub fn read_whole(fd: i32, place: &mut [u8]) -> Input
         failed: false,
     }
 }
+
+// Whether more bytes follow: 0 if not, 1 if so, 2 if reading failed.
+pub fn follows(fd: i32) -> u8 {
+    let mut one = [0u8; 1];
+    let got = libc::read(fd, &mut one);
+    if got < 0 {
+        return 2;
+    }
+    if got == 0 {
+        return 0;
+    }
+    1
+}

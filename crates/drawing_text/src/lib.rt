@@ -8,12 +8,12 @@ ghost use Rattle.decimal.specs.Steps.{Wrote};
 ghost use Rattle.draw.specs.Drawing.{drawnChain, leavesOf, drawingOf};
 ghost use Rattle.lines.specs.Line.{lineOf};
 ghost use Rattle.drawing_text.specs.Text.{chainText, ChainIn};
-use verdict_lines::clash_lines;
-use verdict_lines::refused;
 use base::put;
 use draw::Drawing;
 use draw::Drawn;
 use lines::Line;
+use verdict_lines::clash_lines;
+use verdict_lines::refused;
 
 // Lays out the chain that was drawn of a file, and answers how many bytes that takes.
 pub fn put_chain(

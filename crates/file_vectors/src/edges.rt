@@ -1,9 +1,11 @@
-// Refusals of starting and continuing to write a file, at their edges. The stored output has an independent model's answers.
+// Refusals of starting and continuing to write a file, at their edges.
 use opening::Opening;
 use refusal::outcome_number;
+use vector_runs::digest_column;
+use vector_runs::flag_digest;
 use vector_runs::hash;
 use vector_text::column;
-use vector_text::flag;
+use vector_text::named;
 use writing::Writing;
 
 // What starting answers, and whether the file is changed.
@@ -11,9 +13,8 @@ fn starts(n: u64, m: u64, t: u64, store: &[u8], file: &mut [u8]) {
     let before = hash(file);
     let start = Writing::start([7u8; 32], [8u8; 32], n, m, t, store, file);
     let outcome = start.outcome;
-    vector_text::text(b": start");
-    column(outcome_number(outcome));
-    flag(check::same(&before, &hash(file)));
+    named(b": start ", outcome_number(outcome));
+    flag_digest(before, file);
 }
 
 // An opening under way in a file under writing.
@@ -41,11 +42,9 @@ fn continues(writing: Writing, store: &[u8], file: &mut [u8]) {
     let before = hash(file);
     let step = writing.advance(1, store, file);
     let outcome = step.outcome;
-    vector_text::text(b" continue");
-    column(outcome_number(outcome));
-    vector_text::text(b" labels");
-    column(step.labels);
-    flag(check::same(&before, &hash(file)));
+    named(b" continue ", outcome_number(outcome));
+    named(b" labels ", step.labels);
+    flag_digest(before, file);
     let after = step.writing;
     whole(after);
 }
@@ -62,14 +61,9 @@ fn whole(writing: Writing) {
     column(opening.memory);
     column(opening.leaf);
     column(opening.made);
-    digest(&root);
-    digest(&statement);
-    digest(&held);
-}
-
-fn digest(bytes: &[u8]) {
-    vector_text::text(b" ");
-    vector_text::hex(&hash(bytes));
+    digest_column(&root);
+    digest_column(&statement);
+    digest_column(&held);
 }
 
 fn starts_at(n: u64, m: u64, t: u64, store: usize, file: usize) {
@@ -98,8 +92,7 @@ fn continues_at(writing: Writing, store: usize, file: usize) {
 
 // Starting with these numbers, and continuing opening `number` with `made` labels made.
 fn edge(n: u64, m: u64, t: u64, number: u64, leaf: u64, made: u64, store: usize, file: usize) {
-    vector_text::text(b"edge");
-    column(n);
+    named(b"edge ", n);
     column(m);
     column(t);
     column(number);
@@ -109,7 +102,7 @@ fn edge(n: u64, m: u64, t: u64, number: u64, leaf: u64, made: u64, store: usize,
     column(file as u64);
     starts_at(n, m, t, store, file);
     continues_at(under_way(n, m, t, number, leaf, made), store, file);
-    vector_text::text(b"\n");
+    vector_text::end();
 }
 
 fn starting() {

@@ -1,17 +1,16 @@
 // Openings of a file read as parts of its bytes.
 use proof_file::opening_part;
-use vector_runs::hash;
+use vector_runs::digest_column;
 use vector_text::column;
+use vector_text::named;
 
 // The length and digest of opening i.
 fn part(file: &[u8], i: u64) {
     let bytes = opening_part(file, i);
-    vector_text::text(b"part");
-    column(i);
+    named(b"part ", i);
     column(bytes.len() as u64);
-    vector_text::text(b" ");
-    vector_text::hex(&hash(bytes));
-    vector_text::text(b"\n");
+    digest_column(bytes);
+    vector_text::end();
 }
 
 // Openings 0 to count + 1, of which the first and the last are none.

@@ -6,6 +6,7 @@ mod streams; // streams.rt: answers apart from complaints, and closed descriptor
 ghost use mathlib.Core.Path.{_≡_};
 ghost use Prim.Native.Nat.{_≤_};
 ghost use lib.ListN.{length};
+use streams::run_apart;
 
 pub fn say(bytes: &[u8]) {
     io::write_all(1, bytes);
@@ -69,23 +70,28 @@ fn line_end(text: &[u8], from: usize) -> usize
     i
 }
 
+// A scenario with one descriptor, or with two files that are shown.
+fn run_line(words: &[u8], apart: bool) {
+    if apart { run_apart(words) } else { run(words) }
+}
+
 // Each line of a text is a scenario.
-fn run_lines(text: &[u8]) {
+fn run_lines(text: &[u8], apart: bool) {
     let mut at: usize = 0;
     while at < text.len() {
         let end = line_end(text, at);
-        run(&text[at..end]);
+        run_line(&text[at..end], apart);
         at = end + 1;
     }
 }
 
-// The scenarios of the file of that name.
-fn run_file() {
+// The scenarios of a file.
+pub fn run_file(name: &[u8], apart: bool) {
     let mut text = io::buffer();
-    let fd = os::open_read(b"scenarios");
+    let fd = os::open_read(name);
     let size = io::read_full(fd, &mut text);
     libc::close(fd);
-    run_lines(&text[..size]);
+    run_lines(&text[..size], apart);
 }
 
 // Seals a report of a long path.
@@ -143,11 +149,12 @@ fn main() {
     surplus();
     say(b"> mastdock\n");
     commands::command(b"", 1, 1);
-    run_file();
+    run_file(b"scenarios", false);
     long_paths();
     clash();
     streams::apart();
     streams::not_written();
     meanwhile::all();
-    streams::closed();
+    streams::error_closed();
+    streams::both_closed();
 }

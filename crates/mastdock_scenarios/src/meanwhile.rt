@@ -3,12 +3,12 @@ use crate::make;
 use crate::run;
 use crate::say;
 use crate::streams::show;
-use commands::Part;
-use commands::keep_proof;
-use commands::make_part;
-use commands::take_room;
 use lines::add;
 use lines::empty;
+use saving::Part;
+use saving::keep_proof;
+use saving::make_part;
+use saving::take_room;
 
 fn keep(part: Part, proof: &[u8]) {
     if keep_proof(part, proof, b"abc", 1) {
@@ -64,6 +64,9 @@ fn replaced() {
         b"moved.proof.part",
         b"moved.proof.kept",
     );
+}
+
+fn replaced_alike() {
     say(b"> the same by a file of the same bytes\n");
     replace(
         b"abc",
@@ -92,10 +95,13 @@ fn device(path: &[u8], proof: &[u8]) {
     show(proof);
 }
 
-fn devices() {
+fn no_room() {
     say(b"> a disk with no room\n");
     device(b"/dev/full", b"full.proof");
     show(b"full.proof.kept");
+}
+
+fn not_synced() {
     say(b"> a disk that cannot be synced\n");
     device(b"/dev/null", b"null.proof");
     show(b"null.proof.kept");
@@ -116,7 +122,9 @@ pub fn all() {
     room();
     taken();
     replaced();
+    replaced_alike();
     not_renamed();
-    devices();
+    no_room();
+    not_synced();
     folder();
 }

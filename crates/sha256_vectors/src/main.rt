@@ -6,6 +6,8 @@ ghost use Prim.Native.Nat.{min};
 use sha256::Hash;
 use sha256::Words;
 use sha256::digest;
+use vector_text::named;
+use vector_text::named_hex;
 
 // The message of the shared vectors: its i-th byte is (7 i + len) mod 256.
 fn fill(message: &mut [u8], len: u64) {
@@ -49,9 +51,8 @@ fn whole(message: &[u8]) -> [u8; 32] {
 }
 
 fn line(name: &[u8], digest: [u8; 32]) {
-    vector_text::text(name);
-    vector_text::hex(&digest);
-    vector_text::text(b"\n");
+    named_hex(name, &digest);
+    vector_text::end();
 }
 
 // The three ways.
@@ -66,7 +67,13 @@ fn three(message: &[u8]) {
 fn shared(message: &mut [u8], len: u64) {
     fill(message, len);
     vector_text::number(len);
-    vector_text::text(b"\n");
+    vector_text::end();
+    three(message);
+}
+
+// The three ways under a line.
+fn headed(line: &[u8], message: &[u8]) {
+    vector_text::text(line);
     three(message);
 }
 
@@ -76,21 +83,19 @@ fn letters() -> [u8; 1000000] {
 }
 
 fn million() {
-    let message = letters();
-    vector_text::text(b"one million letters a\n");
-    three(&message);
+    headed(b"one million letters a\n", &letters());
 }
 
 // FIPS 180-4's examples of one and two blocks, and the empty message.
 fn examples() {
-    vector_text::text(b"the empty message\n");
-    three(b"");
-    vector_text::text(b"abc\n");
-    three(b"abc");
-    vector_text::text(b"448 bits\n");
-    three(b"abcdbcdecdefdefgefghfghighijhijkijkljklmklmnlmnomnopnopq");
-    vector_text::text(b"896 bits\n");
-    three(
+    headed(b"the empty message\n", b"");
+    headed(b"abc\n", b"abc");
+    headed(
+        b"448 bits\n",
+        b"abcdbcdecdefdefgefghfghighijhijkijkljklmklmnlmnomnopnopq",
+    );
+    headed(
+        b"896 bits\n",
         b"abcdefghbcdefghicdefghijdefghijkefghijklfghijklmghijklmnhijklmnoijklmnopjklmnopqklmnopqrlmnopqrsmnopqrstnopqrstu",
     );
 }
@@ -106,20 +111,16 @@ fn at_count(taken: u64) -> Hash {
 // A portion and then the end, from a state: both outcomes' numbers, and what the state has taken.
 fn limit(taken: u64, part: &[u8]) {
     vector_text::number(taken);
-    vector_text::text(b" portion ");
     let step = at_count(taken).update(part);
     let outcome = step.outcome;
-    vector_text::number(outcome_number(outcome));
+    named(b" portion ", outcome_number(outcome));
     let hash = step.hash;
-    vector_text::text(b" taken ");
-    vector_text::number(hash.taken);
+    named(b" taken ", hash.taken);
     let end = hash.finish();
     let ended = end.outcome;
-    vector_text::text(b" end ");
-    vector_text::number(outcome_number(ended));
-    vector_text::text(b" ");
-    vector_text::hex(&end.digest);
-    vector_text::text(b"\n");
+    named(b" end ", outcome_number(ended));
+    let digest = end.digest;
+    line(b" ", digest);
 }
 
 // The message of the shared vectors of this length, if there is room for it.

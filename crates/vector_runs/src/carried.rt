@@ -20,6 +20,21 @@ pub fn hash(bytes: &[u8]) -> [u8; 32]
     d.digest
 }
 
+// Writes a text, and the digest after it.
+pub fn named_digest(name: &[u8], bytes: &[u8]) {
+    vector_text::named_hex(name, &hash(bytes));
+}
+
+// Writes whether the bytes still have the digest that they had before.
+pub fn flag_digest(before: [u8; 32], bytes: &[u8]) {
+    vector_text::flag(check::same(&before, &hash(bytes)));
+}
+
+// Writes the digest with a blank before it.
+pub fn digest_column(bytes: &[u8]) {
+    named_digest(b" ", bytes);
+}
+
 // So many calls with one budget; those that would find no label left are not made.
 pub fn run_to_end(run: Run, calls: u64, budget: u64, store: &mut [u8]) -> Run
     ensures { λ r. ⌜ r ≡ afterCalls advanced (stamped run (now (store .entry))) (replicate calls budget) .run ⌝ }

@@ -2,8 +2,11 @@
 mod carried; // carried.rt: runs and openings
 mod filled; // filled.rt: files, and the leaves of challenges
 
+pub use carried::digest_column;
 pub use carried::finished;
+pub use carried::flag_digest;
 pub use carried::hash;
+pub use carried::named_digest;
 pub use carried::open_to_end;
 pub use carried::run_to_end;
 pub use filled::challenged;

@@ -3,8 +3,11 @@ mod show; // show.rt: text, numbers and bytes printed
 mod vectors; // vectors.rt: the fields of a line of vectors
 
 pub use show::column;
+pub use show::end;
 pub use show::flag;
 pub use show::hex;
+pub use show::named;
+pub use show::named_hex;
 pub use show::number;
 pub use show::text;
 pub use vectors::decimal;

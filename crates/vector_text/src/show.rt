@@ -22,10 +22,26 @@ pub fn text(bytes: &[u8]) {
     io::write_all(STDOUT_FILENO, bytes);
 }
 
+// Writes a text, and a number after it.
+pub fn named(name: &[u8], x: u64) {
+    text(name);
+    number(x);
+}
+
+// Writes a text, and bytes in hexadecimal after it.
+pub fn named_hex(name: &[u8], bytes: &[u8]) {
+    text(name);
+    hex(bytes);
+}
+
 // Writes a number with a blank before it.
 pub fn column(x: u64) {
-    text(b" ");
-    number(x);
+    named(b" ", x);
+}
+
+// Ends a line.
+pub fn end() {
+    text(b"\n");
 }
 
 // Writes whether two things are the same.

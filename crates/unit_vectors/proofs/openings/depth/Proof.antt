@@ -1,0 +1,17 @@
+use Prim.Native.Nat.{_≤_, _-_}
+use borrow.Author.Needs.{needs}
+use Rattle.unit_vectors.proofs.openings.depth.Statement.{statement}
+use Rattle.unit_vectors.proofs.openings.depth.Tie as tie
+
+abbrev Inv-loop : tie.InvT-loop
+Inv-loop n leaves memory₀ memory = (memory ≤ n)
+
+abbrev μ-loop : tie.MeasureT-loop
+μ-loop n leaves memory₀ memory = n - memory
+
+pub depth-spec : {M : Type 1} → statement M
+depth-spec =
+    tie.close
+    (tie.spec
+    Inv-loop μ-loop (λ c. search needs) (λ c κs. search needs) (λ c. search needs) (λ c. search needs)
+    (λ c. search needs) (λ c. search needs) (λ c. search needs))

@@ -1,0 +1,17 @@
+// Runs and openings over lent memory, and openings checked.
+mod checked; // checked.rt: openings checked upward to the root
+mod openings; // openings.rt: every leaf of small trees opened, and the edges of each refusal
+mod run_edges; // run_edges.rt: starting and continuing a run at the edges of each refusal
+mod runs; // runs.rt: runs to their end
+
+use checked::checked;
+use openings::openings;
+use run_edges::run_edges;
+use runs::runs;
+
+fn main() {
+    runs();
+    run_edges();
+    openings();
+    checked();
+}

@@ -1,0 +1,191 @@
+// Every leaf of small trees opened at every memory level and several budgets, and each refusal at its edge. The stored output has the
+// digests of an independent model's openings, and its answers.
+use opening::Opening;
+use refusal::outcome_number;
+use sha256::Hash;
+use vector_runs::finished;
+use vector_runs::flag_digest;
+use vector_runs::hash;
+use vector_runs::open_to_end;
+use vector_text::column;
+use vector_text::named;
+use vector_text::named_hex;
+
+// The hash state with one more opening, made over output bytes that held something else, with a byte behind it.
+fn one(
+    state: Hash,
+    statement: [u8; 32],
+    depth: u64,
+    memory: u64,
+    leaf: u64,
+    budget: u64,
+    store: &[u8],
+) -> Hash {
+    let mut out = [90u8; 1313];
+    let start = Opening::start(statement, depth, memory, leaf, store, &mut out);
+    let opening = start.opening;
+    let labels = open_to_end(opening, 1000, budget, store, &mut out);
+    let first = state.update(&out);
+    let taken = first.hash;
+    let count = base::big_endian(labels);
+    let second = taken.update(&count);
+    second.hash
+}
+
+fn all_leaves(
+    statement: [u8; 32],
+    depth: u64,
+    memory: u64,
+    budget: u64,
+    leaves: u64,
+    store: &[u8],
+) -> [u8; 32] {
+    let mut state = Hash::new();
+    let mut leaf: u64 = 0;
+    while leaf < leaves {
+        let next = one(state, statement, depth, memory, leaf, budget, store);
+        state = next;
+        leaf += 1;
+    }
+    let end = state.finish();
+    end.digest
+}
+
+// The digest over all leaves with one budget.
+fn digests(
+    statement: [u8; 32],
+    depth: u64,
+    memory: u64,
+    budget: u64,
+    leaves: u64,
+    store: [u8; 4064],
+) {
+    named_hex(
+        b" ",
+        &all_leaves(statement, depth, memory, budget, leaves, &store),
+    );
+}
+
+// One depth and memory level: the digest over every leaf's opening and number of labels made.
+fn level(depth: u64, memory: u64, leaves: u64) {
+    let statement = hash(b"openings");
+    let store = finished(statement, depth, memory);
+    named(b"depth ", depth);
+    named(b" memory ", memory);
+    digests(statement, depth, memory, 1000, leaves, store);
+    digests(statement, depth, memory, 3, leaves, store);
+    digests(statement, depth, memory, 1, leaves, store);
+    vector_text::end();
+}
+
+fn depth(n: u64, leaves: u64) {
+    let mut memory: u64 = 0;
+    while memory <= n {
+        level(n, memory, leaves);
+        if memory == n {
+            return;
+        }
+        memory += 1;
+    }
+}
+
+// What starting with these numbers answers, and whether the output is changed.
+fn starts(n: u64, m: u64, leaf: u64, store: &[u8], out: &mut [u8]) {
+    let before = hash(out);
+    let start = Opening::start([7u8; 32], n, m, leaf, store, out);
+    let outcome = start.outcome;
+    named(b": start ", outcome_number(outcome));
+    flag_digest(before, out);
+}
+
+// The same of continuing.
+fn continues(n: u64, m: u64, leaf: u64, made: u64, store: &[u8], out: &mut [u8]) {
+    let before = hash(out);
+    let held = [9u8; 1312];
+    let opening = Opening {
+        statement: [7u8; 32],
+        depth: n,
+        memory: m,
+        leaf,
+        made,
+        held,
+    };
+    let step = opening.advance(1, store, out);
+    let outcome = step.outcome;
+    named(b" continue ", outcome_number(outcome));
+    named(b" labels ", step.labels);
+    flag_digest(before, out);
+}
+
+fn starts_at(n: u64, m: u64, leaf: u64, store: usize, out: usize) {
+    let space = [1u8; 4064];
+    let mut output = [2u8; 1313];
+    if 4064 < store {
+        return;
+    }
+    if 1313 < out {
+        return;
+    }
+    starts(n, m, leaf, &space[..store], &mut output[..out]);
+}
+
+fn continues_at(n: u64, m: u64, leaf: u64, made: u64, store: usize, out: usize) {
+    let space = [1u8; 4064];
+    let mut output = [2u8; 1313];
+    if 4064 < store {
+        return;
+    }
+    if 1313 < out {
+        return;
+    }
+    continues(n, m, leaf, made, &space[..store], &mut output[..out]);
+}
+
+fn edge_at(n: u64, m: u64, leaf: u64, made: u64, store: usize, out: usize) {
+    vector_text::number(n);
+    column(m);
+    column(leaf);
+    column(made);
+    column(store as u64);
+    column(out as u64);
+    starts_at(n, m, leaf, store, out);
+    continues_at(n, m, leaf, made, store, out);
+    vector_text::end();
+}
+
+fn edges() {
+    edge_at(0, 0, 0, 0, 32, 64);
+    edge_at(41, 0, 0, 0, 32, 1313);
+    edge_at(40, 0, 1099511627775, 0, 32, 1312);
+    edge_at(40, 0, 1099511627776, 0, 32, 1312);
+    edge_at(40, 0, 0, 0, 32, 1311);
+    edge_at(3, 3, 7, 0, 480, 128);
+    edge_at(3, 4, 7, 0, 992, 128);
+    edge_at(3, 3, 7, 1, 480, 128);
+    edge_at(3, 1, 7, 0, 95, 128);
+    edge_at(3, 1, 8, 0, 96, 128);
+    edge_at(3, 1, 8, 0, 96, 127);
+    edge_at(3, 1, 7, 0, 96, 127);
+    edge_at(3, 1, 7, 5, 96, 128);
+    edge_at(3, 1, 7, 6, 96, 128);
+    edge_at(3, 1, 7, 7, 96, 128);
+    edge_at(3, 1, 7, 7, 95, 127);
+    edge_at(
+        18446744073709551615,
+        18446744073709551615,
+        18446744073709551615,
+        18446744073709551615,
+        0,
+        0,
+    );
+}
+
+pub fn openings() {
+    depth(1, 2);
+    depth(2, 4);
+    depth(3, 8);
+    depth(4, 16);
+    depth(5, 32);
+    depth(6, 64);
+    edges();
+}

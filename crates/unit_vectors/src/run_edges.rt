@@ -1,0 +1,131 @@
+// Starting and continuing a run at the edges of each refusal: the whole run and store before and after. The stored output has an
+// independent model's answers.
+use base::big_endian;
+use refusal::outcome_number;
+use run::Advanced;
+use run::Run;
+use sha256::Hash;
+use vector_runs::hash;
+use vector_text::flag;
+use vector_text::named;
+use vector_text::named_hex;
+
+// Room for memory level 14.
+fn dirty_store() -> [u8; 1048544] {
+    [90u8; 1048544]
+}
+
+fn with_number(state: Hash, x: u64) -> Hash {
+    let step = state.update(&big_endian(x));
+    step.hash
+}
+
+fn with_places(state: Hash, held: [u8; 1312]) -> Hash {
+    let step = state.update(&held);
+    step.hash
+}
+
+// The digest of a whole run: statement, depth, memory level, labels made, and places.
+fn run_digest(run: Run) -> [u8; 32] {
+    let statement = run.statement;
+    let held = run.held;
+    let first = Hash::new().update(&statement);
+    let depth = with_number(first.hash, run.depth);
+    let memory = with_number(depth, run.memory);
+    let made = with_number(memory, run.made);
+    let end = with_places(made, held).finish();
+    end.digest
+}
+
+fn same_run(a: Run, b: Run) -> bool {
+    check::same(&run_digest(a), &run_digest(b))
+}
+
+// The store's digest, and whether it is the one before.
+fn store_line(before: [u8; 32], store: &[u8]) {
+    let after = hash(store);
+    named_hex(b" store ", &after);
+    flag(check::same(&before, &after));
+}
+
+fn run_line(run: Run) {
+    named_hex(b" run ", &run_digest(run));
+}
+
+// What starting answers, the run beside it, and whether the store is changed.
+fn starts(depth: u64, memory: u64, store: &[u8]) {
+    let before = hash(store);
+    let start = Run::start([7u8; 32], depth, memory, store);
+    let outcome = start.outcome;
+    let run = start.run;
+    named(b": start ", outcome_number(outcome));
+    run_line(run);
+    store_line(before, store);
+}
+
+fn answered(before: Run, step: Advanced) {
+    let outcome = step.outcome;
+    let after = step.run;
+    named(b" continue ", outcome_number(outcome));
+    named(b" labels ", step.labels);
+    run_line(after);
+    flag(same_run(before, after));
+}
+
+// The same of continuing by one label, with whether the run is changed.
+fn continues(depth: u64, memory: u64, made: u64, store: &mut [u8]) {
+    let before = hash(store);
+    let held = [9u8; 1312];
+    let run = Run {
+        statement: [7u8; 32],
+        depth,
+        memory,
+        made,
+        held,
+    };
+    let step = run.advance(1, store);
+    answered(run, step);
+    store_line(before, store);
+}
+
+// Starting and continuing with these numbers and a store of this length.
+fn edge(depth: u64, memory: u64, made: u64, store: &mut [u8]) {
+    named(b"n ", depth);
+    named(b" m ", memory);
+    named(b" made ", made);
+    named(b" store ", store.len() as u64);
+    starts(depth, memory, store);
+    continues(depth, memory, made, store);
+    vector_text::end();
+}
+
+// The same with a store of this length.
+fn edge_at(depth: u64, memory: u64, made: u64, len: usize) {
+    if len <= 1048544 {
+        let mut space = dirty_store();
+        edge(depth, memory, made, &mut space[..len]);
+    }
+}
+
+pub fn run_edges() {
+    edge_at(0, 0, 0, 32);
+    edge_at(1, 0, 0, 32);
+    edge_at(40, 0, 0, 32);
+    edge_at(41, 0, 0, 32);
+    edge_at(18446744073709551615, 0, 0, 32);
+    edge_at(3, 3, 0, 480);
+    edge_at(3, 4, 0, 992);
+    edge_at(40, 20, 0, 32);
+    edge_at(40, 21, 0, 32);
+    edge_at(14, 14, 0, 1048544);
+    edge_at(14, 14, 0, 1048543);
+    edge_at(3, 1, 0, 96);
+    edge_at(3, 1, 0, 95);
+    edge_at(3, 1, 14, 96);
+    edge_at(3, 1, 15, 96);
+    edge_at(3, 1, 15, 95);
+    edge_at(3, 1, 16, 96);
+    edge_at(3, 1, 16, 95);
+    edge_at(3, 1, 18446744073709551615, 96);
+    edge_at(41, 42, 18446744073709551615, 0);
+}
