@@ -1,5 +1,5 @@
 -- Pushing bytes into a state: one by one as it is defined, and in chunks as the code does.
-use Prim.Native.Nat.{ℕ, zero, suc, _+_, _-_, _*_, _/_, _%_, _≤_, _<_}
+use Prim.Native.Nat.{ℕ, zero, suc, _+_, _-_, _*_, _/_, _%_, _^_, _≤_, _<_}
 use mathlib.Core.Path.{_≡_, refl, sym, ap, _∙_}
 use mathlib.Core.Bool.{Bool, true, false}
 use mathlib.Core.List.{List, [], _∷_, _++_, append-nil}
@@ -17,7 +17,7 @@ use Rattle.sha256.specs.Compression.{compressed}
 use Rattle.sha256.specs.Digest.{block, hashAfter}
 use Rattle.base.specs.Choice.{pick}
 use Rattle.sha256.specs.Portions.{cleared, pushed, pushedAll}
-use Rattle.sha256.proofs.Blocks.{words-take}
+use Rattle.sha256.proofs.Blocks.{words-take, part-from}
 
 -- ---- one byte
 
@@ -119,6 +119,13 @@ room-le waiting more h = omega arith
 
 pub room-fills : (taken : ℕ) → taken % 64 + (64 - taken % 64) ≤ 64
 room-fills taken = omega arith
+
+pub next-start : (taken : ℕ) → (taken + (64 - taken % 64)) % 64 ≡ 0
+next-start taken = omega arith
+
+pub rest-fits : (taken : ℕ) (l : List ℕ) → 64 ≤ taken % 64 + length l → taken + length l < 2 ^ 64
+    → taken + (64 - taken % 64) + length (take (length l - (64 - taken % 64)) (drop (64 - taken % 64) l)) < 2 ^ 64
+rest-fits taken l h all = rw (part-from, length-drop) (omega arith)
 
 -- ---- whole blocks, from the start of one
 
