@@ -92,6 +92,10 @@ complement-bit x z a b =
     (on-bit (λ n. bitAnd 0 n ≡ bitXor n (bitAnd 1 n)) refl refl z b)
     x a
 
+-- the digits of a complement, of base 2
+complement-digits : (k x : ℕ) → x < 2 ^ suc k → 2 ^ suc k - 1 - x ≡ (2 ^ k - 1 - x / 2) * 2 + (1 - x % 2)
+complement-digits k x h = omega arith
+
 -- x complemented within k bits, and z
 complement-and : (k x z : ℕ) → x < 2 ^ k → z < 2 ^ k → bitAnd (2 ^ k - 1 - x) z ≡ bitXor z (bitAnd x z)
 complement-and zero x z a b =
@@ -99,8 +103,10 @@ complement-and zero x z a b =
     let q : z ≡ 0 = omega arith in
     rw (p, q) refl
 complement-and (suc k) x z a b =
-    let high : (2 ^ suc k - 1 - x) / 2 ≡ 2 ^ k - 1 - x / 2 = omega arith in
-    let low : (2 ^ suc k - 1 - x) % 2 ≡ 1 - x % 2 = omega arith in
+    let bit : 1 - x % 2 < 2 = omega arith in
+    let e : 2 ^ suc k - 1 - x ≡ (2 ^ k - 1 - x / 2) * 2 + (1 - x % 2) = complement-digits k x a in
+    let high : (2 ^ suc k - 1 - x) / 2 ≡ 2 ^ k - 1 - x / 2 = ap (λ (n : ℕ). n / 2) e ∙ digits-div (2 ^ k - 1 - x / 2) bit in
+    let low : (2 ^ suc k - 1 - x) % 2 ≡ 1 - x % 2 = ap (λ (n : ℕ). n % 2) e ∙ digits-mod (2 ^ k - 1 - x / 2) bit in
     halves (bitAnd (2 ^ suc k - 1 - x) z) (bitXor z (bitAnd x z))
     (and-shr (2 ^ suc k - 1 - x) z 1 ∙ rw high (complement-and k (x / 2) (z / 2) (omega arith) (omega arith))
     ∙ sym (xored _ _ third (anded _ _ first third) .half x 0 z))

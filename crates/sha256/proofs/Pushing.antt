@@ -1,11 +1,12 @@
 -- Pushing bytes into a state: one by one as it is defined, and in chunks as the code does.
-use Prim.Native.Nat.{ℕ, zero, suc, _+_, _-_, _*_, _/_, _%_, _≤_, _<_}
+use Prim.Native.Nat.{ℕ, zero, suc, _+_, _-_, _*_, _/_, _%_, _^_, _≤_, _<_}
 use mathlib.Core.Path.{_≡_, refl, sym, ap, _∙_}
 use mathlib.Core.Bool.{Bool, true, false}
 use mathlib.Core.List.{List, [], _∷_, _++_, append-nil}
 use native.Mathlib.Nat.{add-zero, zero-add, mul-suc}
 use native.Mathlib.Omega.{arith}
 use borrow.Author.Tests.{eq-eqb, ne-eqb}
+use lib.Arith.{digits-mod}
 use lib.Dec.{eqb}
 use lib.ListN.{length, take, drop, set, replicate, length-append, length-drop, take-append-drop}
 use lib.Seq.{sets, sets-eq, length-take-le, drop-length, take-add, take-all, take-append-add, drop-append-add}
@@ -16,7 +17,7 @@ use Rattle.sha256.specs.Compression.{compressed}
 use Rattle.sha256.specs.Digest.{block, hashAfter}
 use Rattle.base.specs.Choice.{pick}
 use Rattle.sha256.specs.Portions.{cleared, pushed, pushedAll}
-use Rattle.sha256.proofs.Blocks.{words-take}
+use Rattle.sha256.proofs.Blocks.{words-take, part-from}
 
 -- ---- one byte
 
@@ -52,19 +53,33 @@ unfolding pushedAll
 pushedAll-taken s [] = sym (add-zero (s .taken))
 pushedAll-taken s (byte ∷ bytes) = omega (arith, pushedAll-taken (pushed s byte) bytes, pushed-taken s byte)
 
+-- the place of the next byte in its block, and that so many more leave the block short of full
+next-place : (n : ℕ) → n % 64 < 63 → (n + 1) % 64 ≡ suc (n % 64)
+next-place n h =
+    let e : n + 1 ≡ n / 64 * 64 + suc (n % 64) = omega arith in
+    ap (λ (m : ℕ). m % 64) e ∙ digits-mod (n / 64) (omega arith)
+
+one-more : (n more : ℕ) → n + 1 + more ≡ n + suc more
+one-more n more = omega arith
+
+short : (n more : ℕ) → n % 64 + suc more < 64 → n % 64 < 63
+short n more h = omega arith
+
+still-short : (n more : ℕ) → n % 64 + suc more < 64 → (n + 1) % 64 + more < 64
+still-short n more h = rw (next-place n (short n more h)) (omega arith)
+
 -- bytes that leave the tail short of full
 pub pushedAll-within : (s : Hash) (bytes : List ℕ) → s .taken % 64 + length bytes < 64
     → pushedAll s bytes ≡ record { words = s .words; tail = sets (s .tail) (s .taken % 64) bytes; taken = s .taken + length bytes }
 unfolding pushedAll
 pushedAll-within s [] h = rw (add-zero (s .taken))
 pushedAll-within s (byte ∷ bytes) h =
-    let at : (s .taken + 1) % 64 ≡ suc (s .taken % 64) = omega arith in
-    let all : s .taken + 1 + length bytes ≡ s .taken + suc (length bytes) = omega arith in
+    let room : s .taken % 64 < 63 = short (s .taken) (length bytes) h in
     rw (
-      pushed-within s byte (omega arith),
-      pushedAll-within (stepped s byte) bytes (omega arith),
-      at,
-      all,
+      pushed-within s byte room,
+      pushedAll-within (stepped s byte) bytes (still-short (s .taken) (length bytes) h),
+      next-place (s .taken) room,
+      one-more (s .taken) (length bytes),
     )
 
 -- bytes that fill the tail to its end
@@ -75,9 +90,7 @@ full-step : (s : Hash) (byte : ℕ) (bytes : List ℕ) → s .taken % 64 < 63
     cleared (compressed (s .words) (words 16 (sets (s .tail) (s .taken % 64) (byte ∷ bytes)))) (s .taken + length (byte ∷ bytes))
 unfolding pushedAll
 full-step s byte bytes h e =
-    let at : (s .taken + 1) % 64 ≡ suc (s .taken % 64) = omega arith in
-    let all : s .taken + 1 + length bytes ≡ s .taken + suc (length bytes) = omega arith in
-    rw (pushed-within s byte h, e, at, all)
+    rw (pushed-within s byte h, e, next-place (s .taken) h, one-more (s .taken) (length bytes))
 
 pub pushedAll-full : (s : Hash) (bytes : List ℕ) → s .taken % 64 + length bytes ≡ 64
     → pushedAll s bytes ≡ cleared (compressed (s .words) (words 16 (sets (s .tail) (s .taken % 64) bytes))) (s .taken + length bytes)
@@ -99,6 +112,20 @@ pushedAll-beyond s bytes h =
     ap (pushedAll s) (sym (take-append-drop room bytes)) ∙
     pushedAll-append s (take room bytes) (drop room bytes) ∙
     ap (λ (t : Hash). pushedAll t (drop room bytes)) (pushedAll-full s (take room bytes) (omega arith) ∙ rw n)
+
+-- the room in the tail, and what goes on behind it
+pub room-le : (waiting more : ℕ) → 64 ≤ waiting + more → 64 - waiting ≤ more
+room-le waiting more h = omega arith
+
+pub room-fills : (taken : ℕ) → taken % 64 + (64 - taken % 64) ≤ 64
+room-fills taken = omega arith
+
+pub next-start : (taken : ℕ) → (taken + (64 - taken % 64)) % 64 ≡ 0
+next-start taken = omega arith
+
+pub rest-fits : (taken : ℕ) (l : List ℕ) → 64 ≤ taken % 64 + length l → taken + length l < 2 ^ 64
+    → taken + (64 - taken % 64) + length (take (length l - (64 - taken % 64)) (drop (64 - taken % 64) l)) < 2 ^ 64
+rest-fits taken l h all = rw (part-from, length-drop) (omega arith)
 
 -- ---- whole blocks, from the start of one
 

@@ -5,20 +5,25 @@ use native.Mathlib.Omega.{arith}
 use lib.ListN.{length}
 use lib.Seq.{length-take-le}
 use Rattle.sha256.proofs.Blocks.{part-from}
-use Rattle.sha256.proofs.Pushing.{pushedAll-beyond}
+use Rattle.sha256.proofs.Pushing.{room-le, room-fills, next-start, rest-fits, pushedAll-beyond}
 use borrow.Author.Needs.{needs}
 use Rattle.base.proofs.Copying.{written-sets}
 use Rattle.sha256.proofs.push.beyond.Statement.{statement}
 use Rattle.sha256.proofs.push.beyond.Tie as tie
 
 slice-aggregate-put-2 : tie.Need-slice-aggregate-put-2
-slice-aggregate-put-2 c = sym (length-take-le _ _ (omega arith))
+slice-aggregate-put-2 c = sym (length-take-le _ _ (room-le _ _ (c .before .before .before .before .before .pre .0)))
 
 put-requires : tie.Need-put-requires
 put-requires c κs =
     let entry = c .before .before .before .before .before in
     let n : length (entry .args .state .tail) ≡ 64 = search needs in
-    rw (length-take-le (64 - entry .args .state .taken % 64) (entry .args .bytes .now) (omega arith)) (omega arith)
+    rw (length-take-le _ (entry .args .bytes .now) (room-le _ _ (entry .pre .0)), n) (room-fills (entry .args .state .taken))
+
+aligned-requires : tie.Need-aligned-requires
+aligned-requires c κs =
+    let entry = c .before .before .before .before .before .before .before .before .before .before .before .before .before in
+    (next-start (entry .args .state .taken), rest-fits (entry .args .state .taken) (entry .args .bytes .now) (entry .pre .0) (entry .pre .1))
 
 returns : tie.Need-returns
 returns c =
@@ -39,4 +44,4 @@ beyond-spec =
     (tie.spec
     (λ c. search needs) (λ c. search needs) slice-aggregate-put-2 put-requires (λ c. search needs)
     (λ c κs. search needs) (λ c κs. search needs) (λ c. search needs) (λ c. search needs) (λ c. search needs)
-    (λ c. search needs) (λ c κs. search needs) returns)
+    (λ c. search needs) aligned-requires returns)
