@@ -145,6 +145,14 @@ def large(byte):
     return b"h" * 150000 + byte + b"h" * 50000
 
 
+APART = """seal long long.proof 3 2
+verify long long.proof
+verify long long.proof 3 2
+verify changed long.proof
+seal changed changed.proof 3 2
+chain long long.proof
+seal none x.proof 3
+weigh"""
 MEANWHILE = """> the room of a proof of three bytes, and the proof
 > the name is taken meanwhile
 > the temporary file is replaced meanwhile
@@ -171,8 +179,7 @@ def scenarios():
     text += "".join(run(folder, line) for line in files["scenarios"].decode().splitlines())
     text += "> a path of 256 bytes, and one of 4091\n> a clash\n" + clash(2, 5, 1, bytes([10] * 105), bytes([171] * 105))
     folder.files.update({"long": large(b"h"), "changed": large(b"H")})
-    apart = ["seal long long.proof 3 2", *files["apart"].decode().splitlines()]
-    text += "".join(run_apart(folder, line) for line in apart) + not_written(folder) + MEANWHILE
+    text += "".join(run_apart(folder, line) for line in APART.splitlines()) + not_written(folder) + MEANWHILE
     folder.folders.add("dark")
     text += run(folder, "seal report dark/x.proof 3 2") + run(folder, "verify report dark/x.proof")
     closed = "seal report closed.proof 3 2"

@@ -38,10 +38,6 @@ pub fn complain_of(fd: i32, path: &[u8], error: i32) {
     if error == libc::EPERM {
         return complain(fd, path, b"no permission");
     }
-    complain_of_name(fd, path, error)
-}
-
-fn complain_of_name(fd: i32, path: &[u8], error: i32) {
     if error == libc::EISDIR {
         return complain(fd, path, b"is a folder, not a file");
     }
@@ -51,13 +47,10 @@ fn complain_of_name(fd: i32, path: &[u8], error: i32) {
     if error == libc::ENAMETOOLONG {
         return complain(fd, path, b"the path is too long");
     }
-    if error == libc::ELOOP {
-        return complain(fd, path, b"too many links on the way");
-    }
-    complain_of_room(fd, path, error)
+    complain_of_disk(fd, path, error)
 }
 
-fn complain_of_room(fd: i32, path: &[u8], error: i32) {
+fn complain_of_disk(fd: i32, path: &[u8], error: i32) {
     if error == libc::ENOSPC {
         return complain(fd, path, b"no room on the disk");
     }
@@ -68,12 +61,11 @@ fn complain_of_room(fd: i32, path: &[u8], error: i32) {
             b"the file is too large for the disk or for its limit",
         );
     }
-    complain_of_disk(fd, path, error)
-}
-
-fn complain_of_disk(fd: i32, path: &[u8], error: i32) {
     if error == libc::EROFS {
         return complain(fd, path, b"the disk can only be read");
+    }
+    if error == libc::ELOOP {
+        return complain(fd, path, b"too many links on the way");
     }
     if error == libc::EMFILE {
         return complain(fd, path, b"too many open files");

@@ -6,7 +6,6 @@ mod streams; // streams.rt: answers apart from complaints, and closed descriptor
 ghost use mathlib.Core.Path.{_≡_};
 ghost use Prim.Native.Nat.{_≤_};
 ghost use lib.ListN.{length};
-use streams::run_apart;
 
 pub fn say(bytes: &[u8]) {
     io::write_all(1, bytes);
@@ -70,28 +69,23 @@ fn line_end(text: &[u8], from: usize) -> usize
     i
 }
 
-// A scenario with one descriptor, or with two files that are shown.
-fn run_line(words: &[u8], apart: bool) {
-    if apart { run_apart(words) } else { run(words) }
-}
-
 // Each line of a text is a scenario.
-fn run_lines(text: &[u8], apart: bool) {
+fn run_lines(text: &[u8]) {
     let mut at: usize = 0;
     while at < text.len() {
         let end = line_end(text, at);
-        run_line(&text[at..end], apart);
+        run(&text[at..end]);
         at = end + 1;
     }
 }
 
-// The scenarios of a file.
-pub fn run_file(name: &[u8], apart: bool) {
+// The scenarios of the file of that name.
+fn run_file() {
     let mut text = io::buffer();
-    let fd = os::open_read(name);
+    let fd = os::open_read(b"scenarios");
     let size = io::read_full(fd, &mut text);
     libc::close(fd);
-    run_lines(&text[..size], apart);
+    run_lines(&text[..size]);
 }
 
 // Seals a report of a long path.
@@ -149,12 +143,11 @@ fn main() {
     surplus();
     say(b"> mastdock\n");
     commands::command(b"", 1, 1);
-    run_file(b"scenarios", false);
+    run_file();
     long_paths();
     clash();
     streams::apart();
     streams::not_written();
     meanwhile::all();
-    streams::error_closed();
-    streams::both_closed();
+    streams::closed();
 }

@@ -64,9 +64,6 @@ fn replaced() {
         b"moved.proof.part",
         b"moved.proof.kept",
     );
-}
-
-fn replaced_alike() {
     say(b"> the same by a file of the same bytes\n");
     replace(
         b"abc",
@@ -95,13 +92,10 @@ fn device(path: &[u8], proof: &[u8]) {
     show(proof);
 }
 
-fn no_room() {
+fn devices() {
     say(b"> a disk with no room\n");
     device(b"/dev/full", b"full.proof");
     show(b"full.proof.kept");
-}
-
-fn not_synced() {
     say(b"> a disk that cannot be synced\n");
     device(b"/dev/null", b"null.proof");
     show(b"null.proof.kept");
@@ -122,9 +116,7 @@ pub fn all() {
     room();
     taken();
     replaced();
-    replaced_alike();
     not_renamed();
-    no_room();
-    not_synced();
+    devices();
     folder();
 }

@@ -1,12 +1,18 @@
 // Answers apart from complaints, large reports, and closed standard descriptors.
 use crate::make;
 use crate::run;
-use crate::run_file;
 use crate::run_on;
 use crate::say;
 
-// At most 4,096 bytes of an open file, which is closed.
-fn show_bytes(fd: i32) {
+// What a file has, at most 4,096 bytes of it.
+pub fn show(name: &[u8]) {
+    say(name);
+    say(b": ");
+    let fd = os::open_read(name);
+    if fd < 0 {
+        say(b"not there\n");
+        return;
+    }
     let mut place = io::buffer();
     let size = io::read_full(fd, &mut place);
     libc::close(fd);
@@ -14,19 +20,8 @@ fn show_bytes(fd: i32) {
     say(b"\n");
 }
 
-// What a file has.
-pub fn show(name: &[u8]) {
-    say(name);
-    say(b": ");
-    let fd = os::open_read(name);
-    if fd < 0 {
-        return say(b"not there\n");
-    }
-    show_bytes(fd)
-}
-
 // A scenario whose standard output and standard error are two files, shown one after the other.
-pub fn run_apart(words: &[u8]) {
+fn run_apart(words: &[u8]) {
     let out = os::create(b"out");
     let err = os::create(b"err");
     run_on(words, out, err);
@@ -60,7 +55,13 @@ pub fn apart() {
     make_large(b"changed", b"H");
     run_apart(b"seal long long.proof 3 2");
     show(b"long.proof.part");
-    run_file(b"apart", true);
+    run_apart(b"verify long long.proof");
+    run_apart(b"verify long long.proof 3 2");
+    run_apart(b"verify changed long.proof");
+    run_apart(b"seal changed changed.proof 3 2");
+    run_apart(b"chain long long.proof");
+    run_apart(b"seal none x.proof 3");
+    run_apart(b"weigh");
 }
 
 // A verdict, a chain and the facts of a seal to a descriptor that can only be read.
@@ -83,16 +84,12 @@ fn opened() {
     libc::close(fd);
 }
 
-// Standard error closed while sealing.
-pub fn error_closed() {
+// Standard error closed while sealing, and standard input and error before a file is opened.
+pub fn closed() {
     say(b"> standard error is closed\n");
     libc::close(2);
     run_on(b"seal report closed.proof 3 2", 1, 2);
     run(b"verify report closed.proof");
-}
-
-// Standard input and error closed before a file is opened.
-pub fn both_closed() {
     say(b"> standard input and standard error are closed\n");
     libc::close(0);
     libc::close(2);

@@ -6,10 +6,10 @@ use Rattle.mastdock_scenarios.proofs.run_lines.Statement.{statement}
 use Rattle.mastdock_scenarios.proofs.run_lines.Tie as tie
 
 abbrev Inv-loop : tie.InvT-loop
-Inv-loop text apart at₀ at = at ≤ length text + 1
+Inv-loop text at₀ at = at ≤ length text + 1
 
 abbrev μ-loop : tie.MeasureT-loop
-μ-loop text apart at₀ at = length text + 1 - at
+μ-loop text at₀ at = length text + 1 - at
 
 pub run-lines-spec : {M : Type 1} → statement M
 run-lines-spec =
