@@ -4,7 +4,7 @@ use mathlib.Core.Logic.{inl}
 use mathlib.Core.Bool.{Bool, true, false}
 use mathlib.Core.List.{List, [], _∷_, _++_, append-assoc, append-nil}
 use Prim.Native.Nat.{ℕ, suc, _+_, _-_, _*_, _/_, _%_, _^_, _≤_, _<_}
-use native.Mathlib.Nat.{mul-suc, suc-mul, mul-le-mul-left, mul-le-mul-right}
+use native.Mathlib.Nat.{mul-suc, suc-mul, mul-le-mul, mul-le-mul-left, mul-le-mul-right}
 use native.Mathlib.Numerals.{add-one}
 use native.Mathlib.Omega.{arith}
 use borrow.Author.Count.{below-more}
@@ -26,7 +26,7 @@ use Rattle.tree.proofs.Clash.{children-known}
 use Rattle.label.specs.Rule.{stampRule}
 use Rattle.opening_check.specs.OpeningCheck.{givenBy}
 use Rattle.base.proofs.Parts.{part-size, part-length}
-use Rattle.compare.specs.Table.{partOf, RowOf, TableOf, rowSize, tableSize}
+use Rattle.compare.specs.Table.{Sized, partOf, RowOf, TableOf, rowSize, tableSize}
 
 -- ---- parts of one width
 below : (width k i : ℕ) → k < i → width * k + width ≤ width * i
@@ -130,6 +130,21 @@ lent-back bytes part at size e =
 
 pub opening-fits : (n i t : ℕ) → i < t → i * openingSize n + openingSize n ≤ t * openingSize n
 opening-fits n i t h = rw (← suc-mul i (openingSize n)) (mul-le-mul-right {m = suc i} {n = t} (openingSize n) h)
+
+-- row i and opening i lie within the table and the openings, which are not too long
+pub record Lies (n i : ℕ) (openings : List ℕ) : Type 0 where
+  pub row : rowSize * i + rowSize ≤ tableSize
+  pub opening : i * openingSize n + openingSize n ≤ length openings
+  pub most : length openings ≤ maxChallenges * openingSize maxDepth
+
+pub lies : (n i : ℕ) (leaves openings : List ℕ) → Sized n leaves openings → i < length leaves → Lies n i openings
+lies n i leaves openings z h =
+    let size : openingSize n ≤ openingSize maxDepth = omega (arith, z .most) in
+    record {
+      row = omega (arith, z .few);
+      opening = rw (z .whole) (opening-fits n i (length leaves) h);
+      most = rw (z .whole) (mul-le-mul (z .few) size);
+    }
 
 pub table-more :
     (edition : ℕ) (statement : List ℕ) (n : ℕ) (leaves openings first table row after : List ℕ) (i : ℕ) → i < maxChallenges

@@ -5,9 +5,11 @@ use lib.ListN.{length}
 use Rattle.base.proofs.Parts.{part-size, part-length}
 use Rattle.tree.specs.Openings.{openingSize}
 use Rattle.compare.specs.Table.{TableOf, rowSize, tableSize}
-use Rattle.compare.proofs.Filling.{opening-fits, lent-back, table-more}
+use Rattle.compare.proofs.Filling.{Lies, lies, lent-back, table-more}
 use borrow.Author.Needs.{needs}
+use native.Mathlib.Nat.{le-trans, le-add-right, lt-of-lt-of-le}
 use native.Mathlib.Omega.{arith}
+use mir.Facts.{fits-le, fits-lit}
 use Rattle.compare.proofs.table.fill_table.Statement.{statement}
 use Rattle.compare.proofs.table.fill_table.Tie as tie
 
@@ -27,45 +29,27 @@ mul-size c = omega (arith, c .before .before .before .pre .0 .most)
 loop-holds : tie.Need-loop-holds Inv-loop μ-loop
 loop-holds c = (omega arith, c .before .before .before .pre .1, record { rows = λ i small. absurd (omega arith); kept = refl })
 
--- this turn's row and opening lie within the table and the openings
 within : (c : tie.In-loop Inv-loop μ-loop)
-    → (rowSize * c .before .loop .i + rowSize ≤ tableSize) ×
-    (c .before .loop .i * openingSize (c .before .before .before .before .before .args .n)
-    + openingSize (c .before .before .before .before .before .args .n) ≤ length
-    (c .before .before .before .before .before .args .openings .now))
-within c =
-    let s = c .before .before .before .before .before in (
-      omega (arith, s .pre .0 .few, c .loop-test .taken),
-      omega (
-        arith,
-        opening-fits (s .args .n) (c .before .loop .i) (length (s .args .leaves .now)) (c .loop-test .taken),
-        s .pre .0 .whole,
-      ),
-    )
+    → Lies (c .before .before .before .before .before .args .n) (c .before .loop .i) (c .before .before .before .before .before .args .openings .now)
+within c = lies _ _ _ _ (c .before .before .before .before .before .pre .0) (c .loop-test .taken)
 
 mul-at : tie.Need-mul-at Inv-loop μ-loop
-mul-at c = omega (arith, within c)
+mul-at c = fits-le (le-trans (le-add-right _ _) (within c .row)) (fits-lit tt)
 
 add-end : tie.Need-add-end Inv-loop μ-loop
-add-end c = omega (arith, within c)
+add-end c = fits-le (within c .row) (fits-lit tt)
 
 mul-from : tie.Need-mul-from Inv-loop μ-loop
-mul-from c = omega (arith, within c)
+mul-from c = fits-le (le-trans (le-add-right _ _) (le-trans (within c .opening) (within c .most))) (fits-lit tt)
 
 add-to : tie.Need-add-to Inv-loop μ-loop
-add-to c = omega (arith, within c)
-
-part-fill-row-start : tie.Need-part-fill-row-start Inv-loop μ-loop
-part-fill-row-start c = omega (arith, within c)
+add-to c = fits-le (le-trans (within c .opening) (within c .most)) (fits-lit tt)
 
 part-fill-row-end : tie.Need-part-fill-row-end Inv-loop μ-loop
-part-fill-row-end c = omega (arith, within c)
-
-part-fill-row-start-2 : tie.Need-part-fill-row-start-2 Inv-loop μ-loop
-part-fill-row-start-2 c = omega (arith, within (c .before .before))
+part-fill-row-end c = rw (c .before .loop .inv .1) (within c .row)
 
 part-fill-row-end-2 : tie.Need-part-fill-row-end-2 Inv-loop μ-loop
-part-fill-row-end-2 c = omega (arith, within (c .before .before))
+part-fill-row-end-2 c = within (c .before .before) .opening
 
 fill-row-requires : tie.Need-fill-row-requires Inv-loop μ-loop
 fill-row-requires c κs =
@@ -76,20 +60,22 @@ fill-row-requires c κs =
     let size = openingSize (a .n) in
     let room = within (c .before .before .before) in (
       entry .pre .0 .most,
-      ap length (part-size (a .openings .now) (i * size) size) ∙ part-length (a .openings .now) (i * size) size (room .1),
+      ap length (part-size (a .openings .now) (i * size) size) ∙ part-length (a .openings .now) (i * size) size (room .opening),
       ap length (part-size (loop .table) (rowSize * i) rowSize)
-          ∙ part-length (loop .table) (rowSize * i) rowSize (omega (arith, room .0)),
+          ∙ part-length (loop .table) (rowSize * i) rowSize (rw (loop .inv .1) (room .row)),
     )
 
 loop-again : tie.Need-loop-again Inv-loop μ-loop
 loop-again c =
-    let a = c .before .before .before .before .before .before .before .before .before .before .before .args in
-    let l = c .before .before .before .before .before .before .before .loop in
+    let turn = c .before .before .before .before .before .before in
+    let entry = turn .before .before .before .before .before in
+    let a = entry .args in
+    let l = turn .before .loop in
     let row = c .before .before .fill-row in (
       omega arith,
       search needs,
       table-more (a .edition) (a .statement) (a .n) (a .leaves .now) (a .openings .now) (a .table .now) (l .table) (row .last .0) _ (l .i)
-          (omega (arith, within (c .before .before .before .before .before .before) .0)) (l .inv .1) (search needs) (l .inv .2)
+          (lt-of-lt-of-le (turn .loop-test .taken) (entry .pre .0 .few)) (l .inv .1) (search needs) (l .inv .2)
           (row .ensures) (lent-back (l .table) (row .last .0) (rowSize * l .i) rowSize (search needs)),
     )
 
@@ -102,6 +88,6 @@ pub fill-table-spec : {M : Type 1} → statement M
 fill-table-spec =
     tie.close
     (tie.spec
-    Inv-loop μ-loop add-size mul-size loop-holds mul-at add-end mul-from add-to (λ c. search needs) part-fill-row-start
-    part-fill-row-end (λ c. search needs) (λ c. search needs) (λ c. search needs) part-fill-row-start-2
+    Inv-loop μ-loop add-size mul-size loop-holds mul-at add-end mul-from add-to (λ c. le-add-right _ _) (λ c. le-add-right _ _)
+    part-fill-row-end (λ c. search needs) (λ c. search needs) (λ c. le-add-right _ _) (λ c. le-add-right _ _)
     part-fill-row-end-2 fill-row-requires (λ c. search needs) (λ c. search needs) loop-again (λ c. search needs) returns)
