@@ -38,7 +38,7 @@ module _ (input : List ℕ) (len : ℕ) (small : len ≤ maxLabelInput) (front :
       ∙ padded-front (take len input) len len (inputSpace - len) n refl (omega arith)
       ∙ ap (λ (k : ℕ). take len input ++ padding k) (sym n)
 
-  hashed-front : digestOf (hashAfter initial wholeBlocks (blocks wholeBlocks)) ≡ digest (take len input)
+  pub hashed-front : digestOf (hashAfter initial wholeBlocks (blocks wholeBlocks)) ≡ digest (take len input)
   unfolding digest
   hashed-front = rw padded-buffer
 
@@ -59,7 +59,7 @@ module _ (input : List ℕ) (len : ℕ) (small : len ≤ maxLabelInput) (front :
       ∙ drop-zeros (inputSpace - len) (paddedSize len - len) (omega arith)
       ∙ ap zeros rest
 
-  laid-padded : laid ≡ paddedIn inputSpace (take len input)
+  pub laid-padded : laid ≡ paddedIn inputSpace (take len input)
   laid-padded =
       let marked : length (written input len (128 ∷ [])) ≡ inputSpace =
       length-written input len (128 ∷ []) (omega (arith, length-front)) ∙ length-front in

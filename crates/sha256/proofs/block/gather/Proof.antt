@@ -1,4 +1,5 @@
 -- `sha256::block::gather` meets its contract. Each word is read where `words-sixteen` says that it lies.
+use mathlib.Core.Path.{sym, _∙_}
 use mathlib.Core.List.{[], _∷_}
 use native.Mathlib.Nat.{le-trans}
 use lib.Dec.{lit≤}
@@ -27,7 +28,6 @@ returns c =
     let w3 = w4 .before in
     let w2 = w3 .before in
     let w1 = w2 .before in
-    words-sixteen _
     (λ i.
     w1 .word-at .ensures i ∷
     w2 .word-at2 .ensures i ∷
@@ -45,7 +45,8 @@ returns c =
     w14 .word-at14 .ensures i ∷
     w15 .word-at15 .ensures i ∷
     c .word-at16 .ensures i ∷
-    [])
+    []) ∙
+    sym (words-sixteen _)
 
 pub gather-spec : {M : Type 1} → statement M
 gather-spec =
