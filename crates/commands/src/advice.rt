@@ -16,37 +16,23 @@ pub fn advise(problem: Problem, err: i32) {
     match problem {
         Problem::NoWord => usage(err),
         Problem::UnknownWord => usage(err),
-        Problem::Missing => show_usage(b"too few words", err),
-        Problem::Surplus => show_usage(b"too many words", err),
-        Problem::NoPath => mend_path(b"an empty name", err),
-        Problem::LongPath => mend_path(b"the path is too long (at most 4090 bytes)", err),
-        _ => mend_number(problem, err),
-    }
-}
-
-fn show_usage(what: &[u8], err: i32) {
-    complain(err, what, b"'mastdock' alone shows the usage")
-}
-
-fn mend_path(what: &[u8], err: i32) {
-    complain(err, b"REPORT or PROOF", what)
-}
-
-// The same for a number that is wrong.
-fn mend_number(problem: Problem, err: i32) {
-    match problem {
+        Problem::Missing => complain(err, b"too few words", b"'mastdock' alone shows the usage"),
+        Problem::Surplus => complain(err, b"too many words", b"'mastdock' alone shows the usage"),
+        Problem::NoPath => complain(err, b"REPORT or PROOF", b"an empty name"),
+        Problem::LongPath => complain(
+            err,
+            b"REPORT or PROOF",
+            b"the path is too long (at most 4090 bytes)",
+        ),
         Problem::Depth => complain(err, b"DEPTH", b"must be a number from 1 to 40"),
         Problem::Challenges => complain(err, b"CHALLENGES", b"must be a number from 1 to 200"),
-        Problem::Memory => mend_memory(b"must be a number from 0 to DEPTH", err),
-        _ => mend_memory(
-            b"at most 14: the program's own store holds levels 0 to 14",
+        Problem::Memory => complain(err, b"MEMORY", b"must be a number from 0 to DEPTH"),
+        Problem::Store => complain(
             err,
+            b"MEMORY",
+            b"at most 14: the program's own store holds levels 0 to 14",
         ),
     }
-}
-
-fn mend_memory(what: &[u8], err: i32) {
-    complain(err, b"MEMORY", what)
 }
 
 // An empty report can be sealed; prints one line that it is empty, and none for another.

@@ -2,7 +2,9 @@
 ghost use mathlib.Core.Path.{_≡_};
 ghost use lib.ListN.{length};
 ghost use Rattle.base.specs.Limits.{edition};
+ghost use Rattle.base.specs.Bytes.{zeros};
 ghost use Rattle.refusal.specs.Number.{outcomeNumber};
+ghost use Rattle.compare.specs.declared.Pair.the-variants.{Agree};
 ghost use Rattle.compare.specs.Comparison.{compareRow, compared, firstDisagreement, firstInput, secondInput};
 use crate::Compared;
 use crate::Pair;
@@ -34,6 +36,20 @@ fn check(depth: u64, leaves: &[u64], size: usize) -> Outcome
     Outcome::Done
 }
 
+// No pair, and inputs that are all zero.
+fn no_pair(outcome: Outcome) -> Compared
+    ensures { λ r. ⌜ r ≡ record { outcome = outcome; pair = Agree; first = zeros 105; second = zeros 105 } ⌝ }
+{
+    let first = [0u8; 105];
+    let second = [0u8; 105];
+    Compared {
+        outcome,
+        pair: Pair::Agree,
+        first,
+        second,
+    }
+}
+
 // The comparison of openings that passed the checks.
 fn compare_all(
     edition: u64,
@@ -56,16 +72,7 @@ fn compare_all(
     fill_table(&mut table, edition, statement, depth, leaves, openings);
     let pair = first_pair(depth, leaves, &table);
     match pair {
-        Pair::Agree => {
-            let first = [0u8; 105];
-            let second = [0u8; 105];
-            Compared {
-                outcome: Outcome::Done,
-                pair: Pair::Agree,
-                first,
-                second,
-            }
-        }
+        Pair::Agree => no_pair(Outcome::Done),
         Pair::Disagree(i, j, level) => {
             let first = input_at(edition, statement, depth, leaves, &table, i, level);
             let second = input_at(edition, statement, depth, leaves, &table, j, level);
@@ -92,16 +99,7 @@ pub fn compare(statement: [u8; 32], depth: u64, leaves: &[u64], openings: &[u8])
 {
     let checked = check(depth, leaves, openings.len());
     match checked {
-        Outcome::Refused(why) => {
-            let first = [0u8; 105];
-            let second = [0u8; 105];
-            Compared {
-                outcome: Outcome::Refused(why),
-                pair: Pair::Agree,
-                first,
-                second,
-            }
-        }
+        Outcome::Refused(why) => no_pair(Outcome::Refused(why)),
         Outcome::Done => compare_all(EDITION, statement, depth, leaves, openings),
     }
 }

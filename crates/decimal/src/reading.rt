@@ -26,50 +26,32 @@ pub struct Numbers {
     pub count: usize,
 }
 
+fn after_byte(good: bool, digit: bool, value: u64) -> Stepped
+    ensures { λ r. ⌜ r ≡ record { good = good; digit = digit; value = value } ⌝ }
+{
+    Stepped { good, digit, value }
+}
+
 fn step(byte: u64, value: u64) -> Stepped
     ensures { λ r. ⌜ Step byte value (r .good) (r .digit) (r .value) ⌝ }
 {
     if byte == 32 {
-        return Stepped {
-            good: true,
-            digit: false,
-            value: 0,
-        };
+        return after_byte(true, false, 0);
     }
     if byte == 10 {
-        return Stepped {
-            good: true,
-            digit: false,
-            value: 0,
-        };
+        return after_byte(true, false, 0);
     }
     if byte < 48 {
-        return Stepped {
-            good: false,
-            digit: false,
-            value: 0,
-        };
+        return after_byte(false, false, 0);
     }
     if 57 < byte {
-        return Stepped {
-            good: false,
-            digit: false,
-            value: 0,
-        };
+        return after_byte(false, false, 0);
     }
     let digit = byte - 48;
     if (18446744073709551615 - digit) / 10 < value {
-        return Stepped {
-            good: false,
-            digit: true,
-            value: 0,
-        };
+        return after_byte(false, true, 0);
     }
-    Stepped {
-        good: true,
-        digit: true,
-        value: 10 * value + digit,
-    }
+    after_byte(true, true, 10 * value + digit)
 }
 
 // Whether each byte can be read and each number fits.

@@ -12,13 +12,14 @@ compare-all-requires c κs = is-done _ _ (c .before .before .check .ensures) (c 
 
 returns : tie.Need-returns
 returns c =
-    let s = c .before .before .before .before .before .before in
+    let known = c .before .before in
+    let s = known .before .before .before .before .before in
     let n = s .args .depth in
     let leaves = s .args .leaves .now in
     let openings = s .args .openings .now in
-    let row = refused-number _ _ _ (c .before .before .before .check .ensures) (c .before .checked .given .1) in
-    let e = compared-refused edition (s .args .statement) n leaves openings (not-done (c .before .checked .given .0 .0) _ row) in
-    (row, (sym e, (rw e, rw e)))
+    let row = refused-number _ _ _ (known .before .before .check .ensures) (known .checked .given .1) in
+    let e = compared-refused edition (s .args .statement) n leaves openings (not-done (known .checked .given .0 .0) _ row) in
+    rw (c .no-pair .ensures) (row, (sym e, (rw e, rw e)))
 
 returns-2 : tie.Need-returns-2
 returns-2 c =
@@ -35,4 +36,4 @@ pub compare-spec : {M : Type 1} → statement M
 compare-spec =
     tie.close
     (tie.spec
-    (λ c κs. search needs) (λ c. search needs) (λ c. search needs) compare-all-requires returns returns-2)
+    (λ c κs. search needs) (λ c. search needs) (λ c κs. tt) (λ c. search needs) compare-all-requires returns returns-2)

@@ -47,17 +47,19 @@ input-at-requires-2 c κs =
 
 returns : tie.Need-returns
 returns c =
-    let fill-table = c .before .before .before .before .before .fill-table in
-    let s = c .before .before .before .before .before .before .before .before .before .before in
+    let told = c .before in
+    let fill-table = told .before .before .before .before .before .fill-table in
+    let s = told .before .before .before .before .before .before .before .before .before .before in
     let n = s .args .depth in
     let leaves = s .args .leaves .now in
     let openings = s .args .openings .now in
     let table = fill-table .last .0 in
-    let z = sized n leaves openings (s .pre) in (
+    let z = sized n leaves openings (s .pre) in
+    rw (c .no-pair .ensures) (
       refl,
       agree-answers (s .args .edition) (s .args .statement) n leaves openings _ table z (search needs)
           (fill-table .ensures)
-          (sym (c .before .before .first-pair .ensures) ∙ c .enum-told .given .1),
+          (sym (told .before .before .first-pair .ensures) ∙ told .enum-told .given .1),
     )
 
 returns-2 : tie.Need-returns-2
@@ -81,5 +83,5 @@ compare-all-spec =
     tie.close
     (tie.spec
     (λ c κs. search needs) (λ c. search needs) fill-table-requires (λ c. search needs) first-pair-requires
-    (λ c. search needs) (λ c. search needs) (λ c. search needs) input-at-requires (λ c. search needs)
+    (λ c. search needs) (λ c κs. tt) (λ c. search needs) (λ c. search needs) input-at-requires (λ c. search needs)
     input-at-requires-2 returns returns-2)
