@@ -15,7 +15,7 @@ use Rattle.base.specs.Bytes.{bigEndian, zeros, written}
 use Rattle.base.proofs.BytesLaws.{length-bigEndian}
 use Rattle.base.proofs.Zeros.{filled-more}
 use Rattle.refusal.specs.Row.{outside}
-use Rattle.sha256.specs.declared.Words.{Words}
+use Rattle.compression.specs.declared.Words.{Words}
 use Rattle.sha256.specs.Digest.{digestOf, digest}
 use Rattle.sha256.specs.Portions.{newHash, digestAnswer}
 use Rattle.challenges.specs.Challenge.{challengeWord, challengeInput, bigEndianValue, challengeLeaf, challengeRow, challenged}

@@ -4,7 +4,7 @@ use Prim.Native.Nat.{ℕ, _+_, _-_, _^_, _≤_, _<_}
 use native.Mathlib.Omega.{arith}
 use mathlib.Core.List.{List}
 use lib.Pow.{shr-lt}
-use Rattle.sha256.specs.declared.Words.{Words}
+use Rattle.compression.specs.declared.Words.{Words}
 use Rattle.sha256.specs.Digest.{digestOf, digest}
 use Rattle.sha256.proofs.Digests.{digest-length}
 use Rattle.challenges.specs.Challenge.{challengeInput, bigEndianValue, challengeLeaf}

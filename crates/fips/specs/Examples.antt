@@ -4,7 +4,9 @@ use Prim.Native.Nat.{ℕ}
 use mathlib.Core.List.{List, [], _∷_}
 use Rattle.sha256.specs.Padding.{padding, padded, words}
 use Rattle.base.specs.Bytes.{bigEndian}
-use Rattle.sha256.specs.Compression.{scheduled, extended, schedule, round, rounds, compressed}
+use Rattle.compression.specs.declared.Words.{Words}
+use Rattle.compression.specs.Constants.{initial}
+use Rattle.compression.specs.Compression.{scheduled, extended, schedule, round, rounds, compressed}
 use Rattle.sha256.specs.Digest.{hashAfter, digestOf, digest}
 
 -- the empty message
@@ -22,6 +24,30 @@ pub abc :
     0x03 ∷ 0x61 ∷ 0xa3 ∷ 0x96 ∷ 0x17 ∷ 0x7a ∷ 0x9c ∷ 0xb4 ∷ 0x10 ∷ 0xff ∷ 0x61 ∷ 0xf2 ∷ 0x00 ∷ 0x15 ∷ 0xad ∷ []
 unfolding bigEndian padding padded words scheduled extended schedule round rounds compressed hashAfter digestOf digest
 abc = refl
+
+-- where bytes become words (5.2.1): the sixteen words of the same message, padded
+abbrev pub abcBlock : List ℕ
+abcBlock = 0x61626380 ∷ 0 ∷ 0 ∷ 0 ∷ 0 ∷ 0 ∷ 0 ∷ 0 ∷ 0 ∷ 0 ∷ 0 ∷ 0 ∷ 0 ∷ 0 ∷ 0 ∷ 0x00000018 ∷ []
+
+pub abcParsed : words 16 (padded (97 ∷ 98 ∷ 99 ∷ [])) ≡ abcBlock
+unfolding bigEndian padding padded words
+abcParsed = refl
+
+-- what those sixteen and the initial hash value alone give (6.2.2)
+pub abcCompressed :
+    compressed initial abcBlock
+    ≡ record {
+      a = 0xba7816bf;
+      b = 0x8f01cfea;
+      c = 0x414140de;
+      d = 0x5dae2223;
+      e = 0xb00361a3;
+      f = 0x96177a9c;
+      g = 0xb410ff61;
+      h = 0xf20015ad;
+    }
+unfolding scheduled extended schedule round rounds compressed
+abcCompressed = refl
 
 -- the 448-bit message, two blocks
 pub twoBlocks :

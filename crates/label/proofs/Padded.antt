@@ -12,7 +12,7 @@ use Rattle.base.proofs.Copying.{length-written}
 use Rattle.base.proofs.WrittenLaws.{drop-written}
 use Rattle.base.proofs.Zeros.{drop-zeros}
 use Rattle.sha256.specs.Padding.{padding, padded, blocks, blocksOf}
-use Rattle.sha256.specs.Constants.{initial}
+use Rattle.compression.specs.Constants.{initial}
 use Rattle.sha256.specs.Digest.{hashAfter, digestOf, digest}
 use Rattle.sha256.proofs.Padded.{paddedSize, padded-front}
 use Rattle.label.specs.Buffer.{paddedIn, inputSpace}

@@ -6,9 +6,9 @@ use native.Mathlib.Numerals.{add-one}
 use native.Mathlib.Omega.{arith}
 use lib.ListN.{length, take, drop, length-drop, take-append-drop, List·getD-append}
 use lib.Seq.{take-all, drop-append-le, length-take-le}
-use Rattle.sha256.specs.declared.Words.{Words}
+use Rattle.compression.specs.declared.Words.{Words}
 use Rattle.sha256.specs.Padding.{words}
-use Rattle.sha256.specs.Compression.{compressed}
+use Rattle.compression.specs.Compression.{compressed}
 use Rattle.sha256.specs.Digest.{block, hashAfter}
 
 words-append : (k : ℕ) (p q : List ℕ) → 4 * k ≤ length p → words k (p ++ q) ≡ words k p

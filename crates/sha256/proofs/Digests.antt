@@ -7,8 +7,8 @@ use native.Mathlib.Omega.{arith}
 use lib.ListN.{length, take, length-append, length-replicate}
 use lib.Seq.{take-all}
 use Rattle.sha256.specs.declared.Hash.{Hash}
-use Rattle.sha256.specs.declared.Words.{Words}
-use Rattle.sha256.specs.Constants.{initial}
+use Rattle.compression.specs.declared.Words.{Words}
+use Rattle.compression.specs.Constants.{initial}
 use Rattle.base.specs.Bytes.{bigEndian}
 use Rattle.base.proofs.BytesLaws.{length-bigEndian}
 use Rattle.sha256.specs.Padding.{zeroBytes, padding, padded, blocks}

@@ -1,5 +1,3 @@
-pub mod Bitwise
-pub mod Rounds
 pub mod Gather
 pub mod Blocks
 pub mod Pushing

@@ -10,10 +10,10 @@ use lib.Arith.{digits-mod}
 use lib.Dec.{eqb}
 use lib.ListN.{length, take, drop, set, replicate, length-append, length-drop, take-append-drop}
 use lib.Seq.{sets, sets-eq, length-take-le, drop-length, take-add, take-all, take-append-add, drop-append-add}
-use Rattle.sha256.specs.declared.Words.{Words}
+use Rattle.compression.specs.declared.Words.{Words}
 use Rattle.sha256.specs.declared.Hash.{Hash}
 use Rattle.sha256.specs.Padding.{blocks, words}
-use Rattle.sha256.specs.Compression.{compressed}
+use Rattle.compression.specs.Compression.{compressed}
 use Rattle.sha256.specs.Digest.{block, hashAfter}
 use Rattle.base.specs.Choice.{pick}
 use Rattle.sha256.specs.Portions.{cleared, pushed, pushedAll}

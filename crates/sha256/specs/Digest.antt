@@ -3,10 +3,10 @@ use Prim.Native.Nat.{ℕ, zero, suc, _*_}
 use mathlib.Core.List.{List, _++_}
 use lib.ListN.{drop}
 use Rattle.base.specs.Bytes.{bigEndian}
-use Rattle.sha256.specs.declared.Words.{Words}
-use Rattle.sha256.specs.Constants.{initial}
+use Rattle.compression.specs.declared.Words.{Words}
+use Rattle.compression.specs.Constants.{initial}
 use Rattle.sha256.specs.Padding.{padded, blocks, words}
-use Rattle.sha256.specs.Compression.{compressed}
+use Rattle.compression.specs.Compression.{compressed}
 
 -- the sixteen words of block i, from 0 (5.2.1)
 abbrev pub block : List ℕ → ℕ → List ℕ

@@ -9,11 +9,11 @@ use Rattle.base.specs.Choice.{pick}
 use Rattle.base.specs.Bytes.{zeros}
 use Rattle.base.specs.Limits.{maxHashed}
 use Rattle.refusal.specs.Row.{firstOf}
-use Rattle.sha256.specs.declared.Words.{Words}
+use Rattle.compression.specs.declared.Words.{Words}
 use Rattle.sha256.specs.declared.Hash.{Hash}
-use Rattle.sha256.specs.Constants.{initial}
+use Rattle.compression.specs.Constants.{initial}
 use Rattle.sha256.specs.Padding.{padding, words}
-use Rattle.sha256.specs.Compression.{compressed}
+use Rattle.compression.specs.Compression.{compressed}
 use Rattle.sha256.specs.Digest.{digestOf, digest}
 
 -- a state whose tail is empty

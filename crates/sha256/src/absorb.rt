@@ -2,9 +2,9 @@
 ghost use mathlib.Core.Path.{_≡_};
 ghost use Rattle.sha256.specs.Padding.{blocks};
 ghost use Rattle.sha256.specs.Digest.{hashAfter};
-use crate::Words;
-use crate::block::gather;
-use crate::compress::compress;
+use crate::parse::gather;
+use compression::Words;
+use compression::compress;
 
 pub fn absorb(start: Words, bytes: &[u8]) -> Words
     ensures { λ r. ⌜ r ≡ hashAfter start (now (bytes .entry)) (blocks (now (bytes .entry))) ⌝ }

@@ -7,9 +7,9 @@ ghost use Rattle.base.specs.Bytes.{bigEndian};
 ghost use Rattle.sha256.specs.Padding.{padding, blocksOf};
 ghost use Rattle.sha256.specs.Digest.{digestOf};
 ghost use Rattle.base.specs.Limits.{maxHashed};
-use crate::Words;
 use base::big_endian;
 use base::put;
+use compression::Words;
 
 // The four bytes of a word, highest first.
 struct FourBytes {

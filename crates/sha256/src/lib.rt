@@ -1,22 +1,22 @@
 // SHA-256 (FIPS 180-4): in portions, in one call, and of bytes that are padded already.
 mod absorb; // absorb.rt: whole blocks, straight from a slice
-mod bits; // bits.rt: the operations on words of sections 3.2 and 4.1.2
-mod block; // block.rt: a block's sixteen words, and the message schedule
-mod compress; // compress.rt: rounds, and the compression of a block
 mod encode; // encode.rt: numbers as bytes, and the padding
+mod parse; // parse.rt: the sixteen words of a block
 mod push; // push.rt: bytes pushed into a state
 
 ghost use Prim.Native.Nat.{_+_};
 ghost use mathlib.Core.Path.{_≡_};
 ghost use lib.Dec.{leb};
 ghost use lib.ListN.{length};
-ghost use Rattle.sha256.specs.Constants.{initial};
+ghost use Rattle.compression.specs.Constants.{initial};
 ghost use Rattle.sha256.specs.Padding.{blocks};
 ghost use Rattle.sha256.specs.Digest.{hashAfter, digestOf};
 ghost use Rattle.base.specs.Limits.{maxHashed};
 ghost use Rattle.refusal.specs.Number.{outcomeNumber};
 ghost use Rattle.sha256.specs.Portions.{newHash, updateRow, updateState, finishRow, finishDigest, finishState, digestRow, digestAnswer};
 use absorb::absorb;
+use compression::INITIAL;
+use compression::Words;
 pub use encode::block_count;
 use encode::digest_bytes;
 use push::aligned;
@@ -24,19 +24,6 @@ use push::closed;
 use push::pushed;
 use refusal::Outcome;
 use refusal::Refusal;
-
-// The eight hash words, or the working variables a to h.
-#[repr(C)]
-pub struct Words {
-    pub a: u32,
-    pub b: u32,
-    pub c: u32,
-    pub d: u32,
-    pub e: u32,
-    pub f: u32,
-    pub g: u32,
-    pub h: u32,
-}
 
 // A hash under way: the hash words, the bytes that wait for their block to fill, and how many
 // bytes were taken in all.
@@ -65,18 +52,6 @@ pub struct Digested {
     pub outcome: Outcome,
     pub digest: [u8; 32],
 }
-
-// 5.3.3: the initial hash value.
-const INITIAL: Words = Words {
-    a: 0x6a09e667,
-    b: 0xbb67ae85,
-    c: 0x3c6ef372,
-    d: 0xa54ff53a,
-    e: 0x510e527f,
-    f: 0x9b05688c,
-    g: 0x1f83d9ab,
-    h: 0x5be0cd19,
-};
 
 // The most bytes that can be hashed: their number in bits fits in 64.
 const LIMIT: u64 = 0x1fff_ffff_ffff_ffff;

@@ -8,13 +8,13 @@ ghost use Rattle.sha256.specs.Digest.{digestOf};
 ghost use Rattle.base.specs.Limits.{maxHashed};
 ghost use Rattle.sha256.specs.Portions.{cleared, pushedAll};
 use crate::Hash;
-use crate::Words;
 use crate::absorb::absorb;
-use crate::block::gather;
-use crate::compress::compress;
 use crate::encode::digest_bytes;
 use crate::encode::last_blocks;
+use crate::parse::gather;
 use base::put;
+use compression::Words;
+use compression::compress;
 
 // Bytes at the start of a block: no byte of a whole block is copied.
 pub fn aligned(words: Words, taken: u64, bytes: &[u8]) -> Hash

@@ -3,8 +3,8 @@
 use refusal::outcome_number;
 ghost use mathlib.Core.Path.{_≡_};
 ghost use Prim.Native.Nat.{min};
+use compression::Words;
 use sha256::Hash;
-use sha256::Words;
 use sha256::digest;
 use vector_text::named;
 use vector_text::named_hex;
