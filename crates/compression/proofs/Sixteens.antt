@@ -3,15 +3,15 @@ use Prim.Native.Nat.{ℕ, zero, suc, _+_, _-_, _*_}
 use mathlib.Core.Path.{_≡_, refl, sym, ap, ap₂, _∙_}
 use mathlib.Core.List.{List, [], _∷_, _++_, append-assoc}
 use native.Mathlib.Nat.{add-suc}
+use native.Mathlib.Numerals.{add-one}
 use native.Mathlib.Omega.{arith}
 use lib.ListN.{length, getD}
 use lib.Seq.{getD-append-add}
 use Rattle.compression.specs.declared.Words.{Words}
 use Rattle.compression.specs.declared.block.Block.{Block}
-use Rattle.compression.specs.Constants.{constant}
 use Rattle.compression.specs.Words.{sum, ch, maj, bigSigma0, bigSigma1}
 use Rattle.compression.specs.Compression.{nextWord, extended, schedule, round, rounds, compressed, added}
-use Rattle.compression.specs.Block.{listOf, Follows, sixteenRounds}
+use Rattle.compression.specs.Block.{listOf, constantsFrom, Follows, sixteenRounds, After}
 use Rattle.compression.proofs.Bitwise.{t1-early}
 
 -- a round from its two sums, T1 in the order of the code
@@ -37,28 +37,6 @@ round-parts k w v p q r s =
 -- a round after others
 pub round-after : (k w : ℕ) {x y z : Words} → x ≡ round k w y → y ≡ z → x ≡ round k w z
 round-after k w e f = e ∙ ap (round k w) f
-
--- the constants of the rounds 16 i to 16 i + 15
-abbrev pub constantsFrom : ℕ → Block
-constantsFrom t =
-    record {
-      w0 = constant t;
-      w1 = constant (t + 1);
-      w2 = constant (t + 2);
-      w3 = constant (t + 3);
-      w4 = constant (t + 4);
-      w5 = constant (t + 5);
-      w6 = constant (t + 6);
-      w7 = constant (t + 7);
-      w8 = constant (t + 8);
-      w9 = constant (t + 9);
-      w10 = constant (t + 10);
-      w11 = constant (t + 11);
-      w12 = constant (t + 12);
-      w13 = constant (t + 13);
-      w14 = constant (t + 14);
-      w15 = constant (t + 15);
-    }
 
 getD-past : (x e : List ℕ) (i j : ℕ) → length x ≡ 16 → i ≡ 16 + j → getD (x ++ e) i 0 ≡ getD e j 0
 getD-past x e i j h p = rw (p, ← h) (getD-append-add x e j 0)
@@ -141,3 +119,18 @@ pub compressed-sixteens : (w x y z : Block) (old a b c d : Words) → Follows w 
 unfolding compressed
 compressed-sixteens w x y z old a b c d p q r e f g h =
     rw (schedule-sixteens w x y z p q r, rounds-sixteens w x y z old, ← e, ← f, ← g, ← h)
+
+pub after-more : (old : Words) (block : Block) (i : ℕ) (v x : Words) (w y : Block) → After old block i v w
+    → x ≡ sixteenRounds (constantsFrom (16 * i)) w v → Follows w y → After old block (i + 1) x y
+after-more old block i v x w y a e f = rw (add-one i) (record { words = v; block = w; before = a; turned = e; follows = f })
+
+pub after-three : (old : Words) (block : Block) (v x : Words) (w : Block) → After old block 3 v w
+    → x ≡ sixteenRounds (constantsFrom 48) w v → added x old ≡ compressed old (listOf block)
+after-three old block v x w third e =
+    let second = third .before in
+    let first = second .before in
+    let start = first .before in
+    ap (added x) (sym (start .0))
+    ∙ compressed-sixteens _ _ _ _ _ _ _ _ _
+    (first .follows) (second .follows) (third .follows) (first .turned) (second .turned) (third .turned) e
+    ∙ ap₂ (λ (o : Words) (b : Block). compressed o (listOf b)) (start .0) (start .1)

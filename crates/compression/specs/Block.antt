@@ -1,15 +1,38 @@
 -- Sixteen words as the code holds them: sixteen rounds, and the sixteen words of the schedule after them.
-use Prim.Native.Nat.{ℕ}
+use Prim.Native.Nat.{ℕ, zero, suc, _+_, _*_}
 use mathlib.Core.Path.{_≡_}
 use mathlib.Core.List.{List, [], _∷_}
 use Rattle.compression.specs.declared.Words.{Words}
 use Rattle.compression.specs.declared.block.Block.{Block}
+use Rattle.compression.specs.Constants.{constant}
 use Rattle.compression.specs.Compression.{scheduled, round}
 
 abbrev pub listOf : Block → List ℕ
 listOf b =
     b .w0 ∷ b .w1 ∷ b .w2 ∷ b .w3 ∷ b .w4 ∷ b .w5 ∷ b .w6 ∷ b .w7 ∷
     b .w8 ∷ b .w9 ∷ b .w10 ∷ b .w11 ∷ b .w12 ∷ b .w13 ∷ b .w14 ∷ b .w15 ∷ []
+
+-- the constants of the rounds t to t + 15
+abbrev pub constantsFrom : ℕ → Block
+constantsFrom t =
+    record {
+      w0 = constant t;
+      w1 = constant (t + 1);
+      w2 = constant (t + 2);
+      w3 = constant (t + 3);
+      w4 = constant (t + 4);
+      w5 = constant (t + 5);
+      w6 = constant (t + 6);
+      w7 = constant (t + 7);
+      w8 = constant (t + 8);
+      w9 = constant (t + 9);
+      w10 = constant (t + 10);
+      w11 = constant (t + 11);
+      w12 = constant (t + 12);
+      w13 = constant (t + 13);
+      w14 = constant (t + 14);
+      w15 = constant (t + 15);
+    }
 
 -- the rounds of a list of constants and a list of words, the first round innermost
 abbrev pub roundsOver : List ℕ → List ℕ → Words → Words
@@ -38,3 +61,16 @@ pub record Follows (w x : Block) : Type 0 where
   pub w13 : x .w13 ≡ scheduled (x .w11) (x .w6) (w .w14) (w .w13)
   pub w14 : x .w14 ≡ scheduled (x .w12) (x .w7) (w .w15) (w .w14)
   pub w15 : x .w15 ≡ scheduled (x .w13) (x .w8) (x .w0) (w .w15)
+
+-- sixteen rounds from t on: what was before them, the working variables after them, and the words that follow
+pub record Turn (Before : Words → Block → Type 0) (t : ℕ) (v : Words) (w : Block) : Type 0 where
+  pub words : Words
+  pub block : Block
+  pub before : Before words block
+  pub turned : v ≡ sixteenRounds (constantsFrom t) block words
+  pub follows : Follows block w
+
+-- the working variables after i times sixteen rounds, and the next sixteen words
+abbrev pub After : Words → Block → ℕ → Words → Block → Type 0
+After old block zero v w = (v ≡ old) × (w ≡ block)
+After old block (suc i) v w = Turn (After old block i) (16 * i) v w

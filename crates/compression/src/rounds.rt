@@ -1,7 +1,8 @@
 // FIPS 180-4, 6.2.2: the eight new hash words from the eight old ones and the sixteen of a block.
+ghost use Prim.Native.Nat.{_*_, _<_};
 ghost use mathlib.Core.Path.{_≡_};
 ghost use Rattle.compression.specs.Compression.{round, added, compressed};
-ghost use Rattle.compression.specs.Block.{listOf, Follows, sixteenRounds};
+ghost use Rattle.compression.specs.Block.{listOf, constantsFrom, Follows, sixteenRounds, After};
 use crate::Words;
 use crate::bits::add;
 use crate::bits::big0;
@@ -209,16 +210,43 @@ fn sums(x: Words, y: Words) -> Words
     }
 }
 
+// The constants of the rounds 16 i to 16 i + 15, but for the last sixteen.
+fn constants_of(i: usize) -> Block
+    requires { ⌜ i < 3 ⌝ }
+    ensures { λ r. ⌜ r ≡ constantsFrom (16 * i) ⌝ }
+{
+    if i == 0 {
+        return K0;
+    }
+    if i == 1 {
+        return K1;
+    }
+    K2
+}
+
+// Forty-eight rounds, and the last sixteen words of the schedule. `turn_and_extend` is called in one place only, so that the
+// compiler puts it there: the working variables then stay in registers.
+fn forty_eight(block: Block, old: Words) -> Turned
+    ensures { λ r. ⌜ After old block 3 (r .words) (r .block) ⌝ }
+{
+    let mut v = old;
+    let mut w = block;
+    let mut i: usize = 0;
+    while i < 3 {
+        let turned = turn_and_extend(constants_of(i), w, v);
+        v = turned.words;
+        w = turned.block;
+        i += 1;
+    }
+    Turned { words: v, block: w }
+}
+
 // The hash words after one more block.
 pub fn compress(old: Words, block: Block) -> Words
     ensures { λ r. ⌜ r ≡ compressed old (listOf block) ⌝ }
 {
-    let t1 = turn_and_extend(K0, block, old);
-    let w1 = t1.block;
-    let t2 = turn_and_extend(K1, w1, t1.words);
-    let w2 = t2.block;
-    let t3 = turn_and_extend(K2, w2, t2.words);
-    let w3 = t3.block;
-    let v = sixteen(K3, w3, t3.words);
+    let turned = forty_eight(block, old);
+    let w = turned.block;
+    let v = sixteen(K3, w, turned.words);
     sums(v, old)
 }

@@ -4,7 +4,6 @@ use Prim.Native.Nat.{ℕ}
 use mathlib.Core.List.{List, [], _∷_}
 use Rattle.sha256.specs.Padding.{padding, padded, words}
 use Rattle.base.specs.Bytes.{bigEndian}
-use Rattle.compression.specs.declared.Words.{Words}
 use Rattle.compression.specs.Constants.{initial}
 use Rattle.compression.specs.Compression.{scheduled, extended, schedule, round, rounds, compressed}
 use Rattle.sha256.specs.Digest.{hashAfter, digestOf, digest}

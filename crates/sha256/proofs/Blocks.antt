@@ -7,7 +7,7 @@ use native.Mathlib.Omega.{arith}
 use lib.ListN.{length, take, drop, length-drop, take-append-drop, List·getD-append}
 use lib.Seq.{take-all, drop-append-le, length-take-le}
 use Rattle.compression.specs.declared.Words.{Words}
-use Rattle.sha256.specs.Padding.{words}
+use Rattle.sha256.specs.Padding.{blocks, words}
 use Rattle.compression.specs.Compression.{compressed}
 use Rattle.sha256.specs.Digest.{block, hashAfter}
 
@@ -33,6 +33,11 @@ pub hashAfter-more : (start v w : Words) (bytes b : List ℕ) (i : ℕ) → v �
     → w ≡ compressed v b → w ≡ hashAfter start bytes (i + 1)
 unfolding hashAfter
 hashAfter-more start v w bytes b i p q r = rw (add-one i, ← p, ← q) r
+
+-- 64 bytes are one block
+pub hashAfter-one : (v : Words) (bytes : List ℕ) → length bytes ≡ 64 → hashAfter v bytes (blocks bytes) ≡ compressed v (words 16 bytes)
+unfolding hashAfter
+hashAfter-one v bytes h = rw h refl
 
 -- the part of a slice from a place on, as the code lends it
 pub part-from : (n : ℕ) (l : List ℕ) → take (length l - n) (drop n l) ≡ drop n l

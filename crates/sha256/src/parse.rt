@@ -17,7 +17,11 @@ fn word_at(s: &[u8], at: usize) -> u32
     requires { ⌜ at + 4 ≤ length (now s) ⌝ }
     ensures { λ r. ⌜ r ≡ wordAt (now (s .entry)) at ⌝ }
 {
-    ((wide(s[at]) * 256 + wide(s[at + 1])) * 256 + wide(s[at + 2])) * 256 + wide(s[at + 3])
+    let first = wide(s[at]);
+    let second = wide(s[at + 1]);
+    let third = wide(s[at + 2]);
+    let fourth = wide(s[at + 3]);
+    ((first * 256 + second) * 256 + third) * 256 + fourth
 }
 
 // The first sixteen words of some bytes.

@@ -11,10 +11,8 @@ use crate::Hash;
 use crate::absorb::absorb;
 use crate::encode::digest_bytes;
 use crate::encode::last_blocks;
-use crate::parse::gather;
 use base::put;
 use compression::Words;
-use compression::compress;
 
 // Bytes at the start of a block: no byte of a whole block is copied.
 pub fn aligned(words: Words, taken: u64, bytes: &[u8]) -> Hash
@@ -57,7 +55,7 @@ fn beyond(state: Hash, bytes: &[u8]) -> Hash
     let mut tail = state.tail;
     put(&mut tail, at, &bytes[..room]);
     let old = state.words;
-    let words = compress(old, gather(&tail));
+    let words = absorb(old, &tail);
     aligned(words, state.taken + room as u64, &bytes[room..])
 }
 

@@ -1,5 +1,7 @@
 -- `compression::rounds::turn_and_extend` meets its contract. Each round goes on from the one before, each word from those before it.
-use Rattle.compression.specs.Block.{sixteenRounds}
+use mathlib.Core.Path.{sym, subst}
+use Rattle.compression.specs.declared.block.Block.{Block}
+use Rattle.compression.specs.Block.{Follows, sixteenRounds}
 use Rattle.compression.proofs.Sixteens.{round-after}
 use Rattle.compression.proofs.rounds.turn_and_extend.Statement.{statement}
 use Rattle.compression.proofs.rounds.turn_and_extend.Tie as tie
@@ -39,7 +41,7 @@ returns c =
           (round-after _ _ (s3 .before .turn3 .ensures)
           (round-after _ _ (s2 .before .turn2 .ensures)
           (s1 .before .turn .ensures))))))))))))))),
-      rw (c .block-of .ensures) (record {
+      subst (λ (b : Block). Follows (s1 .before .before .args .w) b) (sym (c .block-of .ensures)) (record {
         w0 =
             s1 .schedule .ensures;
         w1 = s2 .schedule2 .ensures;

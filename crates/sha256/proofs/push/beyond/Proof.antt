@@ -1,10 +1,9 @@
 -- `sha256::push::beyond` meets its contract. By the law of bytes that fill the tail and go on.
-use Prim.Native.Nat.{_-_, _%_}
+use Prim.Native.Nat.{_-_}
 use mathlib.Core.Path.{_≡_, sym, _∙_}
-use native.Mathlib.Omega.{arith}
 use lib.ListN.{length}
 use lib.Seq.{length-take-le}
-use Rattle.sha256.proofs.Blocks.{part-from}
+use Rattle.sha256.proofs.Blocks.{hashAfter-one, part-from}
 use Rattle.sha256.proofs.Pushing.{room-le, room-fills, next-start, rest-fits, pushedAll-beyond}
 use borrow.Author.Needs.{needs}
 use Rattle.base.proofs.Copying.{written-sets}
@@ -22,19 +21,19 @@ put-requires c κs =
 
 aligned-requires : tie.Need-aligned-requires
 aligned-requires c κs =
-    let entry = c .before .before .before .before .before .before .before .before .before .before .before .before .before in
+    let entry = c .before .before .before .before .before .before .before .before .before .before .before .before in
     (next-start (entry .args .state .taken), rest-fits (entry .args .state .taken) (entry .args .bytes .now) (entry .pre .0) (entry .pre .1))
 
 returns : tie.Need-returns
 returns c =
-    let entry = c .before .before .before .before .before .before .before .before .before .before .before .before .before .before in
-    let put = c .before .before .before .before .before .before .before .before .put in
+    let absorbed = c .before .before .before in
+    let put = absorbed .before .before .before .before in
+    let entry = put .before .before .before .before .before .before in
     c .aligned .ensures ∙
     rw (
       part-from,
-      c .before .before .before .compress .ensures,
-      c .before .before .before .before .gather .ensures,
-      put .ensures ∙ written-sets _ _ _ (put-requires (c .before .before .before .before .before .before .before .before .before) (put .lifetimes)),
+      absorbed .absorb .ensures ∙ hashAfter-one _ _ (search needs),
+      put .put .ensures ∙ written-sets _ _ _ (put-requires (put .before) (put .put .lifetimes)),
     )
     (sym (pushedAll-beyond (entry .args .state) (entry .args .bytes .now) (entry .pre .0)))
 
@@ -43,5 +42,5 @@ beyond-spec =
     tie.close
     (tie.spec
     (λ c. search needs) (λ c. search needs) slice-aggregate-put-2 put-requires (λ c. search needs)
-    (λ c κs. search needs) (λ c κs. search needs) (λ c. search needs) (λ c. search needs) (λ c. search needs)
+    (λ c κs. search needs) (λ c. search needs) (λ c. search needs) (λ c. search needs)
     (λ c. search needs) aligned-requires returns)
