@@ -4,17 +4,17 @@ use mathlib.Core.Path.{_≡_, refl, sym, ap, _∙_}
 use mathlib.Core.List.{List, _++_}
 use native.Mathlib.Nat.{zero-add}
 use native.Mathlib.Omega.{arith}
-use lib.ListN.{length, take, length-append, length-replicate}
-use lib.Seq.{take-all}
+use lib.ListN.{length, take, drop, length-append, length-drop, length-replicate}
+use lib.Seq.{sets, sets-eq, length-sets, take-all, take-at}
 use Rattle.sha256.specs.declared.Hash.{Hash}
 use Rattle.compression.specs.declared.Words.{Words}
 use Rattle.compression.specs.Constants.{initial}
-use Rattle.base.specs.Bytes.{bigEndian}
+use Rattle.base.specs.Bytes.{bigEndian, zeros}
 use Rattle.base.proofs.BytesLaws.{length-bigEndian}
 use Rattle.sha256.specs.Padding.{zeroBytes, padding, padded, blocks}
 use Rattle.sha256.specs.Digest.{hashAfter, digestOf, digest}
 use Rattle.sha256.specs.Portions.{newHash, pushedAll}
-use Rattle.sha256.proofs.Pushing.{pushedAll-append, pushedAll-taken, pushedAll-blocks, pushedAll-closed}
+use Rattle.sha256.proofs.Pushing.{pushedAll-append, pushedAll-taken, pushedAll-blocks, pushedAll-cleared, pushedAll-closed}
 
 pub length-padding : (n : ℕ) → length (padding n) ≡ zeroBytes n + 9
 unfolding padding bigEndian
@@ -51,6 +51,20 @@ digest-pushed m =
     sym (pushedAll-append newHash m (padding (length m))) ∙
     ap (pushedAll newHash) (sym whole) ∙
     pushedAll-blocks initial 0 p (blocks p) refl (omega (arith, length-padded m)))
+
+-- the same with no state between: the hash words after the whole blocks, then the last blocks
+pub digest-split :
+    (m : List ℕ) → let rest : List ℕ = drop (64 * blocks m) m ++ padding (length m) in
+    digestOf (hashAfter (hashAfter initial m (blocks m)) rest (blocks rest)) ≡ digest m
+digest-split m =
+    let rest : List ℕ = drop (64 * blocks m) m in
+    let n : length rest ≡ (0 + length m) % 64 = length-drop (64 * blocks m) m ∙ omega arith in
+    let s : Hash = record { words = hashAfter initial m (blocks m); tail = sets (zeros 64) 0 rest; taken = 0 + length m } in
+    let waits : take ((0 + length m) % 64) (s .tail) ≡ rest =
+    ap (take ((0 + length m) % 64)) (sets-eq rest (zeros 64) 0 (rw length-replicate (omega arith))) ∙ take-at rest _ _ n in
+    ap digestOf (sym (pushed-padding s (simp (length-sets, length-replicate)) ∙ rw (waits, zero-add (length m))))
+    ∙ ap (λ (t : Hash). digestOf (pushedAll t (padding (t .taken)) .words)) (sym (pushedAll-cleared initial 0 m refl))
+    ∙ digest-pushed m
 
 -- ---- a digest has 32 bytes
 words-length : (v : Words) → length (digestOf v) ≡ 32

@@ -1,12 +1,13 @@
-// The digest as bytes, and the last blocks with the padding of FIPS 180-4, 5.1.1.
+// The digest as bytes, and the end of a message: its last blocks, with the padding of FIPS 180-4, 5.1.1.
 ghost use Prim.Native.Nat.{_%_, _≤_};
 ghost use mathlib.Core.Path.{_≡_};
-ghost use lib.ListN.{length, take};
+ghost use lib.ListN.{length};
 ghost use mathlib.Core.List.{[], _∷_, _++_};
 ghost use Rattle.base.specs.Bytes.{bigEndian};
-ghost use Rattle.sha256.specs.Padding.{padding, blocksOf};
-ghost use Rattle.sha256.specs.Digest.{digestOf};
+ghost use Rattle.sha256.specs.Padding.{padding, blocks, blocksOf};
+ghost use Rattle.sha256.specs.Digest.{hashAfter, digestOf};
 ghost use Rattle.base.specs.Limits.{maxHashed};
+use crate::absorb::absorb;
 use base::big_endian;
 use base::put;
 use compression::Words;
@@ -78,12 +79,6 @@ pub fn digest_bytes(v: Words) -> [u8; 32]
     ]
 }
 
-// The first count of the bytes are the last blocks of a message.
-pub struct Last {
-    pub bytes: [u8; 128],
-    pub count: usize,
-}
-
 // How many blocks a message of so many bytes fills when it is padded.
 pub fn block_count(len: usize) -> usize
     requires { ⌜ len ≤ maxHashed ⌝ }
@@ -92,10 +87,10 @@ pub fn block_count(len: usize) -> usize
     (len + 8) / 64 + 1
 }
 
-// The last blocks of a message of len bytes: what is left of it after whole blocks, and the padding.
-pub fn last_blocks(rest: &[u8], len: u64) -> Last
+// The digest of a message of len bytes: from the hash words after its whole blocks, and what is left of it.
+pub fn digest_after(words: Words, rest: &[u8], len: u64) -> [u8; 32]
     requires { ⌜ (length (now rest) ≡ len % 64) × (len ≤ maxHashed) ⌝ }
-    ensures { λ r. ⌜ (take (r .count) (r .bytes) ≡ now (rest .entry) ++ padding len) × (r .count ≤ 128) ⌝ }
+    ensures { λ r. ⌜ r ≡ digestOf (hashAfter words (now (rest .entry) ++ padding len) (blocks (now (rest .entry) ++ padding len))) ⌝ }
 {
     let at = rest.len();
     let end = 64 * block_count(at);
@@ -104,5 +99,5 @@ pub fn last_blocks(rest: &[u8], len: u64) -> Last
     put(&mut bytes, 0, rest);
     put(&mut bytes, at, &[128]);
     put(&mut bytes, end - 8, &bits);
-    Last { bytes, count: end }
+    digest_bytes(absorb(words, &bytes[..end]))
 }

@@ -18,8 +18,8 @@ use absorb::absorb;
 use compression::INITIAL;
 use compression::Words;
 pub use encode::block_count;
+use encode::digest_after;
 use encode::digest_bytes;
-use push::aligned;
 use push::closed;
 use push::pushed;
 use refusal::Outcome;
@@ -131,8 +131,9 @@ pub fn digest(message: &[u8]) -> Digested
             digest,
         };
     }
-    let all = aligned(INITIAL, 0, message);
-    let digest = closed(all);
+    let at = 64 * (message.len() / 64);
+    let words = absorb(INITIAL, message);
+    let digest = digest_after(words, &message[at..], message.len() as u64);
     Digested {
         outcome: Outcome::Done,
         digest,

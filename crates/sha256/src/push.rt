@@ -9,13 +9,12 @@ ghost use Rattle.base.specs.Limits.{maxHashed};
 ghost use Rattle.sha256.specs.Portions.{cleared, pushedAll};
 use crate::Hash;
 use crate::absorb::absorb;
-use crate::encode::digest_bytes;
-use crate::encode::last_blocks;
+use crate::encode::digest_after;
 use base::put;
 use compression::Words;
 
 // Bytes at the start of a block: no byte of a whole block is copied.
-pub fn aligned(words: Words, taken: u64, bytes: &[u8]) -> Hash
+fn aligned(words: Words, taken: u64, bytes: &[u8]) -> Hash
     requires { ⌜ (taken % 64 ≡ 0) × (taken + length (now bytes) < 2 ^ 64) ⌝ }
     ensures { λ r. ⌜ r ≡ pushedAll (cleared words taken) (now (bytes .entry)) ⌝ }
 {
@@ -79,9 +78,6 @@ pub fn closed(state: Hash) -> [u8; 32]
 {
     let at = (state.taken % 64) as usize;
     let tail = state.tail;
-    let last = last_blocks(&tail[..at], state.taken);
-    let bytes = last.bytes;
-    let count = last.count;
     let words = state.words;
-    digest_bytes(absorb(words, &bytes[..count]))
+    digest_after(words, &tail[..at], state.taken)
 }
