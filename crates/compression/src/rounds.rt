@@ -10,7 +10,6 @@ use crate::bits::big1;
 use crate::bits::choose;
 use crate::bits::majority;
 use crate::block::Block;
-use crate::block::block_of;
 use crate::block::schedule;
 
 // 4.2.2: the constants of the rounds, sixteen at a time.
@@ -173,7 +172,7 @@ fn turn_and_extend(k: Block, w: Block, v: Words) -> Turned
     let w14 = schedule(w12, w7, w.w15, w.w14);
     let v = turn(k.w15, w.w15, v);
     let w15 = schedule(w13, w8, w0, w.w15);
-    let block = block_of(
+    let block = Block {
         w0,
         w1,
         w2,
@@ -190,7 +189,7 @@ fn turn_and_extend(k: Block, w: Block, v: Words) -> Turned
         w13,
         w14,
         w15,
-    );
+    };
     Turned { words: v, block }
 }
 

@@ -19,8 +19,7 @@ returns c = rw (sym (c .before .too-many .ensures) ∙ c .if1 .taken) (refl, ref
 digest-after-requires : tie.Need-digest-after-requires
 digest-after-requires c κs =
     let e = c .before .before in
-    let m = e .before .before .before .args .message .now in
-    (
+    let m = e .before .before .before .args .message .now in (
       rw (part-from, length-drop) (omega arith),
       omega (arith, leb-false (maxHashed + 1) (0 + length m) (sym (e .before .too-many .ensures) ∙ e .if1 .left)),
     )

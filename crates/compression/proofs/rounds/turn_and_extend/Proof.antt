@@ -1,7 +1,5 @@
 -- `compression::rounds::turn_and_extend` meets its contract. Each round goes on from the one before, each word from those before it.
-use mathlib.Core.Path.{sym, subst}
-use Rattle.compression.specs.declared.block.Block.{Block}
-use Rattle.compression.specs.Block.{Follows, sixteenRounds}
+use Rattle.compression.specs.Block.{sixteenRounds}
 use Rattle.compression.proofs.Sixteens.{round-after}
 use Rattle.compression.proofs.rounds.turn_and_extend.Statement.{statement}
 use Rattle.compression.proofs.rounds.turn_and_extend.Tie as tie
@@ -9,7 +7,7 @@ use Rattle.compression.proofs.rounds.turn_and_extend.Tie as tie
 returns : tie.Need-returns
 unfolding sixteenRounds
 returns c =
-    let s16 = c .before in
+    let s16 = c in
     let s15 = s16 .before .before in
     let s14 = s15 .before .before in
     let s13 = s14 .before .before in
@@ -41,7 +39,7 @@ returns c =
           (round-after _ _ (s3 .before .turn3 .ensures)
           (round-after _ _ (s2 .before .turn2 .ensures)
           (s1 .before .turn .ensures))))))))))))))),
-      subst (λ (b : Block). Follows (s1 .before .before .args .w) b) (sym (c .block-of .ensures)) (record {
+      record {
         w0 =
             s1 .schedule .ensures;
         w1 = s2 .schedule2 .ensures;
@@ -62,7 +60,7 @@ returns c =
         w14 = s15 .schedule15 .ensures;
         w15 =
             s16 .schedule16 .ensures;
-      }),
+      },
     )
 
 pub turn-and-extend-spec : {M : Type 1} → statement M
@@ -73,5 +71,4 @@ turn-and-extend-spec =
     (λ c κs. tt) (λ c κs. tt) (λ c κs. tt) (λ c κs. tt) (λ c κs. tt) (λ c κs. tt) (λ c κs. tt) (λ c κs. tt)
     (λ c κs. tt) (λ c κs. tt) (λ c κs. tt) (λ c κs. tt) (λ c κs. tt) (λ c κs. tt) (λ c κs. tt) (λ c κs. tt)
     (λ c κs. tt) (λ c κs. tt) (λ c κs. tt) (λ c κs. tt) (λ c κs. tt) (λ c κs. tt) (λ c κs. tt) (λ c κs. tt)
-    (λ c κs. tt)
     returns)

@@ -1,8 +1,11 @@
 -- `sha256::push::beyond` meets its contract. By the law of bytes that fill the tail and go on.
-use Prim.Native.Nat.{_-_}
+use Prim.Native.Nat.{_+_, _-_, _%_}
 use mathlib.Core.Path.{_≡_, sym, _∙_}
 use lib.ListN.{length}
 use lib.Seq.{length-take-le}
+use Rattle.compression.specs.Compression.{compressed}
+use Rattle.sha256.specs.Padding.{words}
+use Rattle.sha256.specs.Portions.{cleared, pushedAll}
 use Rattle.sha256.proofs.Blocks.{hashAfter-one, part-from}
 use Rattle.sha256.proofs.Pushing.{room-le, room-fills, next-start, rest-fits, pushedAll-beyond}
 use borrow.Author.Needs.{needs}
@@ -29,13 +32,14 @@ returns c =
     let absorbed = c .before .before .before in
     let put = absorbed .before .before .before .before in
     let entry = put .before .before .before .before .before .before in
+    let s = entry .args .state in
+    let bytes = entry .args .bytes .now in
+    let room = 64 - s .taken % 64 in
+    let tail = put .put .ensures ∙ written-sets _ _ _ (put-requires (put .before) (put .put .lifetimes)) in
+    let now = absorbed .absorb .ensures ∙ hashAfter-one _ _ (search needs) ∙ (λ i. compressed (s .words) (words 16 (tail i))) in
     c .aligned .ensures ∙
-    rw (
-      part-from,
-      absorbed .absorb .ensures ∙ hashAfter-one _ _ (search needs),
-      put .put .ensures ∙ written-sets _ _ _ (put-requires (put .before) (put .put .lifetimes)),
-    )
-    (sym (pushedAll-beyond (entry .args .state) (entry .args .bytes .now) (entry .pre .0)))
+    (λ i. pushedAll (cleared (now i) (s .taken + room)) (part-from room bytes i)) ∙
+    sym (pushedAll-beyond s bytes (entry .pre .0))
 
 pub beyond-spec : {M : Type 1} → statement M
 beyond-spec =
