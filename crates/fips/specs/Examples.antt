@@ -1,5 +1,5 @@
 -- Examples of FIPS 180-4 (the documents on SHA-256 that it cites), as theorems about the definition, by computation.
-use mathlib.Core.Path.{_≡_, refl}
+use mathlib.Core.Path.{_≡_, refl, ap, _∙_}
 use Prim.Native.Nat.{ℕ}
 use mathlib.Core.List.{List, [], _∷_}
 use Rattle.sha256.specs.Padding.{padding, padded, words}
@@ -16,15 +16,7 @@ pub emptyMessage :
 unfolding bigEndian padding padded words scheduled extended schedule round rounds compressed hashAfter digestOf digest
 emptyMessage = refl
 
--- the one-block message 'abc'
-pub abc :
-    digest (97 ∷ 98 ∷ 99 ∷ [])
-    ≡ 0xba ∷ 0x78 ∷ 0x16 ∷ 0xbf ∷ 0x8f ∷ 0x01 ∷ 0xcf ∷ 0xea ∷ 0x41 ∷ 0x41 ∷ 0x40 ∷ 0xde ∷ 0x5d ∷ 0xae ∷ 0x22 ∷ 0x23 ∷ 0xb0 ∷
-    0x03 ∷ 0x61 ∷ 0xa3 ∷ 0x96 ∷ 0x17 ∷ 0x7a ∷ 0x9c ∷ 0xb4 ∷ 0x10 ∷ 0xff ∷ 0x61 ∷ 0xf2 ∷ 0x00 ∷ 0x15 ∷ 0xad ∷ []
-unfolding bigEndian padding padded words scheduled extended schedule round rounds compressed hashAfter digestOf digest
-abc = refl
-
--- where bytes become words (5.2.1): the sixteen words of the same message, padded
+-- the one-block message 'abc'; where bytes become words (5.2.1): its sixteen words, padded
 abbrev pub abcBlock : List ℕ
 abcBlock = 0x61626380 ∷ 0 ∷ 0 ∷ 0 ∷ 0 ∷ 0 ∷ 0 ∷ 0 ∷ 0 ∷ 0 ∷ 0 ∷ 0 ∷ 0 ∷ 0 ∷ 0 ∷ 0x00000018 ∷ []
 
@@ -47,6 +39,14 @@ pub abcCompressed :
     }
 unfolding scheduled extended schedule round rounds compressed
 abcCompressed = refl
+
+-- the digest of the message, by these two
+pub abc :
+    digest (97 ∷ 98 ∷ 99 ∷ [])
+    ≡ 0xba ∷ 0x78 ∷ 0x16 ∷ 0xbf ∷ 0x8f ∷ 0x01 ∷ 0xcf ∷ 0xea ∷ 0x41 ∷ 0x41 ∷ 0x40 ∷ 0xde ∷ 0x5d ∷ 0xae ∷ 0x22 ∷ 0x23 ∷ 0xb0 ∷
+    0x03 ∷ 0x61 ∷ 0xa3 ∷ 0x96 ∷ 0x17 ∷ 0x7a ∷ 0x9c ∷ 0xb4 ∷ 0x10 ∷ 0xff ∷ 0x61 ∷ 0xf2 ∷ 0x00 ∷ 0x15 ∷ 0xad ∷ []
+unfolding bigEndian padding padded hashAfter digestOf digest
+abc = ap (λ (b : List ℕ). digestOf (compressed initial b)) abcParsed ∙ ap digestOf abcCompressed
 
 -- the 448-bit message, two blocks
 pub twoBlocks :
