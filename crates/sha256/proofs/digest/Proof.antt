@@ -1,10 +1,13 @@
 -- `sha256::digest` meets its contract. Whole blocks straight from the message, then its last blocks.
-use Prim.Native.Nat.{_+_}
+use Prim.Native.Nat.{ℕ, _+_, _*_}
 use mathlib.Core.Path.{refl, sym, ap, _∙_}
 use native.Mathlib.Omega.{arith}
 use borrow.Author.Tests.{leb-false}
 use lib.ListN.{length, length-drop}
+use mathlib.Core.List.{List, _++_}
 use Rattle.base.specs.Limits.{maxHashed}
+use Rattle.sha256.specs.Padding.{padding, blocks}
+use Rattle.sha256.specs.Digest.{hashAfter, digestOf}
 use Rattle.sha256.specs.Portions.{digestRow, digestAnswer}
 use Rattle.sha256.proofs.Blocks.{part-from}
 use Rattle.sha256.proofs.Digests.{digest-split}
@@ -29,9 +32,11 @@ unfolding digestRow digestAnswer
 returns-2 c =
     let a = c .before .before in
     let e = a .before in
+    let m = e .before .before .before .args .message .now in
+    let last = ap (λ (l : List ℕ). l ++ padding (length m)) (part-from (64 * blocks m) m) in
     rw (sym (e .before .too-many .ensures) ∙ e .if1 .left) (
       refl,
-      c .digest-after .ensures ∙ rw (a .absorb .ensures, part-from) (digest-split (e .before .before .before .args .message .now)),
+      c .digest-after .ensures ∙ (λ i. digestOf (hashAfter (a .absorb .ensures i) (last i) (blocks (last i)))) ∙ digest-split m,
     )
 
 pub digest-spec : {M : Type 1} → statement M
