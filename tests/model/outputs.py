@@ -34,10 +34,10 @@ def places_digest(places):
     return sha(b"".join(place.to_bytes(8, "big") for place in places)).hex()
 
 
-# sha256_vectors
+# unit_vectors
 
 
-def sha256_vectors():
+def digests():
     named = [
         ("the empty message", b""),
         ("abc", b"abc"),
@@ -59,8 +59,6 @@ def sha256_vectors():
         text += f"{taken} portion {refusal} taken {state.taken} end {end} {digest.hex()}\n"
     return text
 
-
-# unit_vectors
 
 RUNS = """1 0 0|2 1 0|3 3 3|4 3 3|5 1 0|6 3 0|7 6 6|8 0 7|9 4 3|10 9 1|11 5 0|12 0 0|13 10 8|14 0 14|15 12 6|16 13 0"""
 
@@ -162,7 +160,7 @@ def openings_checked():
 
 
 def unit_vectors():
-    return runs() + run_edges() + openings() + openings_checked()
+    return digests() + runs() + run_edges() + openings() + openings_checked()
 
 
 # file_vectors
@@ -263,13 +261,6 @@ def checks():
     return text
 
 
-def file_vectors():
-    return files() + file_edges() + challenged() + checks()
-
-
-# chain_vectors
-
-
 def drawn(name, file, statement, n, t, places):
     """A line of the drawing's answer: inputs are all zero where there is no clash."""
     first = second = bytes(105)
@@ -285,7 +276,7 @@ def drawn(name, file, statement, n, t, places):
 
 def chains():
     text = ""
-    for field, n, t, size, _, count, _ in lines("chain_vectors"):
+    for field, n, t, size, _, count, _ in lines("file_vectors", "data/chains"):
         labels, n, t, size, count = tree(sha(report(field)), int(n)), int(n), int(t), int(size), int(count)
         file, statement = labels.file(t), labels.statement
         assert len(file) == size
@@ -342,11 +333,11 @@ def comparisons():
     return text
 
 
-def chain_vectors():
-    return chains() + comparisons()
+def file_vectors():
+    return files() + file_edges() + challenged() + checks() + chains() + comparisons()
 
 
-# plan, plan_vectors
+# plan, and the plans of program_scenarios
 
 
 def plan(name="plan"):
@@ -354,7 +345,7 @@ def plan(name="plan"):
     return md.planning((crate(name) / "stdin").read_bytes())
 
 
-def plan_vectors():
+def plans():
     inputs = [b"2 3 0 3", b"2 0", b"4 0 1 2 3 8 9 13 14 15", b"1 0 1\n", b"3\n7\n\n7 0", b"40 0 1099511627775", b"", b" \n", b"x", b"2"]
     inputs += [b"0 0", b"41 0", b"2 4", b"2 18446744073709551615", b"2 18446744073709551616", b"2\t1"]
     inputs += [b"002 003 0000000000000000000000003", b"2 " + b"1 " * 200, b"2 " + b"1 " * 201, b"41 " + b"1 " * 201]
@@ -362,11 +353,6 @@ def plan_vectors():
     inputs += [b" " * 65533 + b"1 0", b" " * 65533 + b"1 0 "]
     inputs += [b"2 0".ljust(65536), b"2 0".ljust(65536) + b"x"]
     return "".join(map(md.planning, inputs))
-
-
-def plans(stored):
-    """The planning program's lines that are no complaint of its own."""
-    return [line for line in stored if not line.startswith("plan: ")]
 
 
 # examples/seal_and_check

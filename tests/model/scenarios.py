@@ -1,10 +1,10 @@
-"""What the program tells of its words, as far as document 01 decides it: facts of a sealed proof, labels made, verdicts, chains and
-a clash, each below its scenario's heading. How such a line is worded, and how many labels are made between two, the program's
+"""What the programs tell, as far as document 01 decides it: plans, facts of a sealed proof, labels made, verdicts, chains and a clash,
+those of `mastdock` below its scenario's heading. How such a line is worded, and how many labels are made between two, the program's
 sources say. The files are those of the crate's data/ and those that its sources make."""
 import re
 
 import mastdock as md
-from outputs import crate, tree
+from outputs import crate, plans, tree
 from mastdock import sha
 
 FACTS = "statement|root|depth|challenges|hashes|accepted|refused|clash|first|second"
@@ -172,10 +172,10 @@ def not_written(folder):
 
 
 def scenarios():
-    files = data("mastdock_scenarios")
+    files = data("program_scenarios")
     folder = Folder({**files, "locked": None, "large.proof": bytes(LARGEST + 1), "left.proof.part": b""})
-    words = args("mastdock_scenarios")
-    text = f"> this program's arguments: {' '.join(words)}\n" + "".join(told(folder, *words)) + "> mastdock\n"
+    words = args("program_scenarios")
+    text = plans() + f"> this program's arguments: {' '.join(words)}\n" + "".join(told(folder, *words)) + "> mastdock\n"
     text += "".join(run(folder, line) for line in files["scenarios"].decode().splitlines())
     text += "> a path of 256 bytes, and one of 4091\n> a clash\n" + clash(2, 5, 1, bytes([10] * 105), bytes([171] * 105))
     folder.files.update({"long": large(b"h"), "changed": large(b"H")})

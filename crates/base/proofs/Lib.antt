@@ -6,3 +6,6 @@ pub mod Zeros
 pub mod WrittenLaws
 pub mod Parts
 pub mod Powers
+pub mod Bounds
+pub mod Ranges
+pub mod RowLaws

@@ -1,9 +1,19 @@
 // What every layer shares: specs/ has the words of the definitions; here are the limits, the one copy of bytes, numbers as bytes.
+mod refusal; // refusal.rt: the refusals, and the answers that carry them
+
 ghost use mathlib.Core.Path.{_≡_};
 ghost use Prim.Native.Nat.{_+_, _<_, _≤_, min};
 ghost use lib.ListN.{length, take, drop};
 ghost use Rattle.base.specs.Bytes.{bigEndian, written};
 ghost use Rattle.base.specs.Lists.{sameBytes};
+pub use refusal::Check;
+pub use refusal::Outcome;
+pub use refusal::Refusal;
+pub use refusal::beyond;
+pub use refusal::code;
+pub use refusal::memory_over;
+pub use refusal::number;
+pub use refusal::outcome_number;
 
 // Document 01's limits and the sizes that follow from them: specs/Limits.antt says what each one is.
 pub const MAX_DEPTH: u64 = 40;

@@ -7,10 +7,10 @@ ghost use Rattle.chain.specs.PlanRow.{planRow, plannedCount, plannedList};
 ghost use Rattle.compare.specs.Comparison.{compareRow, compared, firstInput, secondInput};
 ghost use Rattle.draw.specs.Drawing.{drawingAnswer, drawingOf, drawnList, firstDrawn, secondDrawn, clashPair};
 ghost use Rattle.capi.specs.Answers.{firstOf, secondOf, levelOf, kindOf, refusalOf, countOf};
+use base::Check;
+use base::outcome_number;
 use compare::Pair;
 use draw::Drawing;
-use refusal::Check;
-use refusal::outcome_number;
 
 #[repr(C)]
 pub struct Planned {
@@ -122,7 +122,7 @@ fn drawing_numbers(drawing: Drawing) -> Parts
     match drawing {
         Drawing::NotDrawn(why, opening) => Parts {
             kind: 0,
-            code: refusal::code(Check::Rejected(why, opening)),
+            code: base::code(Check::Rejected(why, opening)),
             count: 0,
         },
         Drawing::Chain(count) => Parts {

@@ -3,13 +3,13 @@ ghost use mathlib.Core.Path.{_≡_};
 ghost use lib.ListN.{length};
 ghost use Rattle.base.specs.Limits.{edition};
 ghost use Rattle.opening_check.specs.OpeningCheck.{openingRow};
-ghost use Rattle.challenges.specs.Challenge.{challengeRow, challenged};
+ghost use Rattle.file_head.specs.Challenge.{challengeRow, challenged};
 ghost use Rattle.file_head.specs.Layout.{headRow, headWritten};
 ghost use Rattle.file_head.specs.Head.{headAnswer, headRefusal, headDepth, headCount, headOf, partStart, partLength};
 ghost use Rattle.proof_file.specs.FileCheck.{fileCheck};
+use base::outcome_number;
 use file_head::HeadNumbers;
 use proof_file::Place;
-use refusal::outcome_number;
 
 #[repr(C)]
 pub struct Challenged {
@@ -28,7 +28,7 @@ pub extern "C" fn mastdock_challenge(
     ensures { λ r. ⌜ r .refusal ≡ challengeRow depth i ⌝ }
     ensures { λ r. ⌜ r .leaf ≡ challenged edition depth (now (statement .entry)) (now (root .entry)) i ⌝ }
 {
-    let c = challenges::challenge(depth, *statement, *root, i);
+    let c = file_head::challenge(depth, *statement, *root, i);
     let outcome = c.outcome;
     let leaf = c.leaf;
     Challenged {
@@ -72,7 +72,7 @@ fn head_read(numbers: HeadNumbers) -> HeadRead
             count,
         },
         HeadNumbers::NotRead(why) => HeadRead {
-            refusal: refusal::number(why),
+            refusal: base::number(why),
             depth: 0,
             count: 0,
         },

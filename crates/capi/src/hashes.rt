@@ -1,7 +1,7 @@
 // SHA-256, in portions and in one call.
 ghost use mathlib.Core.Path.{_≡_};
 ghost use Rattle.sha256.specs.Portions.{newHash, updateRow, updateState, finishRow, finishDigest, digestRow, digestAnswer};
-use refusal::outcome_number;
+use base::outcome_number;
 use sha256::Hash;
 
 #[repr(C)]

@@ -4,8 +4,8 @@ ghost use lib.ListN.{length};
 ghost use Rattle.opening.specs.Rows.{openRow, reopenRow};
 ghost use Rattle.opening.specs.Names.{openOf};
 ghost use Rattle.opening.specs.Steps.{started, startedOut, labelsIn, advanced};
+use base::outcome_number;
 use opening::Opening;
-use refusal::outcome_number;
 
 #[repr(C)]
 pub struct OpeningStarted {

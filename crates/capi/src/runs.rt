@@ -3,7 +3,7 @@ ghost use mathlib.Core.Path.{_≡_};
 ghost use lib.ListN.{length};
 ghost use Rattle.run.specs.Rows.{startRow, continueRow};
 ghost use Rattle.run.specs.Steps.{started, stamped, labelsIn, advanced};
-use refusal::outcome_number;
+use base::outcome_number;
 use run::Run;
 
 #[repr(C)]

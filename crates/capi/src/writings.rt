@@ -4,7 +4,7 @@ ghost use lib.ListN.{length};
 ghost use Rattle.writing.specs.Rows.{writeRow, rewriteRow};
 ghost use Rattle.writing.specs.Possible.{writtenOf};
 ghost use Rattle.writing.specs.Steps.{started, labelsIn, advanced};
-use refusal::outcome_number;
+use base::outcome_number;
 use writing::Writing;
 
 #[repr(C)]

@@ -14,7 +14,7 @@ use Rattle.opening.specs.Rows.{openRow, reopenRow}
 use Rattle.opening.specs.Names.{openOf}
 use Rattle.opening.specs.Steps as openings
 use Rattle.proof_file.specs.declared.place.Place.{Place}
-use Rattle.challenges.specs.Challenge.{challengeRow, challenged}
+use Rattle.file_head.specs.Challenge.{challengeRow, challenged}
 use Rattle.file_head.specs.Head.{headRefusal, headDepth, headCount, headOf, partStart, partLength}
 use Rattle.writing.specs.declared.Writing.{Writing}
 use Rattle.writing.specs.Rows.{writeRow, rewriteRow}

@@ -10,12 +10,12 @@ use borrow.Author.Tests.{lt-ltb, le-ltb, not-false}
 use Rattle.base.specs.Choice.{pick, every}
 use Rattle.base.specs.Bytes.{written}
 use Rattle.base.specs.Limits.{maxDepth, maxChallenges}
-use Rattle.refusal.specs.declared.Refusal.{Refusal}
-use Rattle.refusal.specs.declared.Refusal.the-variants.{ShortList}
-use Rattle.refusal.specs.Number.{numberOf}
-use Rattle.refusal.specs.Row.{outside}
-use Rattle.refusal.proofs.Ranges.{range-of}
-use Rattle.refusal.proofs.RowLaws.{NoneHolds, none-holds, row-refused, row-passed, not-done}
+use Rattle.base.specs.declared.refusal.Refusal.{Refusal}
+use Rattle.base.specs.declared.refusal.Refusal.the-variants.{ShortList}
+use Rattle.base.specs.Number.{numberOf}
+use Rattle.base.specs.Row.{outside}
+use Rattle.base.proofs.Ranges.{range-of}
+use Rattle.base.proofs.RowLaws.{NoneHolds, none-holds, row-refused, row-passed, not-done}
 use Rattle.chain_theory.specs.Ways.{chain}
 use Rattle.chain_theory.specs.Planning.{isLeaf, sorted, planFrom, plan}
 use Rattle.chain_theory.proofs.Sorting.{every-sorted, length-sorted}

@@ -6,7 +6,7 @@ use mathlib.Core.List.{List, [], _∷_}
 use lib.ListN.{length}
 use Rattle.base.specs.Choice.{every}
 use Rattle.base.specs.Limits.{maxDepth, maxChallenges}
-use Rattle.refusal.specs.Row.{firstOf, outside}
+use Rattle.base.specs.Row.{firstOf, outside}
 use Rattle.chain_theory.specs.Planning.{isLeaf}
 
 -- at most 200 leaves of a depth of at most 40

@@ -1,2 +1,3 @@
 pub mod PlanRow
 pub mod Leaves
+pub mod Place

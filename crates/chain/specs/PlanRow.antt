@@ -7,7 +7,7 @@ use lib.ListN.{length}
 use Rattle.base.specs.Choice.{pick, every}
 use Rattle.base.specs.Bytes.{written}
 use Rattle.base.specs.Limits.{maxDepth, maxChallenges}
-use Rattle.refusal.specs.Row.{firstOf, outside, isDone}
+use Rattle.base.specs.Row.{firstOf, outside, isDone}
 use Rattle.chain_theory.specs.Planning.{isLeaf}
 use Rattle.chain_theory.specs.Ways.{chain, chainCodes}
 

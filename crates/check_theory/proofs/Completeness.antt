@@ -10,7 +10,7 @@ use Rattle.base.specs.Limits as limits
 use Rattle.base.proofs.ListsLaws.{test-same, tells-bytes}
 use Rattle.tree.specs.Disagreement.{Given32}
 use Rattle.tree.specs.Openings.{openingSize}
-use Rattle.challenges.specs.Challenge.{challengeLeaf}
+use Rattle.file_head.specs.Challenge.{challengeLeaf}
 use Rattle.file_head.specs.Layout.{headNumbers, file}
 use Rattle.file_head.specs.Head.{numbers, headOf, lengthFrom, statementAt, rootAt, openingAt}
 use Rattle.opening_check.specs.OpeningCheck.{givenBy}

@@ -20,7 +20,7 @@ use Rattle.file_head.specs.Head.{numbers, headOf, statementAt, rootAt, openingA
 use Rattle.file_head.proofs.WritingLaws.{size-numbers}
 use Rattle.check_theory.specs.IsProof.{nth}
 use Rattle.check_theory.specs.Heads.{IsHead, SameHead}
-use Rattle.refusal.proofs.Ranges.{within}
+use Rattle.base.proofs.Ranges.{within}
 
 -- ---- the numbers
 module _ (n t : ℕ) (depth : IsDepth n) (count : IsCount t) (rest : List ℕ) where

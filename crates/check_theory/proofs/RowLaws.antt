@@ -10,11 +10,11 @@ use borrow.Author.Tests.{leb-false, lt-leb, ltb-false, le-ltb, not-false}
 use Rattle.base.specs.Lists.{sameBytes}
 use Rattle.base.specs.Limits.{maxDepth}
 use Rattle.base.proofs.ListsLaws.{test-same, tells-bytes}
-use Rattle.refusal.proofs.RowLaws.{NoneHolds, none-holds}
-use Rattle.refusal.proofs.Ranges.{within, range-of}
-use Rattle.refusal.specs.Row.{firstOf, outside}
+use Rattle.base.proofs.RowLaws.{NoneHolds, none-holds}
+use Rattle.base.proofs.Ranges.{within, range-of}
+use Rattle.base.specs.Row.{firstOf, outside}
 use Rattle.tree.specs.Openings.{LeafRight, RootRight, openingSize}
-use Rattle.label.specs.Rule.{stampRule}
+use Rattle.labelling.specs.Rule.{stampRule}
 use Rattle.opening_check.specs.OpeningCheck.{givenBy, leafWrong, rootWrong, rightRow, openingRow}
 use Rattle.check_theory.specs.IsProof.{OpeningRight, RightAlone}
 

@@ -14,14 +14,14 @@ use Rattle.base.specs.Limits as limits
 use Rattle.base.specs.Lists.{EachOf, sameBytes}
 use Rattle.base.proofs.ChoiceLaws.{both-first, both-second}
 use Rattle.base.proofs.ListsLaws.{tells-bytes}
-use Rattle.refusal.specs.Row.{outside}
+use Rattle.base.specs.Row.{outside}
 use Rattle.tree.specs.Labels.{cut}
 use Rattle.tree.proofs.Cut.{length-cut, cut-sizes, joined-cut}
 use Rattle.groups.specs.Groups.{groups}
 use Rattle.groups.specs.Reading.{readAt}
 use Rattle.groups.proofs.ShortestOnly.{Shortest, only-shortest}
 use Rattle.tree.specs.Openings.{openingSize}
-use Rattle.challenges.specs.Challenge.{challengeLeaf}
+use Rattle.file_head.specs.Challenge.{challengeLeaf}
 use Rattle.file_head.specs.Layout.{numberGroups, headNumbers, head, file}
 use Rattle.file_head.specs.Head.{HeadAnswer, numbers, notRead, headOf, lengthFrom, statementAt, rootAt, openingAt}
 use Rattle.proof_file.specs.FileCheck.{foundIn, openingsFrom, wanted, fileRest, fileCheck}
@@ -29,7 +29,7 @@ use Rattle.file_head.proofs.HeadLaws.{passed, head-number}
 use Rattle.check_theory.specs.IsProof.{OpeningRight, nth, IsProof}
 use Rattle.check_theory.specs.Heads.{NumbersRead}
 use Rattle.base.proofs.ChoiceLaws.{second-picked}
-use Rattle.refusal.proofs.Ranges.{range-of}
+use Rattle.base.proofs.Ranges.{range-of}
 use Rattle.check_theory.proofs.RowLaws.{done-right}
 use Rattle.check_theory.proofs.Reading.{opening-back}
 use Rattle.check_theory.proofs.Openings.{rowOf, accepted-rows}

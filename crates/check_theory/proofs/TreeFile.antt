@@ -20,8 +20,8 @@ use Rattle.tree.specs.TreeOpening.{treeOpening}
 use Rattle.tree.proofs.Labelling.{label-length}
 use Rattle.tree.proofs.OpeningLaws.{tree-right, tree-sized}
 use Rattle.base.proofs.ChoiceLaws.{lt-or-le}
-use Rattle.label.specs.Rule.{stampRule}
-use Rattle.challenges.specs.Challenge.{challengeLeaf}
+use Rattle.labelling.specs.Rule.{stampRule}
+use Rattle.file_head.specs.Challenge.{challengeLeaf}
 use Rattle.file_head.specs.Layout.{fileSize}
 use Rattle.opening_check.specs.OpeningCheck.{givenBy}
 use Rattle.proof_file.specs.FileCheck.{fileCheck}
@@ -29,8 +29,8 @@ use Rattle.check_theory.specs.IsProof.{OpeningRight, nth, IsProof}
 use Rattle.check_theory.specs.TreeFile.{rootOf, openingOf, challengedOpening, treeOpenings, treeFile}
 use Rattle.check_theory.proofs.Parts.{each-by}
 use Rattle.check_theory.proofs.Reading.{file-size-is}
-use Rattle.label.proofs.RuleLaws.{stamp-hash}
-use Rattle.challenges.proofs.Leaves.{challengeLeaf-small}
+use Rattle.labelling.proofs.RuleLaws.{stamp-hash}
+use Rattle.file_head.proofs.Leaves.{challengeLeaf-small}
 use Rattle.check_theory.proofs.GivenLaws.{right-same}
 use Rattle.check_theory.proofs.Completeness.{proof-accepted}
 

@@ -6,8 +6,8 @@ use lib.ListN.{length, getD}
 use Rattle.base.specs.Limits.{IsDepth, IsCount}
 use Rattle.base.specs.Lists.{EachOf}
 use Rattle.tree.specs.Openings.{Right, openingSize}
-use Rattle.label.specs.Rule.{stampRule}
-use Rattle.challenges.specs.Challenge.{challengeLeaf}
+use Rattle.labelling.specs.Rule.{stampRule}
+use Rattle.file_head.specs.Challenge.{challengeLeaf}
 use Rattle.file_head.specs.Layout.{file}
 use Rattle.opening_check.specs.OpeningCheck.{givenBy}
 

@@ -5,8 +5,8 @@ use Rattle.base.specs.Bytes.{joined}
 use Rattle.tree.specs.Nodes.{root}
 use Rattle.tree.specs.Labels.{Label, label}
 use Rattle.tree.specs.Openings.{openingNodes}
-use Rattle.label.specs.Rule.{stampRule}
-use Rattle.challenges.specs.Challenge.{challengeLeaf}
+use Rattle.labelling.specs.Rule.{stampRule}
+use Rattle.file_head.specs.Challenge.{challengeLeaf}
 use Rattle.file_head.specs.Layout.{file}
 
 -- the root's label, in an edition's tree

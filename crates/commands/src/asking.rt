@@ -3,9 +3,9 @@ use crate::advice::note_empty;
 use crate::heads::wanted_in;
 use crate::telling::tell_chain;
 use crate::telling::tell_verdict;
-use file_reading::load_proof;
-use file_reading::state_report;
-use saving::empty_file;
+use files::empty_file;
+use files::load_proof;
+use files::state_report;
 
 // The verdict by the depth and count of the head, or by those given; or the chain.
 enum Asked {

@@ -4,13 +4,13 @@ ghost use Rattle.base.specs.Bytes.{zeros};
 ghost use Rattle.planning.specs.Output.{places, maxOutput};
 use crate::heads::wanted_in;
 use base::MAX_CHAIN;
+use drawing_text::clash_lines;
 use drawing_text::put_drawing;
+use drawing_text::verdict;
 use lines::complain;
 use lines::say;
 use lines::say_text;
 use planning::MAX_OUTPUT;
-use verdict_lines::clash_lines;
-use verdict_lines::verdict;
 
 // Places for the longest chain.
 fn empty_list() -> [u64; MAX_CHAIN]
@@ -36,7 +36,7 @@ fn write_out(text: &[u8], length: usize, out: i32, err: i32) {
     }
 }
 
-// Prints `verdictText` of verdict_lines' specs/Verdict.antt: of the drawing, the depth and count wanted and the file's size.
+// Prints `verdictText` of drawing_text's specs/Verdict.antt: of the drawing, the depth and count wanted and the file's size.
 pub fn tell_verdict(file: &[u8], statement: [u8; 32], depth: u64, count: u64, out: i32, err: i32) {
     let mut list = empty_list();
     let drawn = draw::draw(file, statement, depth, count, &mut list);
@@ -46,7 +46,7 @@ pub fn tell_verdict(file: &[u8], statement: [u8; 32], depth: u64, count: u64, ou
     write_out(&text, line.length, out, err)
 }
 
-// Prints `chainText` of verdict_lines' specs/Text.antt: of the drawing by the depth and count of the head.
+// Prints `chainText` of drawing_text's specs/Text.antt: of the drawing by the depth and count of the head.
 pub fn tell_chain(file: &[u8], statement: [u8; 32], out: i32, err: i32) {
     let wanted = wanted_in(file);
     let depth = wanted.depth;
@@ -58,7 +58,7 @@ pub fn tell_chain(file: &[u8], statement: [u8; 32], out: i32, err: i32) {
     write_out(&text, length, out, err)
 }
 
-// Prints `clashLines` of verdict_lines' specs/Verdict.antt.
+// Prints `clashLines` of drawing_text's specs/Verdict.antt.
 pub fn say_clash(i: u64, j: u64, level: u64, first: [u8; 105], second: [u8; 105], out: i32) {
     say(out, clash_lines(i, j, level, first, second));
 }

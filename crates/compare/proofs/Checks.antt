@@ -9,17 +9,17 @@ use lib.Dec.{ltb}
 use lib.ListN.{length}
 use borrow.Author.Tests.{lt-ltb, le-ltb, ltb-false}
 use Rattle.base.specs.Limits.{maxDepth, maxChallenges, maxOpenings, IsDepth, IsCount}
-use Rattle.refusal.specs.declared.Refusal.{Refusal}
-use Rattle.refusal.specs.Number.{numberOf}
-use Rattle.refusal.specs.Row.{firstOf, isDone}
-use Rattle.refusal.proofs.RowLaws.{NoneHolds, none-holds, row-refused, row-passed, not-done}
-use Rattle.refusal.proofs.Ranges.{range-of}
+use Rattle.base.specs.declared.refusal.Refusal.{Refusal}
+use Rattle.base.specs.Number.{numberOf}
+use Rattle.base.specs.Row.{firstOf, isDone}
+use Rattle.base.proofs.RowLaws.{NoneHolds, none-holds, row-refused, row-passed, not-done}
+use Rattle.base.proofs.Ranges.{range-of}
 use Rattle.tree.specs.Openings.{openingSize}
 use Rattle.chain.specs.Leaves.{leavesRow}
 use Rattle.chain.proofs.Rows.{leavesChecks, passed}
 use Rattle.compare.specs.Comparison.{compareRow, compared, firstDisagreement}
 use Rattle.compare.specs.declared.Pair.the-variants.{Agree}
-use Rattle.child_table.specs.Table.{Sized}
+use Rattle.compare.specs.Table.{Sized}
 
 -- the checks that follow those of planning
 abbrev sizeChecks : ℕ → List ℕ → ℕ → List (Bool × ℕ)

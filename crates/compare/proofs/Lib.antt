@@ -3,3 +3,4 @@ pub mod FirstPairLaws
 pub mod Lookup
 pub mod Turns
 pub mod Cells
+pub mod Filling

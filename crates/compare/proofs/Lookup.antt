@@ -17,18 +17,18 @@ use Rattle.tree.specs.Disagreement.{Given32, wayNode, shared, childrenKnown}
 use Rattle.tree.proofs.Cut.{labels-back}
 use Rattle.tree.proofs.Clash.{children-count, children-sized, input-children, labels-agree, labels-disagree, unshared-agrees}
 use Rattle.tree.specs.Openings.{openingSize}
-use Rattle.label.specs.Rule.{stampRule}
-use Rattle.label.proofs.RuleLaws.{stamp-hash}
+use Rattle.labelling.specs.Rule.{stampRule}
+use Rattle.labelling.proofs.RuleLaws.{stamp-hash}
 use Rattle.base.proofs.Parts.{part-length}
 use Rattle.opening_check.proofs.OneOpening.{given-labels}
 use Rattle.compare.specs.declared.Pair.{Pair}
 use Rattle.compare.specs.declared.Pair.the-variants.{Agree, Disagree}
 use Rattle.compare.specs.FirstPair.{firstPair}
-use Rattle.child_table.specs.Table.{leafOf}
+use Rattle.compare.specs.Table.{leafOf}
 use Rattle.compare.specs.Comparison.{givenOf, disagreement, firstDisagreement, inputOf, firstInput, secondInput}
-use Rattle.child_table.specs.Table.{Sized, TableOf, cell, tableDisagreement, rowSize, tableSize}
+use Rattle.compare.specs.Table.{Sized, TableOf, cell, tableDisagreement, rowSize, tableSize}
 use Rattle.compare.proofs.FirstPairLaws.{pair-lies, pair-same}
-use Rattle.child_table.proofs.Filling.{opening-fits}
+use Rattle.compare.proofs.Filling.{opening-fits}
 
 -- a part of a part
 part-inside : (size from most : ℕ) (bytes : List ℕ) → from + size ≤ most → most ≤ length bytes

@@ -15,8 +15,8 @@ use Rattle.tree.proofs.Clash.{unshared-below}
 use Rattle.base.proofs.Parts.{part-length}
 use Rattle.compare.specs.declared.Pair.the-variants.{Agree, Disagree}
 use Rattle.compare.specs.FirstPair.{levelsFrom}
-use Rattle.child_table.specs.Table.{leafOf}
-use Rattle.child_table.specs.Table.{cell, tableDisagreement, rowSize}
+use Rattle.compare.specs.Table.{leafOf}
+use Rattle.compare.specs.Table.{cell, tableDisagreement, rowSize}
 use Rattle.compare.proofs.FirstPairLaws.{level-found, level-passed, levels-none}
 
 pub cell-length : (n : ℕ) (table : List ℕ) (i l : ℕ) → 1 ≤ i → rowSize * i ≤ length table → l < n → n ≤ maxDepth → length (cell n table i l) ≡ 64

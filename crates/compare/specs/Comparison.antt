@@ -7,14 +7,14 @@ use lib.ListN.{length, take, drop}
 use Rattle.base.specs.Choice.{pick, every}
 use Rattle.base.specs.Bytes.{zeros}
 use Rattle.base.specs.Limits.{maxDepth, maxChallenges}
-use Rattle.refusal.specs.Row.{firstOf, outside, isDone}
+use Rattle.base.specs.Row.{firstOf, outside, isDone}
 use Rattle.tree.specs.Labels.{Rule}
 use Rattle.tree.specs.Openings.{Given, inputAt, openingSize}
 use Rattle.tree.specs.Disagreement.{wayNode, disagreeAt}
 use Rattle.chain_theory.specs.Planning.{isLeaf}
-use Rattle.label.specs.Rule.{stampRule}
+use Rattle.labelling.specs.Rule.{stampRule}
 use Rattle.opening_check.specs.OpeningCheck.{givenBy}
-use Rattle.child_table.specs.Table.{leafOf}
+use Rattle.compare.specs.Table.{leafOf}
 use Rattle.compare.specs.declared.Pair.{Pair}
 use Rattle.compare.specs.declared.Pair.the-variants.{Agree, Disagree}
 use Rattle.compare.specs.FirstPair.{firstPair}

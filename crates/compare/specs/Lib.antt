@@ -1,2 +1,3 @@
 pub mod FirstPair
 pub mod Comparison
+pub mod Table

@@ -6,11 +6,11 @@ ghost use Rattle.base.specs.Limits.{maxDepth};
 ghost use Rattle.tree.specs.Nodes.{node};
 ghost use Rattle.tree.specs.Labels.{documentInput, inLabels};
 ghost use Rattle.tree.specs.Disagreement.{wayNode};
-ghost use Rattle.child_table.specs.Table.{leafOf};
-ghost use Rattle.child_table.specs.Table.{Inside, cell};
-use child_table::cell_at;
-use child_table::way_position;
-use label::put_input;
+ghost use Rattle.compare.specs.Table.{leafOf};
+ghost use Rattle.compare.specs.Table.{Inside, cell};
+use crate::table::cell_at;
+use crate::table::way_position;
+use labelling::put_input;
 
 // The input of a node, over both child labels.
 fn inner_input(

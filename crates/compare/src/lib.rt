@@ -1,9 +1,10 @@
 // The comparison of openings: the first pair that disagrees, and both hash inputs there.
 mod inputs; // inputs.rt: the hash input at a node
 mod pairs; // pairs.rt: the first pair
+mod table; // table.rt: both child labels of every node on the ways
 mod whole; // whole.rt: the checks, and the comparison
 
-use refusal::Outcome;
+use base::Outcome;
 pub use whole::compare;
 
 // No pair of openings disagrees, or the first that does: i < j, from 1, and the smallest level.

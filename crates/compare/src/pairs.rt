@@ -5,12 +5,12 @@ ghost use lib.ListN.{length};
 ghost use Rattle.base.specs.Lists.{sameBytes};
 ghost use Rattle.base.specs.Limits.{maxDepth};
 ghost use Rattle.tree.specs.Disagreement.{shared};
-ghost use Rattle.child_table.specs.Table.{leafOf};
+ghost use Rattle.compare.specs.Table.{leafOf};
 ghost use Rattle.compare.specs.FirstPair.{levelsFrom, secondsFrom, firstPair};
-ghost use Rattle.child_table.specs.Table.{Inside, tableDisagreement};
+ghost use Rattle.compare.specs.Table.{Inside, tableDisagreement};
 use crate::Pair;
-use child_table::cell_at;
-use child_table::way_position;
+use crate::table::cell_at;
+use crate::table::way_position;
 
 // Whether the ways of openings i and j share their node of this level.
 fn shares(n: u64, leaves: &[u64], i: u64, j: u64, level: u64) -> bool

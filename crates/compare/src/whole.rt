@@ -3,19 +3,19 @@ ghost use mathlib.Core.Path.{_≡_};
 ghost use lib.ListN.{length};
 ghost use Rattle.base.specs.Limits.{edition};
 ghost use Rattle.base.specs.Bytes.{zeros};
-ghost use Rattle.refusal.specs.Number.{outcomeNumber};
+ghost use Rattle.base.specs.Number.{outcomeNumber};
 ghost use Rattle.compare.specs.declared.Pair.the-variants.{Agree};
 ghost use Rattle.compare.specs.Comparison.{compareRow, compared, firstDisagreement, firstInput, secondInput};
 use crate::Compared;
 use crate::Pair;
 use crate::inputs::input_at;
 use crate::pairs::first_pair;
+use crate::table::empty_table;
+use crate::table::fill_table;
 use base::EDITION;
+use base::Outcome;
+use base::Refusal;
 use chain::check_leaves;
-use child_table::empty_table;
-use child_table::fill_table;
-use refusal::Outcome;
-use refusal::Refusal;
 
 // The checks: those of planning, then the size.
 fn check(depth: u64, leaves: &[u64], size: usize) -> Outcome

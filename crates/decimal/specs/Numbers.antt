@@ -5,7 +5,7 @@ use mathlib.Core.List.{List, [], _∷_}
 use lib.Dec.{ltb, leb, eqb}
 use Rattle.base.specs.Choice.{pick, both}
 use Rattle.base.specs.Limits.{maxChallenges}
-use Rattle.refusal.specs.Row.{either}
+use Rattle.base.specs.Row.{either}
 
 -- how many numbers of an input are kept: a depth and one leaf more than any plan takes
 abbrev pub maxNumbers : ℕ

@@ -11,8 +11,8 @@ use borrow.Author.Tests.{leb-true, leb-false}
 use Rattle.base.specs.Choice.{pick, both, every}
 use Rattle.base.specs.Bytes.{zeros}
 use Rattle.base.specs.Limits.{maxHashed, edition}
-use Rattle.refusal.specs.Row.{outside, either, memoryOver}
-use Rattle.refusal.proofs.RowLaws.{some-refused}
+use Rattle.base.specs.Row.{outside, either, memoryOver}
+use Rattle.base.proofs.RowLaws.{some-refused}
 use Rattle.sha256.specs.declared.Hash.{Hash}
 use Rattle.sha256.specs.Portions.{newHash, tooMany, updateRow, updateState, finishRow, finishDigest, digestRow, digestAnswer}
 use Rattle.machine.specs.Machines.{Machine, doneIn, advanced}
@@ -20,7 +20,7 @@ use Rattle.machine.proofs.StepLaws.{done-refused, advanced-refused}
 use Rattle.tree.specs.Walk.{nodesIn}
 use Rattle.tree.specs.Store.{storeSize}
 use Rattle.tree.specs.Openings.{LeafRight, RootRight, openingSize}
-use Rattle.label.specs.Rule.{stampRule}
+use Rattle.labelling.specs.Rule.{stampRule}
 use Rattle.run.specs.declared.Run.{Run}
 use Rattle.run.specs.Rows.{impossible, startRow, continueRow}
 use Rattle.run.specs.Steps as runs
@@ -31,7 +31,7 @@ use Rattle.opening.specs.declared.Opening.{Opening}
 use Rattle.opening.specs.Rows.{nodesAnew, openRow, reopenRow}
 use Rattle.opening.specs.Steps as openings
 use Rattle.opening_check.specs.OpeningCheck.{givenBy, leafWrong, rootWrong, openingRow}
-use Rattle.challenges.specs.Challenge.{challengeRow, challenged}
+use Rattle.file_head.specs.Challenge.{challengeRow, challenged}
 use Rattle.file_head.specs.Layout.{fileSize, headRow, headWritten}
 use Rattle.chain_theory.specs.Ways.{chain}
 use Rattle.chain_theory.specs.Planning.{isLeaf}

@@ -12,8 +12,8 @@ use Rattle.base.specs.Choice.{pick, both, every}
 use Rattle.base.specs.Lists.{sameBytes}
 use Rattle.base.proofs.ChoiceLaws.{both-first, both-second, true-false}
 use Rattle.base.proofs.ListsLaws.{tells-bytes, test-false}
-use Rattle.refusal.specs.Row.{firstOf, outside, either}
-use Rattle.refusal.proofs.RowLaws.{NoneHolds, numbered, none-holds, row-passed}
+use Rattle.base.specs.Row.{firstOf, outside, either}
+use Rattle.base.proofs.RowLaws.{NoneHolds, numbered, none-holds, row-passed}
 use Rattle.demands.specs.Rows.{Row, IsFirst, Outside}
 
 -- ---- rows as tests

@@ -13,12 +13,12 @@ use Rattle.sha256.proofs.Portions.{in-portions}
 use Rattle.tree.specs.Walk.{nodesIn}
 use Rattle.tree.specs.Labels.{ordered, tag, inputHead, documentInput}
 use Rattle.tree.proofs.Labelling.{label-labels, labelling-unique}
-use Rattle.label.specs.Rule.{stampRule}
+use Rattle.labelling.specs.Rule.{stampRule}
 use Rattle.run.specs.Steps as runs
 use Rattle.run.specs.Steps.{Stamped}
 use Rattle.opening.specs.Rows.{nodesAnew}
 use Rattle.opening.specs.Steps as openings
-use Rattle.challenges.specs.Challenge.{challengeInput, challengeLeaf, challenged}
+use Rattle.file_head.specs.Challenge.{challengeInput, challengeLeaf, challenged}
 use Rattle.file_head.specs.Layout.{fileSize}
 use Rattle.machine.specs.Calls.{total, afterCalls}
 use Rattle.run_theory.specs.Runs.{atStart, called, reachedAt}
@@ -27,8 +27,8 @@ use Rattle.run_theory.proofs.RunLaws.{run-reached, called-cut, finished-store}
 use Rattle.run_theory.proofs.OpeningCalls.{started-fits, startedOut-fits}
 use Rattle.run_theory.proofs.Finished.{finished-length, finished-opening}
 use Rattle.check_theory.specs.TreeFile.{treeFile, openingOf}
-use Rattle.challenges.proofs.Leaves.{challengeLeaf-small}
-use Rattle.challenges.proofs.RowLaws.{challenge-done}
+use Rattle.file_head.proofs.Leaves.{challengeLeaf-small}
+use Rattle.file_head.proofs.RowLaws.{challenge-done}
 use Rattle.check_theory.proofs.RowLaws.{opening-done, done-opening}
 use Rattle.check_theory.proofs.TreeFile.{opening-size, opening-right, length-treeFile}
 use Rattle.check_theory.proofs.Accepted.{exactly-proofs}

@@ -13,7 +13,7 @@ use Rattle.base.specs.Choice.{pick, both}
 use Rattle.base.specs.Lists.{sameBytes}
 use Rattle.base.proofs.ChoiceLaws.{both-first, both-second, both-false, true-false}
 use Rattle.base.proofs.ListsLaws.{tells-bytes, test-same}
-use Rattle.refusal.specs.Row.{outside}
+use Rattle.base.specs.Row.{outside}
 use Rattle.groups.specs.Reading.{Answer, value, refused, ended, readFrom, readAt, checked}
 use Rattle.groups.proofs.Steps.{read-none, read-end, read-last, read-more}
 use Rattle.base.proofs.ChoiceLaws.{lt-or-le}

@@ -11,7 +11,7 @@ use borrow.Author.Tests.{lt-ltb, le-ltb, eq-eqb, ne-eqb, le-leb, lt-leb}
 use lib.Dec.{ltb, leb, eqb}
 use lib.ListN.{length, getD}
 use Rattle.base.specs.Choice.{pick, both}
-use Rattle.refusal.specs.Row.{either}
+use Rattle.base.specs.Row.{either}
 use Rattle.groups.specs.Reading.{Answer, value, refused, ended, readFrom, readAt}
 use Rattle.demands.specs.Rows.{IsFirst, byteAt, GoOn, NumberEnds, NotLast, NotShortest, readingNumber}
 use Rattle.demands.specs.Demand1.{answerNumber, ReadingNumber}

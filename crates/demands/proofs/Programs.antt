@@ -7,7 +7,7 @@ use mathlib.Core.Bool.{Bool, true, false, not}
 use mathlib.Core.List.{List, [], _∷_}
 use lib.Dec.{ltb}
 use lib.ListN.{length, getD, drop}
-use Rattle.refusal.proofs.RowLaws.{some-refused}
+use Rattle.base.proofs.RowLaws.{some-refused}
 use Rattle.groups.specs.Groups.{groupsOf}
 use Rattle.groups.specs.Writing.{putRow, putCount, outputAfter}
 use Rattle.tree.specs.Openings.{openingSize}

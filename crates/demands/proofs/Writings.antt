@@ -21,9 +21,9 @@ use Rattle.opening.specs.Rows.{nodesAnew}
 use Rattle.opening.specs.Steps as openings
 use Rattle.opening_places.specs.Places.{copiedAll}
 use Rattle.opening.specs.Names.{openingOf, openOf}
-use Rattle.challenges.specs.Challenge.{challengeLeaf}
+use Rattle.file_head.specs.Challenge.{challengeLeaf}
 use Rattle.file_head.specs.Layout.{head, headSize, openingFrom, fileSize}
-use Rattle.challenges.proofs.Leaves.{challengeLeaf-small}
+use Rattle.file_head.proofs.Leaves.{challengeLeaf-small}
 use Rattle.check_theory.proofs.Reading.{length-head}
 use Rattle.writing.specs.Rows.{rewriteRow}
 use Rattle.writing.specs.Steps.{Written, partOf, begun, mayFollow, followed, newWriting, stepped, remaining, writingMachine, steps}

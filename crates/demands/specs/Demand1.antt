@@ -22,7 +22,7 @@ use Rattle.opening.specs.Steps as openings
 use Rattle.opening.specs.Steps.{Open, noOpening}
 use Rattle.opening.specs.Names.{openOf}
 use Rattle.opening_check.specs.OpeningCheck.{openingRow}
-use Rattle.challenges.specs.Challenge.{challengeRow, challenged}
+use Rattle.file_head.specs.Challenge.{challengeRow, challenged}
 use Rattle.file_head.specs.Layout.{fileSize, headRow, headWritten}
 use Rattle.file_head.specs.Head as read
 use Rattle.file_head.specs.Head.{HeadAnswer, notRead, headOf}

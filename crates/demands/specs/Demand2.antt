@@ -12,12 +12,12 @@ use Rattle.tree.specs.Nodes.{Node, root, InTree, parents}
 use Rattle.tree.specs.Labels.{Label, label}
 use Rattle.tree.specs.Store.{slot}
 use Rattle.tree.specs.Openings.{openingNodes, Right}
-use Rattle.label.specs.Rule.{stampRule}
+use Rattle.labelling.specs.Rule.{stampRule}
 use Rattle.run.specs.Steps as runs
 use Rattle.run.specs.Steps.{Stamped}
 use Rattle.opening.specs.Steps as openings
 use Rattle.opening_check.specs.OpeningCheck.{givenBy, openingRow}
-use Rattle.challenges.specs.Challenge.{challengeWord, bigEndianValue, challenged}
+use Rattle.file_head.specs.Challenge.{challengeWord, bigEndianValue, challenged}
 use Rattle.file_head.specs.Layout.{fileSize, file}
 use Rattle.proof_file.specs.FileCheck.{fileCheck}
 use Rattle.run_theory.specs.Reached.{runAfter, storeAfter}

@@ -8,12 +8,12 @@ use lib.ListN.{length, getD, drop}
 use Rattle.base.specs.Limits.{edition}
 use Rattle.base.specs.Choice.{pick}
 use Rattle.tree.specs.Openings.{LeafRight, RootRight}
-use Rattle.label.specs.Rule.{stampRule}
+use Rattle.labelling.specs.Rule.{stampRule}
 use Rattle.groups.specs.Groups.{groupsOf}
 use Rattle.run.specs.declared.Run.{Run}
 use Rattle.opening.specs.declared.Opening.{Opening}
 use Rattle.opening_check.specs.OpeningCheck.{givenBy}
-use Rattle.challenges.specs.Challenge.{challengeLeaf}
+use Rattle.file_head.specs.Challenge.{challengeLeaf}
 use Rattle.file_head.specs.Layout.{fileSize}
 use Rattle.file_head.specs.Head.{statementAt, rootAt, openingAt}
 use Rattle.chain_theory.specs.Ways.{chain}

@@ -7,11 +7,11 @@ use Prim.Native.Nat.{ℕ, _<_}
 use native.Mathlib.Omega.{arith}
 use lib.ListN.{getD}
 use Rattle.base.specs.Limits.{edition}
-use Rattle.refusal.specs.declared.Refusal.{Refusal}
-use Rattle.refusal.specs.declared.Check.{Check}
-use Rattle.refusal.specs.declared.Check.the-variants.{Accepted, Rejected}
-use Rattle.refusal.specs.Number.{codeOf}
-use Rattle.refusal.proofs.Bounds.{number-some}
+use Rattle.base.specs.declared.refusal.Refusal.{Refusal}
+use Rattle.base.specs.declared.refusal.Check.{Check}
+use Rattle.base.specs.declared.refusal.Check.the-variants.{Accepted, Rejected}
+use Rattle.base.specs.Number.{codeOf}
+use Rattle.base.proofs.Bounds.{number-some}
 use Rattle.proof_file.specs.FileCheck.{fileCheck}
 use Rattle.check_theory.specs.IsProof.{IsProof}
 use Rattle.demands.proofs.Demand2.{demand2}

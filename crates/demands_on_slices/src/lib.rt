@@ -8,8 +8,8 @@ ghost use Rattle.base.specs.Limits.{edition};
 ghost use Rattle.check_theory.specs.IsProof.{IsProof};
 ghost use Rattle.draw.specs.Drawing.{drawingAnswer, drawingOf};
 ghost use Rattle.demands.specs.Demand3.{Drawn};
+use base::Check;
 use proof_file::check_file;
-use refusal::Check;
 
 // Demand 2: a file is accepted exactly if it is a proof.
 pub fn is_proof(file: &[u8], statement: [u8; 32], depth: u64, count: u64) -> bool

@@ -9,17 +9,17 @@ use lib.Seq.{take-all}
 use Rattle.base.specs.Choice.{every}
 use Rattle.base.specs.Bytes.{zeros}
 use Rattle.base.specs.Limits.{edition, maxDepth, maxChallenges, IsDepth, IsCount}
-use Rattle.refusal.specs.declared.Refusal.{Refusal}
-use Rattle.refusal.specs.declared.Check.{Check}
-use Rattle.refusal.specs.declared.Check.the-variants.{Rejected}
-use Rattle.refusal.specs.Number.{numberOf, codeOf}
-use Rattle.refusal.specs.Row.{isDone}
-use Rattle.refusal.proofs.Bounds.{number-some}
-use Rattle.refusal.proofs.RowLaws.{some-refused}
+use Rattle.base.specs.declared.refusal.Refusal.{Refusal}
+use Rattle.base.specs.declared.refusal.Check.{Check}
+use Rattle.base.specs.declared.refusal.Check.the-variants.{Rejected}
+use Rattle.base.specs.Number.{numberOf, codeOf}
+use Rattle.base.specs.Row.{isDone}
+use Rattle.base.proofs.Bounds.{number-some}
+use Rattle.base.proofs.RowLaws.{some-refused}
 use Rattle.tree.specs.Openings.{openingSize}
 use Rattle.chain_theory.specs.Ways.{chain}
 use Rattle.chain_theory.specs.Planning.{isLeaf}
-use Rattle.refusal.proofs.Ranges.{in-range}
+use Rattle.base.proofs.Ranges.{in-range}
 use Rattle.file_head.specs.Layout.{headNumbers}
 use Rattle.file_head.specs.Head.{headOf, lengthFrom, rootAt}
 use Rattle.proof_file.specs.FileCheck.{foundIn, fileCheck}

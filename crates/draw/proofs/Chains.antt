@@ -7,12 +7,12 @@ use mathlib.Core.List.{List}
 use lib.Dec.{ltb}
 use lib.ListN.{length}
 use Rattle.base.specs.Choice.{pick}
-use Rattle.refusal.specs.declared.Refusal.{Refusal}
-use Rattle.refusal.specs.declared.Outcome.{Outcome}
-use Rattle.refusal.specs.declared.Outcome.the-variants.{Refused}
-use Rattle.refusal.specs.Number.{numberOf, outcomeNumber}
-use Rattle.refusal.proofs.Bounds.{number-some}
-use Rattle.refusal.proofs.RowLaws.{refused-number, not-done}
+use Rattle.base.specs.declared.refusal.Refusal.{Refusal}
+use Rattle.base.specs.declared.refusal.Outcome.{Outcome}
+use Rattle.base.specs.declared.refusal.Outcome.the-variants.{Refused}
+use Rattle.base.specs.Number.{numberOf, outcomeNumber}
+use Rattle.base.proofs.Bounds.{number-some}
+use Rattle.base.proofs.RowLaws.{refused-number, not-done}
 use Rattle.chain_theory.specs.Ways.{chain, chainCodes}
 use Rattle.chain.specs.Leaves.{leavesRow}
 use Rattle.chain.specs.PlanRow.{planRow, plannedCount, plannedList}

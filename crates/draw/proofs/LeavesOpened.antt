@@ -15,10 +15,10 @@ use Rattle.base.proofs.Zeros.{drop-zeros}
 use Rattle.chain_theory.specs.Planning.{isLeaf}
 use Rattle.chain_theory.proofs.Lists.{every-both}
 use Rattle.file_head.specs.declared.HeadNumbers.{HeadNumbers}
-use Rattle.challenges.specs.Challenge.{challengeLeaf, challenged}
+use Rattle.file_head.specs.Challenge.{challengeLeaf, challenged}
 use Rattle.file_head.specs.Head.{HeadAnswer, headAnswer}
-use Rattle.challenges.proofs.RowLaws.{challenge-done}
-use Rattle.challenges.proofs.Leaves.{challengeLeaf-small}
+use Rattle.file_head.proofs.RowLaws.{challenge-done}
+use Rattle.file_head.proofs.Leaves.{challengeLeaf-small}
 use Rattle.draw.specs.Drawing.{leavesFrom, numbersEnd}
 
 pub end-known : (head told : HeadNumbers) (read : HeadAnswer) → headAnswer head ≡ read → head ≡ told → numbersEnd (headAnswer told) ≡ numbersEnd read

@@ -6,10 +6,10 @@ use lib.ListN.{length, drop}
 use Rattle.base.specs.Choice.{pick}
 use Rattle.base.specs.Bytes.{zeros, written}
 use Rattle.base.specs.Limits as limits
-use Rattle.refusal.specs.Number.{numberOf}
-use Rattle.refusal.specs.Row.{isDone}
+use Rattle.base.specs.Number.{numberOf}
+use Rattle.base.specs.Row.{isDone}
 use Rattle.chain_theory.specs.Ways.{chain, chainCodes}
-use Rattle.challenges.specs.Challenge.{challengeLeaf}
+use Rattle.file_head.specs.Challenge.{challengeLeaf}
 use Rattle.file_head.specs.Head.{HeadAnswer, numbers, notRead, headOf, rootAt}
 use Rattle.proof_file.specs.FileCheck.{foundIn, fileCheck}
 use Rattle.compare.specs.declared.Pair.{Pair}

@@ -7,8 +7,8 @@ ghost use Rattle.base.specs.Bytes.{zeros};
 ghost use Rattle.file_head.specs.Head.{headOf};
 ghost use Rattle.draw.specs.Drawing.{leavesFrom, numbersEnd};
 use base::MAX_LEAVES;
-use challenges::challenge;
 use file_head::HeadNumbers;
+use file_head::challenge;
 use file_head::read_head;
 
 // Where the head's numbers end; 0 if they cannot be read.

@@ -2,9 +2,9 @@
 mod leaves; // leaves.rt: the leaves opened
 mod whole; // whole.rt: the chain or the clash
 
+use base::Refusal;
 pub use leaves::challenge_leaves;
 pub use leaves::numbers_end;
-use refusal::Refusal;
 pub use whole::draw;
 
 // Refused, with the opening's number; a chain, with its count of nodes; or a clash: the first pair i < j, from 1, that disagrees,

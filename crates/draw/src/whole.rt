@@ -10,13 +10,13 @@ use crate::Drawing;
 use crate::Drawn;
 use crate::leaves::challenge_leaves;
 use crate::leaves::numbers_end;
+use base::Check;
+use base::Outcome;
 use base::label_at;
 use chain::plan;
 use compare::Pair;
 use compare::compare;
 use proof_file::check_file;
-use refusal::Check;
-use refusal::Outcome;
 
 // The chain of leaves, where no pair disagrees. Its callers know that they are leaves.
 fn draw_chain(depth: u64, leaves: &[u64], list: &mut [u64]) -> Drawing

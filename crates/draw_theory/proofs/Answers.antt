@@ -10,12 +10,12 @@ use lib.ListN.{length}
 use borrow.Author.Tests.{ltb-true, ltb-false, lt-ltb, le-ltb}
 use Rattle.base.specs.Choice.{pick}
 use Rattle.base.specs.Limits.{maxDepth, maxChallenges}
-use Rattle.refusal.proofs.RowLaws.{some-refused}
+use Rattle.base.proofs.RowLaws.{some-refused}
 use Rattle.base.proofs.ChoiceLaws.{lt-or-le}
 use Rattle.chain.specs.PlanRow.{planRow, plannedCount, plannedList}
 use Rattle.proof_file.specs.FileCheck.{foundIn, fileCheck}
 use Rattle.check_theory.specs.IsProof.{IsProof}
-use Rattle.refusal.proofs.Ranges.{within}
+use Rattle.base.proofs.Ranges.{within}
 use Rattle.compare.specs.declared.Pair.{Pair}
 use Rattle.compare.specs.declared.Pair.the-variants.{Agree, Disagree}
 use Rattle.draw.specs.Drawing.{proofEdition, notDrawn, drawnChain, drawnClash, leavesOf, pairOf, drawnFrom, drawnIf, drawingOf, drawnList}

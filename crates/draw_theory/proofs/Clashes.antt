@@ -9,8 +9,8 @@ use Rattle.tree.specs.Disagreement.{wayNode, ClashAt}
 use Rattle.tree.proofs.DocumentRule.{document-readable}
 use Rattle.tree.proofs.Clash.{inner-input-length, shared-position, disagreement-clash}
 use Rattle.sha256.specs.Digest.{digest}
-use Rattle.label.specs.Rule.{stampRule}
-use Rattle.label.proofs.RuleLaws.{stamp-hash}
+use Rattle.labelling.specs.Rule.{stampRule}
+use Rattle.labelling.proofs.RuleLaws.{stamp-hash}
 use Rattle.check_theory.specs.IsProof.{IsProof}
 use Rattle.compare.specs.Comparison.{inputOf}
 use Rattle.draw.specs.Drawing.{proofEdition, leavesOf, openingsOf}

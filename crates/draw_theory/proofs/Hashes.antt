@@ -16,8 +16,8 @@ use Rattle.tree.proofs.Ordered.{ordered-length, ordered-map, ordered-place}
 use Rattle.tree.proofs.DocumentRule.{length-input, label-in-input}
 use Rattle.tree.proofs.OpeningLaws.{known-way, on-way, known-hash}
 use Rattle.tree.proofs.Clash.{same-inputs}
-use Rattle.label.specs.Rule.{stampRule}
-use Rattle.label.proofs.RuleLaws.{stamp-hash}
+use Rattle.labelling.specs.Rule.{stampRule}
+use Rattle.labelling.proofs.RuleLaws.{stamp-hash}
 use Rattle.chain_theory.specs.Ways.{chain}
 use Rattle.chain_theory.proofs.Lists.{Order, less, same, more, order}
 use Rattle.chain_theory.proofs.Parents.{chain-parents, chain-root, among-place}

@@ -17,19 +17,19 @@ use Rattle.tree.specs.Nodes.{Node, onWay}
 use Rattle.tree.specs.Openings.{Right, openingSize}
 use Rattle.tree.specs.Disagreement.{Given32, disagreeAt}
 use Rattle.tree.proofs.Among.{either, either-right}
-use Rattle.label.specs.Rule.{stampRule}
+use Rattle.labelling.specs.Rule.{stampRule}
 use Rattle.chain_theory.specs.Ways.{onSomeWay}
 use Rattle.chain_theory.specs.Planning.{isLeaf}
 use Rattle.chain_theory.proofs.Lists.{at-every}
 use Rattle.opening_check.specs.OpeningCheck.{givenBy}
-use Rattle.challenges.specs.Challenge.{challengeLeaf}
+use Rattle.file_head.specs.Challenge.{challengeLeaf}
 use Rattle.file_head.specs.Layout.{headNumbers}
 use Rattle.file_head.specs.Head.{headOf}
 use Rattle.check_theory.specs.IsProof.{IsProof}
-use Rattle.challenges.proofs.Leaves.{challengeLeaf-small}
+use Rattle.file_head.proofs.Leaves.{challengeLeaf-small}
 use Rattle.check_theory.proofs.Completeness.{file-head, file-root, file-sized, file-right}
 use Rattle.compare.specs.declared.Pair.the-variants.{Agree, Disagree}
-use Rattle.child_table.specs.Table.{leafOf}
+use Rattle.compare.specs.Table.{leafOf}
 use Rattle.compare.specs.Comparison.{givenOf, disagreement, firstDisagreement}
 use Rattle.draw.specs.Drawing.{proofEdition, leavesFrom, numbersEnd, leavesOf, openingsOf, pairOf}
 use Rattle.draw_theory.specs.Demand3.{proofRoot, openedLeaf, openedGiven, Passes, disagreeing, NoneDisagree, SomeDisagree, FirstToDisagree}

@@ -7,19 +7,19 @@ use mathlib.Core.List.{List, map}
 use lib.ListN.{length, getD, take, drop}
 use Rattle.base.specs.Choice.{pick, passing}
 use Rattle.base.specs.Bytes.{zeros}
-use Rattle.refusal.specs.Row.{isDone}
+use Rattle.base.specs.Row.{isDone}
 use Rattle.sha256.specs.Digest.{digest}
 use Rattle.tree.specs.Nodes.{Node, root, onWay, labellingOrder, parents}
 use Rattle.tree.specs.Labels.{ordered}
 use Rattle.tree.specs.Held.{among}
 use Rattle.tree.specs.Openings.{Given, inputAt}
 use Rattle.tree.specs.Disagreement.{wayNode, disagreeAt}
-use Rattle.label.specs.Rule.{stampRule}
+use Rattle.labelling.specs.Rule.{stampRule}
 use Rattle.chain_theory.specs.Ways.{chain, code}
 use Rattle.chain_theory.specs.Counts.{leavesOpened, largestEmpty}
 use Rattle.chain.specs.PlanRow.{planRow, plannedCount, plannedList}
 use Rattle.opening_check.specs.OpeningCheck.{givenBy}
-use Rattle.challenges.specs.Challenge.{challengeLeaf}
+use Rattle.file_head.specs.Challenge.{challengeLeaf}
 use Rattle.file_head.specs.Head.{headOf, rootAt, openingAt}
 use Rattle.proof_file.specs.FileCheck.{fileCheck}
 use Rattle.draw.specs.Drawing.{DrawingAnswer, notDrawn, drawnChain, numbersEnd, proofEdition, leavesOf, drawingOf, drawnList, firstDrawn, secondDrawn}

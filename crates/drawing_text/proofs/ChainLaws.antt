@@ -11,15 +11,15 @@ use borrow.Author.Tests.{ltb-false}
 use Rattle.base.specs.Choice.{pick}
 use Rattle.base.specs.Bytes.{written}
 use Rattle.base.proofs.WrittenLaws.{written-here}
-use Rattle.refusal.specs.declared.Refusal.{Refusal}
-use Rattle.refusal.specs.Number.{numberOf}
+use Rattle.base.specs.declared.refusal.Refusal.{Refusal}
+use Rattle.base.specs.Number.{numberOf}
 use Rattle.proof_file.specs.FileCheck.{foundIn, fileCheck}
 use Rattle.chain_theory.specs.Ways.{chain, chainCodes, code}
 use Rattle.chain.specs.PlanRow.{planRow}
 use Rattle.chain.proofs.Rows.{list-check}
 use Rattle.planning.specs.Output.{places}
 use Rattle.decimal.specs.Steps.{Wrote}
-use Rattle.verdict_lines.specs.Verdict.{refusalText, clashLines}
+use Rattle.drawing_text.specs.Verdict.{refusalText, clashLines}
 use Rattle.drawing_text.specs.Text.{chainText, ChainIn}
 use Rattle.compare.specs.declared.Pair.{Pair}
 use Rattle.compare.specs.declared.Pair.the-variants.{Agree, Disagree}

@@ -3,13 +3,13 @@ use mathlib.Core.Path.{_≡_}
 use Prim.Native.Nat.{ℕ, _≤_}
 use mathlib.Core.List.{List}
 use lib.ListN.{length, take}
-use Rattle.refusal.specs.Number.{numberOf}
+use Rattle.base.specs.Number.{numberOf}
 use Rattle.chain_theory.specs.Ways.{chainCodes}
 use Rattle.planning.specs.Output.{places}
 use Rattle.draw.specs.declared.Drawing.{Drawing}
 use Rattle.draw.specs.declared.Drawing.the-variants.{NotDrawn, Chain, Clash}
 use Rattle.draw.specs.Drawing.{drawnChain, leavesOf, drawingOf}
-use Rattle.verdict_lines.specs.Verdict.{refusalText, clashLines}
+use Rattle.drawing_text.specs.Verdict.{refusalText, clashLines}
 
 -- a refusal, by the file's size; the plan's text; or a clash, with both inputs
 abbrev pub chainText : Drawing → ℕ → List ℕ → List ℕ → List ℕ → List ℕ

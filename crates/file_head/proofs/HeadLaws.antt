@@ -10,7 +10,7 @@ use lib.Dec.{eqb}
 use lib.ListN.{length, take, drop, getD}
 use Rattle.base.specs.Limits.{maxDepth, maxChallenges, edition, maxOpenings, IsDepth, IsCount}
 use Rattle.base.proofs.ChoiceLaws.{both-first, both-second}
-use Rattle.refusal.specs.Row.{outside}
+use Rattle.base.specs.Row.{outside}
 use Rattle.groups.specs.Reading.{Answer, value, refused, readAt, checked}
 use Rattle.groups.proofs.Checked.{checked-refused, checked-bad, checked-next}
 use Rattle.groups.proofs.Sizes.{length-groups-le}
@@ -20,7 +20,7 @@ use Rattle.tree.specs.Openings.{openingSize}
 use Rattle.file_head.specs.Head.{HeadAnswer, numbers, notRead, headOf, lengthFrom, hasOpening, partStart, partLength, openingPart}
 use Rattle.file_head.specs.HeadSteps.{countFrom, depthFrom}
 use Rattle.base.proofs.Parts.{part-size}
-use Rattle.refusal.proofs.Ranges.{range-of}
+use Rattle.base.proofs.Ranges.{range-of}
 
 module _ (bytes : List ℕ) (n at : ℕ) where
   pub count-refused : (r : ℕ) → readAt bytes at 2 ≡ refused r → notRead r ≡ countFrom bytes n at

@@ -1,3 +1,5 @@
 pub mod HeadLaws
 pub mod WritingLaws
 pub mod RowLaws
+pub mod ChallengeLaws
+pub mod Leaves

@@ -1,4 +1,4 @@
--- Document 01's row 'Writing the file's head' is done just when none of its conditions holds.
+-- Document 01's rows 'A challenge' and 'Writing the file's head' are done just when none of their conditions holds.
 use mathlib.Core.Path.{_≡_, refl}
 use Prim.Native.Nat.{ℕ, _≤_}
 use mathlib.Core.Bool.{Bool}
@@ -6,10 +6,23 @@ use mathlib.Core.List.{List, [], _∷_}
 use lib.Dec.{ltb}
 use borrow.Author.Tests.{ltb-false, le-ltb}
 use Rattle.base.specs.Limits.{maxDepth, maxChallenges, IsDepth, IsCount}
-use Rattle.refusal.specs.Row.{outside}
-use Rattle.refusal.proofs.RowLaws.{NoneHolds, none-holds}
-use Rattle.refusal.proofs.Ranges.{within, range-of}
+use Rattle.base.specs.Row.{outside}
+use Rattle.base.proofs.RowLaws.{NoneHolds, none-holds}
+use Rattle.base.proofs.Ranges.{within, range-of}
+use Rattle.file_head.specs.Challenge.{challengeRow}
 use Rattle.file_head.specs.Layout.{fileSize, headRow}
+
+module _ (n i : ℕ) where
+  pub challenge-done : IsDepth n → IsCount i → challengeRow n i ≡ 0
+  unfolding challengeRow
+  challenge-done depth count = rw (within 1 maxDepth n depth, within 1 maxChallenges i count)
+
+  pub done-challenge : challengeRow n i ≡ 0 → IsDepth n × IsCount i
+  unfolding challengeRow
+  done-challenge e =
+      let row : List (Bool × ℕ) = (outside 1 maxDepth n, 1) ∷ (outside 1 maxChallenges i, 8) ∷ [] in
+      let none : NoneHolds row = none-holds row refl e in
+      (range-of 1 maxDepth n (none .0), range-of 1 maxChallenges i (none .1 .0))
 
 module _ (n t out : ℕ) where
   pub head-done : IsDepth n → IsCount t → fileSize n t ≤ out → headRow n t out ≡ 0

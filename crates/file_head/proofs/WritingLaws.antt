@@ -10,7 +10,7 @@ use lib.ListN.{length, drop, length-append}
 use lib.Seq.{take-append-seam, drop-append-add, drop-drop}
 use Rattle.base.specs.Limits.{maxDepth, maxChallenges}
 use Rattle.base.specs.Bytes.{written}
-use Rattle.refusal.specs.Row.{outside}
+use Rattle.base.specs.Row.{outside}
 use Rattle.groups.specs.Groups.{groups}
 use Rattle.groups.specs.Writing.{putRow, putCount, outputAfter}
 use Rattle.groups.proofs.Steps.{groups-last, groups-more}

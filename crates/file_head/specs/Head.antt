@@ -6,8 +6,8 @@ use lib.Dec.{eqb}
 use lib.ListN.{length, take, drop}
 use Rattle.base.specs.Choice.{pick, both}
 use Rattle.base.specs.Limits.{maxDepth, maxChallenges, edition}
-use Rattle.refusal.specs.Number.{numberOf}
-use Rattle.refusal.specs.Row.{outside}
+use Rattle.base.specs.Number.{numberOf}
+use Rattle.base.specs.Row.{outside}
 use Rattle.groups.specs.Reading.{readAt, checked}
 use Rattle.tree.specs.Openings.{openingSize}
 use Rattle.file_head.specs.declared.HeadNumbers.{HeadNumbers}

@@ -2,7 +2,7 @@
 use Prim.Native.Nat.{ℕ}
 use mathlib.Core.List.{List}
 use Rattle.base.specs.Limits.{maxDepth, maxChallenges}
-use Rattle.refusal.specs.Row.{outside}
+use Rattle.base.specs.Row.{outside}
 use Rattle.groups.specs.Reading.{readAt, checked}
 use Rattle.file_head.specs.Layout.{numberGroups}
 use Rattle.file_head.specs.Head.{HeadAnswer, numbers, notRead}

@@ -6,7 +6,7 @@ use lib.ListN.{length}
 use Rattle.base.specs.Choice.{pick}
 use Rattle.base.specs.Bytes.{joined, written}
 use Rattle.base.specs.Limits.{maxDepth, maxChallenges}
-use Rattle.refusal.specs.Row.{firstOf, outside, isDone}
+use Rattle.base.specs.Row.{firstOf, outside, isDone}
 use Rattle.tree.specs.Openings.{openingSize}
 use Rattle.groups.specs.Groups.{groups}
 

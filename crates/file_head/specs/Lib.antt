@@ -1,3 +1,4 @@
 pub mod Layout
 pub mod Head
 pub mod HeadSteps
+pub mod Challenge

@@ -6,10 +6,10 @@ use crate::HeadNumbers;
 use base::EDITION;
 use base::MAX_CHALLENGES;
 use base::MAX_DEPTH;
+use base::Refusal;
+use base::beyond;
 use groups::Cursor;
 use groups::Number;
-use refusal::Refusal;
-use refusal::beyond;
 
 // The count, after the depth.
 fn read_count(bytes: &[u8], n: u64, from: Cursor) -> HeadNumbers

@@ -1,11 +1,15 @@
-// The layout of a proof file: its sizes, and its head written and read.
+// The layout of a proof file: its sizes, its head written and read, and the challenges that its statement and root give.
+mod challenges; // challenges.rt: the leaves that are opened
 mod head; // head.rt: the head's numbers read
 mod sizes; // sizes.rt: sizes of a file and its parts
 mod writing; // writing.rt: the head written
 
+use base::Refusal;
+pub use challenges::Challenged;
+pub use challenges::challenge;
+pub use challenges::challenge_leaf;
 use groups::Cursor;
 pub use head::read_head;
-use refusal::Refusal;
 pub use sizes::file_length;
 pub use sizes::opening_start;
 pub use writing::file_size;

@@ -4,17 +4,17 @@ ghost use Prim.Native.Nat.{_+_, _<_, _≤_};
 ghost use lib.ListN.{length};
 ghost use Rattle.base.specs.Limits.{edition, maxDepth, maxChallenges};
 ghost use Rattle.base.specs.Bytes.{written};
-ghost use Rattle.refusal.specs.Number.{outcomeNumber};
+ghost use Rattle.base.specs.Number.{outcomeNumber};
 ghost use Rattle.groups.specs.Groups.{groups};
 ghost use Rattle.file_head.specs.Layout.{headNumbers, head, headSize, fileSize, headRow, headWritten};
 use crate::sizes::file_length;
 use base::EDITION;
 use base::MAX_CHALLENGES;
 use base::MAX_DEPTH;
+use base::Outcome;
+use base::Refusal;
+use base::beyond;
 use base::put;
-use refusal::Outcome;
-use refusal::Refusal;
-use refusal::beyond;
 
 // The length of the whole file: edition and depth take a byte each, the count one or two.
 pub fn file_size(n: u64, t: u64) -> usize

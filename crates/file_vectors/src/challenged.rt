@@ -1,13 +1,13 @@
 // The openings of the shared files' challenges, made at every memory level.
 use base::label_at;
-use challenges::challenge;
+use file_head::challenge;
 use opening::Opening;
 use sha256::Hash;
-use vector_runs::finished;
-use vector_runs::hash;
-use vector_runs::open_to_end;
-use vector_text::named;
-use vector_text::named_hex;
+use vector_helpers::finished;
+use vector_helpers::hash;
+use vector_helpers::named;
+use vector_helpers::named_hex;
+use vector_helpers::open_to_end;
 
 // The hash state with so many bytes more.
 fn taken(state: Hash, bytes: &[u8], size: usize) -> Hash {
@@ -82,7 +82,7 @@ fn level(statement: [u8; 32], depth: u64, memory: u64, count: u64) {
     digests(statement, root, depth, memory, 1000, count, store);
     digests(statement, root, depth, memory, 7, count, store);
     digests(statement, root, depth, memory, 1, count, store);
-    vector_text::end();
+    vector_helpers::end();
 }
 
 fn levels(statement: [u8; 32], depth: u64, count: u64) {
@@ -99,8 +99,8 @@ fn levels(statement: [u8; 32], depth: u64, count: u64) {
 // A line of the shared files.
 pub fn challenged(line: &[u8]) {
     let mut report = [0u8; 64];
-    let size = vector_text::decode(vector_text::field(line, 0), &mut report);
-    let depth = vector_text::decimal(vector_text::field(line, 1));
-    let count = vector_text::decimal(vector_text::field(line, 2));
+    let size = vector_helpers::decode(vector_helpers::field(line, 0), &mut report);
+    let depth = vector_helpers::decimal(vector_helpers::field(line, 1));
+    let count = vector_helpers::decimal(vector_helpers::field(line, 2));
     levels(hash(&report[..size]), depth, count);
 }

@@ -1,14 +1,14 @@
 // The check of files over the shared vectors, and over every file that differs from the first of them in one bit; the row of a
 // challenge and that of a file's head at their edges.
 ghost use Prim.Native.Nat.{_<_, _≤_};
-use challenges::challenge;
+use base::outcome_number;
+use file_head::challenge;
 use file_head::write_head;
 use proof_file::check_file_code;
-use refusal::outcome_number;
-use vector_runs::digest_column;
-use vector_runs::hash;
-use vector_text::column;
-use vector_text::named;
+use vector_helpers::column;
+use vector_helpers::digest_column;
+use vector_helpers::hash;
+use vector_helpers::named;
 
 // The answer to so many of the bytes.
 pub fn answer(bytes: &[u8], size: usize, statement: [u8; 32], depth: u64, count: u64) {
@@ -20,14 +20,14 @@ pub fn answer(bytes: &[u8], size: usize, statement: [u8; 32], depth: u64, count:
 // The depth and count wanted, and the answer.
 pub fn checked(line: &[u8]) {
     let mut space = [0u8; 1024];
-    let size = vector_text::decode(vector_text::field(line, 0), &mut space);
-    let statement = vector_text::digest(vector_text::field(line, 1));
-    let depth = vector_text::decimal(vector_text::field(line, 2));
-    let count = vector_text::decimal(vector_text::field(line, 3));
+    let size = vector_helpers::decode(vector_helpers::field(line, 0), &mut space);
+    let statement = vector_helpers::digest(vector_helpers::field(line, 1));
+    let depth = vector_helpers::decimal(vector_helpers::field(line, 2));
+    let count = vector_helpers::decimal(vector_helpers::field(line, 3));
     named(b"vector ", depth);
     column(count);
     answer(&space, size, statement, depth, count);
-    vector_text::end();
+    vector_helpers::end();
 }
 
 fn flipped(file: [u8; 131], statement: [u8; 32], i: usize, mask: u8)
@@ -42,7 +42,7 @@ fn flipped(file: [u8; 131], statement: [u8; 32], i: usize, mask: u8)
 fn flipped_byte(file: [u8; 131], statement: [u8; 32], i: usize)
     requires { ⌜ i < 131 ⌝ }
 {
-    vector_text::text(b"flipped");
+    vector_helpers::text(b"flipped");
     flipped(file, statement, i, 1);
     flipped(file, statement, i, 2);
     flipped(file, statement, i, 4);
@@ -51,7 +51,7 @@ fn flipped_byte(file: [u8; 131], statement: [u8; 32], i: usize)
     flipped(file, statement, i, 32);
     flipped(file, statement, i, 64);
     flipped(file, statement, i, 128);
-    vector_text::end();
+    vector_helpers::end();
 }
 
 fn every_bit(file: [u8; 131], statement: [u8; 32]) {
@@ -65,24 +65,24 @@ fn every_bit(file: [u8; 131], statement: [u8; 32]) {
 // The file of the first vector whole, empty, a byte short and with a byte more; then with each bit changed.
 fn small(line: &[u8]) {
     let mut space = [0u8; 132];
-    vector_text::decode(vector_text::field(line, 0), &mut space);
+    vector_helpers::decode(vector_helpers::field(line, 0), &mut space);
     let mut file = [0u8; 131];
-    vector_text::decode(vector_text::field(line, 0), &mut file);
-    let statement = vector_text::digest(vector_text::field(line, 1));
-    vector_text::text(b"lengths");
+    vector_helpers::decode(vector_helpers::field(line, 0), &mut file);
+    let statement = vector_helpers::digest(vector_helpers::field(line, 1));
+    vector_helpers::text(b"lengths");
     answer(&space, 131, statement, 1, 1);
     answer(&space, 0, statement, 1, 1);
     answer(&space, 130, statement, 1, 1);
     answer(&space, 132, statement, 1, 1);
-    vector_text::end();
+    vector_helpers::end();
     every_bit(file, statement);
 }
 
 // The line behind the comment.
 pub fn first(text: &[u8]) {
-    let comment = vector_text::line_end(text, 0);
+    let comment = vector_helpers::line_end(text, 0);
     if comment < text.len() {
-        let end = vector_text::line_end(text, comment + 1);
+        let end = vector_helpers::line_end(text, comment + 1);
         small(&text[comment + 1..end]);
     }
 }
@@ -95,7 +95,7 @@ fn challenged(n: u64, i: u64) {
     column(i);
     column(outcome_number(outcome));
     column(c.leaf);
-    vector_text::end();
+    vector_helpers::end();
 }
 
 fn challenges_at(n: u64) {
@@ -132,7 +132,7 @@ fn head(n: u64, t: u64, out: &mut [u8]) {
     let outcome = write_head(hash(b"headed"), hash(b"root"), n, t, out);
     column(outcome_number(outcome));
     digest_column(out);
-    vector_text::end();
+    vector_helpers::end();
 }
 
 fn head_at(n: u64, t: u64, size: usize) {

@@ -1,11 +1,11 @@
 // Refusals of starting and continuing to write a file, at their edges.
+use base::outcome_number;
 use opening::Opening;
-use refusal::outcome_number;
-use vector_runs::digest_column;
-use vector_runs::flag_digest;
-use vector_runs::hash;
-use vector_text::column;
-use vector_text::named;
+use vector_helpers::column;
+use vector_helpers::digest_column;
+use vector_helpers::flag_digest;
+use vector_helpers::hash;
+use vector_helpers::named;
 use writing::Writing;
 
 // What starting answers, and whether the file is changed.
@@ -102,7 +102,7 @@ fn edge(n: u64, m: u64, t: u64, number: u64, leaf: u64, made: u64, store: usize,
     column(file as u64);
     starts_at(n, m, t, store, file);
     continues_at(under_way(n, m, t, number, leaf, made), store, file);
-    vector_text::end();
+    vector_helpers::end();
 }
 
 fn starting() {

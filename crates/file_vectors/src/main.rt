@@ -1,13 +1,17 @@
-// Files written, opened and checked: the shared files, which are the standard input, and the shared checks, which are data. The stored
-// output has the shared files' digests, the checks' answers, and an independent model's.
+// Files written, opened and checked, openings compared, and chains drawn and planned: the shared files, which are the standard input, and the
+// shared checks and chains, which are data. The stored output has the vectors' digests and answers, and an independent model's.
 mod challenged; // challenged.rt: the openings of the shared files
 mod checks; // checks.rt: files checked, and the rows of a challenge and of a head
+mod compared; // compared.rt: openings compared
+mod drawn; // drawn.rt: chains drawn and planned
 mod edges; // edges.rt: refusals of starting and continuing to write a file
 mod parts; // parts.rt: openings read as parts
 mod written; // written.rt: the shared files written again
 
 use challenged::challenged;
 use checks::checked;
+use compared::compared;
+use drawn::drawn_and_planned;
 use edges::edges;
 use written::written;
 
@@ -16,6 +20,7 @@ enum Task {
     Write,
     Open,
     Check,
+    Draw,
 }
 
 fn vector(task: Task, line: &[u8]) {
@@ -23,15 +28,16 @@ fn vector(task: Task, line: &[u8]) {
         Task::Write => written(line),
         Task::Open => challenged(line),
         Task::Check => checked(line),
+        Task::Draw => drawn_and_planned(line),
     }
 }
 
 fn every_line(task: Task, text: &[u8]) {
     let mut at: usize = 0;
     while at < text.len() {
-        let end = vector_text::line_end(text, at);
+        let end = vector_helpers::line_end(text, at);
         let line = &text[at..end];
-        if !vector_text::is_comment(line) {
+        if !vector_helpers::is_comment(line) {
             vector(task, line);
         }
         at = end + 1;
@@ -53,8 +59,16 @@ fn shared_checks() {
     checks::first(&input[..read]);
 }
 
+fn shared_chains() {
+    let mut input = io::large_buffer();
+    let read = io::read_full(os::open_read(b"chains"), &mut input);
+    every_line(Task::Draw, &input[..read]);
+}
+
 fn main() {
     shared_files();
     shared_checks();
     checks::rows();
+    shared_chains();
+    compared();
 }

@@ -1,8 +1,8 @@
 // Openings of a file read as parts of its bytes.
 use proof_file::opening_part;
-use vector_runs::digest_column;
-use vector_text::column;
-use vector_text::named;
+use vector_helpers::column;
+use vector_helpers::digest_column;
+use vector_helpers::named;
 
 // The length and digest of opening i.
 fn part(file: &[u8], i: u64) {
@@ -10,7 +10,7 @@ fn part(file: &[u8], i: u64) {
     named(b"part ", i);
     column(bytes.len() as u64);
     digest_column(bytes);
-    vector_text::end();
+    vector_helpers::end();
 }
 
 // Openings 0 to count + 1, of which the first and the last are none.

@@ -3,12 +3,12 @@
 use crate::checks::answer;
 use crate::parts::every_part;
 use base::label_at;
-use refusal::outcome_number;
-use vector_runs::digest_column;
-use vector_runs::finished;
-use vector_runs::hash;
-use vector_text::column;
-use vector_text::named;
+use base::outcome_number;
+use vector_helpers::column;
+use vector_helpers::digest_column;
+use vector_helpers::finished;
+use vector_helpers::hash;
+use vector_helpers::named;
 use writing::Writing;
 
 // Calls with one budget until no label is left, at most 1,000 calls; prints how many made labels, and how many they made.
@@ -67,18 +67,18 @@ fn level(statement: [u8; 32], depth: u64, memory: u64, count: u64, size: usize) 
         size,
         &store,
     );
-    vector_text::end();
+    vector_helpers::end();
 }
 
 // At the smallest memory level, a middle one and the greatest.
 pub fn written(line: &[u8]) {
     let mut report = [0u8; 64];
-    let length = vector_text::decode(vector_text::field(line, 0), &mut report);
+    let length = vector_helpers::decode(vector_helpers::field(line, 0), &mut report);
     let statement = hash(&report[..length]);
-    let depth = vector_text::decimal(vector_text::field(line, 1));
-    let count = vector_text::decimal(vector_text::field(line, 2));
+    let depth = vector_helpers::decimal(vector_helpers::field(line, 1));
+    let count = vector_helpers::decimal(vector_helpers::field(line, 2));
     let mut file = [0u8; 1024];
-    let size = vector_text::decode(vector_text::field(line, 3), &mut file);
+    let size = vector_helpers::decode(vector_helpers::field(line, 3), &mut file);
     level(statement, depth, 0, count, size);
     level(statement, depth, depth / 2, count, size);
     level(statement, depth, depth, count, size);

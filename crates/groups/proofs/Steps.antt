@@ -11,7 +11,7 @@ use borrow.Author.Tests.{lt-ltb, le-ltb, le-leb, lt-leb, ltb-true, ltb-false, ne
 use lib.Dec.{ltb, leb, eqb}
 use lib.ListN.{length, getD}
 use Rattle.base.specs.Choice.{pick, both}
-use Rattle.refusal.specs.Row.{either}
+use Rattle.base.specs.Row.{either}
 use Rattle.groups.specs.Groups.{groups}
 use Rattle.groups.specs.Reading.{Answer, value, refused, ended, readFrom, readAt}
 

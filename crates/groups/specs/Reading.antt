@@ -5,8 +5,8 @@ use mathlib.Core.List.{List}
 use lib.Dec.{ltb, leb, eqb}
 use lib.ListN.{length, getD}
 use Rattle.base.specs.Choice.{pick, both}
-use Rattle.refusal.specs.Number.{numberOf}
-use Rattle.refusal.specs.Row.{either}
+use Rattle.base.specs.Number.{numberOf}
+use Rattle.base.specs.Row.{either}
 use Rattle.groups.specs.declared.Number.{Number}
 use Rattle.groups.specs.declared.Number.the-variants.{Value, Refused}
 

@@ -5,7 +5,7 @@ use lib.Dec.{ltb}
 use lib.ListN.{length}
 use Rattle.base.specs.Choice.{pick}
 use Rattle.base.specs.Bytes.{written}
-use Rattle.refusal.specs.Row.{firstOf, isDone}
+use Rattle.base.specs.Row.{firstOf, isDone}
 use Rattle.groups.specs.Groups.{groupsOf}
 
 -- 7: the number's groups do not fit from the place on

@@ -1,12 +1,12 @@
 // Numbers in seven-bit groups, read at a place of the caller's bytes and written there.
+use base::Outcome;
+use base::Refusal;
 use base::wide;
-use refusal::Outcome;
-use refusal::Refusal;
 ghost use mathlib.Core.Path.{_≡_};
 ghost use Prim.Native.Nat.{_+_, _*_, _^_, _<_, min};
 ghost use lib.Dec.{leb};
 ghost use lib.ListN.{length, take};
-ghost use Rattle.refusal.specs.Number.{outcomeNumber};
+ghost use Rattle.base.specs.Number.{outcomeNumber};
 ghost use Rattle.groups.specs.Groups.{groupsOf, maxGroups};
 ghost use Rattle.groups.specs.Reading.{answerOf, ended, readAt};
 ghost use Rattle.groups.specs.Writing.{putRow, putCount, outputAfter};

@@ -1,2 +1,5 @@
 pub mod OneStep
 pub mod Walking
+pub mod Filled
+pub mod Padded
+pub mod RuleLaws

@@ -16,7 +16,7 @@ use Rattle.tree.specs.Walk.{nodesIn}
 use Rattle.tree.specs.Labels.{labelBy, inLabels}
 use Rattle.tree.proofs.Order.{Inside, order-at, inside-level, inside-way}
 use Rattle.tree.proofs.InputLengths.{ones-split}
-use Rattle.label.specs.Rule.{stampRule}
+use Rattle.labelling.specs.Rule.{stampRule}
 use Rattle.labelling.specs.Step.{nextNode, hashedLabels, nextLabel, heldWith}
 use Rattle.base.proofs.Powers.{shifted-one}
 

@@ -10,7 +10,7 @@ use Rattle.base.specs.Choice.{pick}
 use Rattle.base.specs.Bytes.{zeros, written}
 use Rattle.tree.specs.Nodes.{Node, root, orderBelow}
 use Rattle.tree.specs.Labels.{Label, labelBy, inLabels}
-use Rattle.label.specs.Rule.{stampRule}
+use Rattle.labelling.specs.Rule.{stampRule}
 
 -- the next node when k of the subtree's nodes are labelled
 abbrev pub nextNode : ℕ → Node → ℕ → Node

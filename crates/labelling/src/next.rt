@@ -9,12 +9,12 @@ ghost use Rattle.base.specs.Bytes.{zeros, written};
 ghost use Rattle.tree.specs.Nodes.{node};
 ghost use Rattle.tree.specs.Walk.{nodesIn};
 ghost use Rattle.tree.specs.Labels.{labelBy, inLabels};
-ghost use Rattle.label.specs.Rule.{stampRule};
+ghost use Rattle.labelling.specs.Rule.{stampRule};
 ghost use Rattle.labelling.specs.Step.{nextNode, nextLabel, heldWith};
+use crate::rule::label;
 use crate::walk::Place;
 use crate::walk::next_node;
 use base::put;
-use label::label;
 
 // A node with its label.
 pub struct Labelled {

@@ -3,7 +3,7 @@ use Prim.Native.Nat.{ℕ, _*_, _/_, _^_}
 use mathlib.Core.List.{List, _++_}
 use lib.Dec.{leb, eqb}
 use Rattle.base.specs.Choice.{pick}
-use Rattle.refusal.specs.Row.{either}
+use Rattle.base.specs.Row.{either}
 use Rattle.decimal.specs.Ascii.{ascii}
 use Rattle.decimal.specs.Text.{field}
 use Rattle.lines.specs.Line.{hexOf}

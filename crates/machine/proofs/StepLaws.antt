@@ -7,7 +7,7 @@ use native.Mathlib.Nat.{add-zero, add-suc}
 use native.Mathlib.Numerals.{add-one}
 use native.Mathlib.Omega.{arith}
 use Rattle.base.specs.Choice.{pick}
-use Rattle.refusal.specs.Row.{isDone}
+use Rattle.base.specs.Row.{isDone}
 use Rattle.machine.specs.Machines.{Machine, steps, doneIn, advanced, costOf, costIn}
 
 module _ {S : Type 0} (machine : Machine S) where

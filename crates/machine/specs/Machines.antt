@@ -3,7 +3,7 @@
 use mathlib.Core.Path.{_≡_}
 use Prim.Native.Nat.{ℕ, zero, suc, _+_, _-_, _≤_, min}
 use Rattle.base.specs.Choice.{pick}
-use Rattle.refusal.specs.Row.{isDone}
+use Rattle.base.specs.Row.{isDone}
 
 -- the number that a call's row of checks gives a state, the steps that remain, and one step
 pub record Machine (S : Type 0) : Type 0 where

@@ -8,14 +8,14 @@ use borrow.Author.Tests.{ltb-false, leb-false}
 use lib.Dec.{ltb, leb}
 use lib.ListN.{length}
 use Rattle.base.specs.Limits.{maxDepth}
-use Rattle.refusal.specs.Row.{outside, either, isDone, memoryOver}
+use Rattle.base.specs.Row.{outside, either, isDone, memoryOver}
 use Rattle.machine.proofs.StepLaws as machines
 use Rattle.machine.proofs.StepLaws.{done-some, done-refused}
 use Rattle.tree.specs.Walk.{nodesIn}
 use Rattle.tree.specs.Store.{storeSize}
 use Rattle.tree.specs.Openings.{openingSize}
 use Rattle.run.specs.Rows.{impossible}
-use Rattle.refusal.proofs.Ranges.{depth-some, depth-inside, memory-below, memory-inside, neither}
+use Rattle.base.proofs.Ranges.{depth-some, depth-inside, memory-below, memory-inside, neither}
 use Rattle.opening.specs.declared.Opening.{Opening}
 use Rattle.opening.specs.Rows.{nodesAnew, openRow, reopenRow}
 use Rattle.opening_places.specs.Possible.{Possible}

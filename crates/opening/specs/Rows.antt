@@ -3,7 +3,7 @@ use Prim.Native.Nat.{ℕ, _+_, _-_, _^_}
 use mathlib.Core.List.{[], _∷_}
 use lib.Dec.{ltb, leb}
 use Rattle.base.specs.Limits.{maxDepth}
-use Rattle.refusal.specs.Row.{firstOf, outside, either, memoryOver}
+use Rattle.base.specs.Row.{firstOf, outside, either, memoryOver}
 use Rattle.tree.specs.Openings.{openingSize}
 use Rattle.tree.specs.Store.{storeSize}
 use Rattle.run.specs.Rows.{impossible}

@@ -4,11 +4,12 @@ mod labels; // labels.rt: one step, and several
 
 ghost use mathlib.Core.Path.{_≡_};
 ghost use lib.ListN.{length};
-ghost use Rattle.refusal.specs.Number.{outcomeNumber};
+ghost use Rattle.base.specs.Number.{outcomeNumber};
 ghost use Rattle.opening.specs.Rows.{openRow, reopenRow};
 ghost use Rattle.opening.specs.Names.{openOf};
 ghost use Rattle.opening.specs.Steps.{newOpening, started, startedOut, labelsIn, advanced};
 use base::HELD_SIZE;
+use base::Outcome;
 use base::smaller;
 use checks::may_continue;
 use checks::may_start;
@@ -16,7 +17,6 @@ pub use checks::nodes_anew;
 pub use checks::not_possible;
 use labels::label_many;
 use opening_places::copy_held;
-use refusal::Outcome;
 
 // Document 01's opening: a run's state with the leaf besides; count and held labels are those of the nodes labelled anew.
 #[repr(C)]

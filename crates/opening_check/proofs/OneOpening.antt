@@ -17,7 +17,7 @@ use Rattle.base.specs.Lists.{sameBytes}
 use Rattle.base.proofs.BytesLaws.{joined-append}
 use Rattle.base.proofs.ChoiceLaws.{is-odd, is-even, odd-true, odd-false}
 use Rattle.base.proofs.Copying.{length-written}
-use Rattle.refusal.specs.Row.{outside}
+use Rattle.base.specs.Row.{outside}
 use Rattle.tree.specs.Nodes.{node}
 use Rattle.tree.specs.Labels.{Label, labelBy, inLabels}
 use Rattle.tree.specs.Openings.{Given, childLabels, computed, inputAt, openingSize}
@@ -26,7 +26,7 @@ use Rattle.tree.proofs.InputLengths.{ones-zero}
 use Rattle.tree.specs.Disagreement.{Given32}
 use Rattle.tree.proofs.Cut.{labels-back, two-labels}
 use Rattle.tree.proofs.OpeningLaws.{halved, input-leaf, left-each}
-use Rattle.label.specs.Rule.{stampRule}
+use Rattle.labelling.specs.Rule.{stampRule}
 use Rattle.base.proofs.Powers.{shifted-one}
 use Rattle.base.proofs.Parts.{written-behind, part-size, part-length}
 use Rattle.opening_check.specs.OpeningCheck.{givenBy, rightRow, openingRow}

@@ -7,11 +7,11 @@ use lib.Dec.{ltb, leb}
 use lib.ListN.{length, take, drop}
 use Rattle.base.specs.Lists.{sameBytes}
 use Rattle.base.specs.Limits.{maxDepth}
-use Rattle.refusal.specs.Row.{firstOf, outside}
+use Rattle.base.specs.Row.{firstOf, outside}
 use Rattle.tree.specs.Nodes.{node}
 use Rattle.tree.specs.Labels.{Rule}
 use Rattle.tree.specs.Openings.{Given, computed, inputAt, openingSize}
-use Rattle.label.specs.Rule.{stampRule}
+use Rattle.labelling.specs.Rule.{stampRule}
 
 -- an opening's bytes as the labels that it gives: place i takes 32 bytes from 32 × i
 abbrev pub givenBy : List ℕ → Given

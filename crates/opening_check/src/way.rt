@@ -6,21 +6,21 @@ ghost use lib.ListN.{length};
 ghost use Rattle.base.specs.Limits.{edition, maxDepth};
 ghost use Rattle.base.specs.Choice.{pick, odd};
 ghost use Rattle.base.specs.Bytes.{written};
-ghost use Rattle.refusal.specs.Number.{outcomeNumber};
+ghost use Rattle.base.specs.Number.{outcomeNumber};
 ghost use Rattle.tree.specs.Nodes.{node};
 ghost use Rattle.tree.specs.Labels.{labelBy};
 ghost use Rattle.tree.specs.Openings.{childLabels, computed, inputAt, openingSize};
-ghost use Rattle.label.specs.Rule.{stampRule};
+ghost use Rattle.labelling.specs.Rule.{stampRule};
 ghost use Rattle.opening_check.specs.OpeningCheck.{givenBy, rightRow, openingRow};
 use base::EDITION;
 use base::MAX_DEPTH;
+use base::Outcome;
+use base::Refusal;
+use base::beyond;
 use base::label_at;
 use base::put;
 use base::same;
-use label::label;
-use refusal::Outcome;
-use refusal::Refusal;
-use refusal::beyond;
+use labelling::label;
 
 // The label of the sibling of this height is put behind len gathered bytes where it is a left one. How many are gathered then.
 fn gather(gathered: &mut [u8], len: usize, leaf: u64, height: u64, bytes: &[u8]) -> usize

@@ -13,11 +13,11 @@ use Rattle.base.specs.Choice.{pick}
 use Rattle.base.specs.Bytes.{written}
 use Rattle.base.specs.Limits.{maxChallenges, maxChain}
 use Rattle.base.proofs.ChoiceLaws.{both-second}
-use Rattle.refusal.specs.declared.Refusal.{Refusal}
-use Rattle.refusal.specs.declared.Outcome.{Outcome}
-use Rattle.refusal.specs.declared.Outcome.the-variants.{Done, Refused}
-use Rattle.refusal.specs.Number.{numberOf, outcomeNumber}
-use Rattle.refusal.proofs.RowLaws.{NoneHolds, none-holds, is-done, refused-number, not-done}
+use Rattle.base.specs.declared.refusal.Refusal.{Refusal}
+use Rattle.base.specs.declared.refusal.Outcome.{Outcome}
+use Rattle.base.specs.declared.refusal.Outcome.the-variants.{Done, Refused}
+use Rattle.base.specs.Number.{numberOf, outcomeNumber}
+use Rattle.base.proofs.RowLaws.{NoneHolds, none-holds, is-done, refused-number, not-done}
 use Rattle.tree.specs.Nodes.{Node, node, root}
 use Rattle.chain_theory.specs.Ways.{chain, code, chainCodes}
 use Rattle.chain_theory.specs.Counts.{leavesOpened}

@@ -12,9 +12,9 @@ use Rattle.base.specs.Choice.{pick, both, every}
 use Rattle.base.specs.Bytes.{written}
 use Rattle.base.specs.Limits.{maxDepth, maxChallenges, maxInput}
 use Rattle.base.proofs.ChoiceLaws.{both-first, both-second}
-use Rattle.refusal.specs.Row.{either, outside}
+use Rattle.base.specs.Row.{either, outside}
 use Rattle.chain.specs.PlanRow.{planRow}
-use Rattle.refusal.proofs.Ranges.{above-range}
+use Rattle.base.proofs.Ranges.{above-range}
 use Rattle.decimal.specs.Numbers.{maxNumbers, readable, fits, numbers}
 use Rattle.planning.specs.Input.{unreadable}
 use Rattle.planning.specs.Output.{refusedText, answerText, planText, printed, maxOutput}

@@ -10,7 +10,7 @@ use borrow.Author.Tests.{le-ltb, leb-true, not-false}
 use Rattle.base.specs.Choice.{every}
 use Rattle.base.specs.Limits.{maxDepth, maxChallenges}
 use Rattle.base.proofs.ChoiceLaws.{both-second, true-false}
-use Rattle.refusal.specs.Row.{firstOf, outside}
+use Rattle.base.specs.Row.{firstOf, outside}
 use Rattle.chain_theory.specs.Ways.{chain}
 use Rattle.chain_theory.specs.Planning.{isLeaf}
 use Rattle.chain_theory.proofs.Bound.{chain-bound, leavesOpened-le}

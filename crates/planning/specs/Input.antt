@@ -6,7 +6,7 @@ use lib.Dec.{ltb, eqb}
 use lib.ListN.{length}
 use Rattle.base.specs.Choice.{every}
 use Rattle.base.specs.Limits.{maxInput}
-use Rattle.refusal.specs.Row.{either}
+use Rattle.base.specs.Row.{either}
 use Rattle.decimal.specs.Numbers.{readable, numbers, fits}
 
 -- '17: over 65,536 bytes, any other byte, no number, or a number over 2^64 − 1'

@@ -6,7 +6,7 @@ use lib.ListN.{length, getD, drop}
 use Rattle.base.specs.Limits.{maxChain}
 use Rattle.base.specs.Choice.{pick}
 use Rattle.base.specs.Bytes.{joined}
-use Rattle.refusal.specs.Row.{isDone}
+use Rattle.base.specs.Row.{isDone}
 use Rattle.tree.specs.Nodes.{Node}
 use Rattle.chain_theory.specs.Ways.{chain}
 use Rattle.chain_theory.specs.Counts.{leavesOpened}

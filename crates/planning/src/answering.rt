@@ -5,9 +5,9 @@ use crate::texts::put_node;
 use crate::texts::put_refused;
 use base::MAX_CHAIN;
 use base::MAX_INPUT;
+use base::Outcome;
 use decimal::is_readable;
 use decimal::read_numbers;
-use refusal::Outcome;
 ghost use mathlib.Core.Path.{_≡_};
 ghost use Prim.Native.Nat.{_≤_};
 ghost use lib.Dec.{leb};
@@ -52,7 +52,7 @@ fn put_answer(depth: u64, leaves: &[u64], out: &mut [u8]) -> usize
     let outcome = planned.outcome;
     let count = planned.count as usize;
     match outcome {
-        Outcome::Refused(why) => put_refused(out, refusal::number(why)),
+        Outcome::Refused(why) => put_refused(out, base::number(why)),
         Outcome::Done => put_plan(depth, leaves, &codes[..count], out),
     }
 }

@@ -11,14 +11,14 @@ use Rattle.base.specs.Choice.{both}
 use Rattle.base.specs.Lists.{sameBytes}
 use Rattle.base.proofs.ChoiceLaws.{both-false, both-yes, both-first}
 use Rattle.base.proofs.ListsLaws.{tells-bytes}
-use Rattle.refusal.specs.declared.Refusal.{Refusal}
-use Rattle.refusal.specs.declared.Outcome.{Outcome}
-use Rattle.refusal.specs.declared.Outcome.the-variants.{Done, Refused}
-use Rattle.refusal.specs.Number.{numberOf, outcomeNumber}
-use Rattle.refusal.specs.Row.{isDone}
-use Rattle.refusal.proofs.RowLaws.{not-done}
+use Rattle.base.specs.declared.refusal.Refusal.{Refusal}
+use Rattle.base.specs.declared.refusal.Outcome.{Outcome}
+use Rattle.base.specs.declared.refusal.Outcome.the-variants.{Done, Refused}
+use Rattle.base.specs.Number.{numberOf, outcomeNumber}
+use Rattle.base.specs.Row.{isDone}
+use Rattle.base.proofs.RowLaws.{not-done}
 use Rattle.tree.specs.Openings.{openingSize}
-use Rattle.challenges.specs.Challenge.{challengeLeaf}
+use Rattle.file_head.specs.Challenge.{challengeLeaf}
 use Rattle.file_head.specs.Layout.{openingFrom}
 use Rattle.file_head.specs.Head.{numbers, notRead, headOf, lengthFrom, statementAt, rootAt, openingAt}
 use Rattle.opening_check.specs.OpeningCheck.{rightRow}

@@ -7,8 +7,8 @@ use lib.ListN.{length}
 use Rattle.base.specs.Choice.{pick, both}
 use Rattle.base.specs.Lists.{sameBytes}
 use Rattle.base.specs.Limits as limits
-use Rattle.refusal.specs.Row.{isDone}
-use Rattle.challenges.specs.Challenge.{challengeLeaf}
+use Rattle.base.specs.Row.{isDone}
+use Rattle.file_head.specs.Challenge.{challengeLeaf}
 use Rattle.file_head.specs.Head.{HeadAnswer, numbers, notRead, headOf, lengthFrom, statementAt, rootAt, openingAt}
 use Rattle.opening_check.specs.OpeningCheck.{rightRow}
 

@@ -3,21 +3,21 @@ ghost use mathlib.Core.Path.{_≡_};
 ghost use Prim.Native.Nat.{_+_, _≤_};
 ghost use lib.ListN.{length};
 ghost use Rattle.base.specs.Limits.{maxDepth, maxChallenges};
-ghost use Rattle.refusal.specs.Number.{codeOf};
+ghost use Rattle.base.specs.Number.{codeOf};
 ghost use Rattle.file_head.specs.Head.{numbers, lengthFrom, statementAt};
 ghost use Rattle.proof_file.specs.FileCheck.{openingsFrom, wanted, fileRest, fileCheck};
+use base::Check;
 use base::EDITION;
+use base::Outcome;
+use base::Refusal;
 use base::label_at;
 use base::same;
-use challenges::challenge_leaf;
 use file_head::HeadNumbers;
+use file_head::challenge_leaf;
 use file_head::file_length;
 use file_head::opening_start;
 use file_head::read_head;
 use opening_check::right;
-use refusal::Check;
-use refusal::Outcome;
-use refusal::Refusal;
 
 // Each opening in challenge order: 14, 15 with its number.
 fn check_openings(
@@ -115,5 +115,5 @@ pub fn check_file(bytes: &[u8], statement: [u8; 32], depth: u64, count: u64) -> 
 pub fn check_file_code(bytes: &[u8], statement: [u8; 32], depth: u64, count: u64) -> u64
     ensures { λ r. ⌜ r ≡ fileCheck (now (bytes .entry)) statement depth count ⌝ }
 {
-    refusal::code(check_file(bytes, statement, depth, count))
+    base::code(check_file(bytes, statement, depth, count))
 }

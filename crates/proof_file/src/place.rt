@@ -6,11 +6,11 @@ ghost use Rattle.base.specs.Choice.{pick};
 ghost use Rattle.tree.specs.Openings.{openingSize};
 ghost use Rattle.file_head.specs.Layout.{openingFrom};
 ghost use Rattle.file_head.specs.Head.{headOf, hasOpening, partStart, partLength, openingPart};
+use base::beyond;
 use file_head::HeadNumbers;
 use file_head::file_length;
 use file_head::opening_start;
 use file_head::read_head;
-use refusal::beyond;
 
 // A part of the bytes; 0 and 0 where there is none.
 #[repr(C)]

@@ -8,9 +8,9 @@ use borrow.Author.Tests.{ltb-true, ltb-false, leb-true, leb-false, lt-ltb, le-lt
 use lib.Dec.{ltb, leb, lit≤}
 use lib.ListN.{length}
 use Rattle.base.specs.Limits.{maxDepth, maxMemory}
-use Rattle.refusal.specs.Row.{outside, either, isDone, memoryOver}
-use Rattle.refusal.proofs.Ranges.{depth-inside, memory-inside, neither}
-use Rattle.refusal.proofs.RowLaws.{passed}
+use Rattle.base.specs.Row.{outside, either, isDone, memoryOver}
+use Rattle.base.proofs.Ranges.{depth-inside, memory-inside, neither}
+use Rattle.base.proofs.RowLaws.{passed}
 use Rattle.machine.proofs.StepLaws as machines
 use Rattle.machine.proofs.StepLaws.{done-some, done-refused}
 use Rattle.tree.specs.Walk.{nodesIn}

@@ -4,7 +4,7 @@ use mathlib.Core.Bool.{Bool}
 use mathlib.Core.List.{[], _∷_}
 use lib.Dec.{ltb}
 use Rattle.base.specs.Limits.{maxDepth}
-use Rattle.refusal.specs.Row.{firstOf, outside, memoryOver, either}
+use Rattle.base.specs.Row.{firstOf, outside, memoryOver, either}
 use Rattle.tree.specs.Walk.{nodesIn}
 use Rattle.tree.specs.Store.{storeSize}
 use Rattle.run.specs.declared.Run.{Run}

@@ -6,7 +6,7 @@ use lib.ListN.{length}
 use Rattle.base.specs.Limits.{edition, heldSize}
 use Rattle.base.specs.Choice.{pick}
 use Rattle.base.specs.Bytes.{zeros, written}
-use Rattle.refusal.specs.Row.{isDone}
+use Rattle.base.specs.Row.{isDone}
 use Rattle.machine.specs.Machines as machines
 use Rattle.machine.specs.Machines.{Machine}
 use Rattle.tree.specs.Nodes.{Node, root}

@@ -3,17 +3,17 @@ ghost use mathlib.Core.Path.{_≡_};
 ghost use Prim.Native.Nat.{_≤_};
 ghost use lib.Dec.{ltb};
 ghost use Rattle.base.specs.Limits.{maxDepth, maxMemory};
-ghost use Rattle.refusal.specs.Number.{outcomeNumber};
-ghost use Rattle.refusal.specs.Row.{outside, memoryOver};
+ghost use Rattle.base.specs.Number.{outcomeNumber};
+ghost use Rattle.base.specs.Row.{outside, memoryOver};
 ghost use Rattle.tree.specs.Walk.{nodesIn};
 ghost use Rattle.tree.specs.Store.{storeSize};
 ghost use Rattle.run.specs.Rows.{impossible, startRow, continueRow};
 use crate::Run;
 use base::MAX_DEPTH;
-use refusal::Outcome;
-use refusal::Refusal;
-use refusal::beyond;
-use refusal::memory_over;
+use base::Outcome;
+use base::Refusal;
+use base::beyond;
+use base::memory_over;
 
 // The number of nodes of a tree.
 pub fn nodes(depth: u64) -> u64

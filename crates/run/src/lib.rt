@@ -4,17 +4,17 @@ mod labels; // labels.rt: one step, and several
 
 ghost use mathlib.Core.Path.{_≡_};
 ghost use lib.ListN.{length};
-ghost use Rattle.refusal.specs.Number.{outcomeNumber};
+ghost use Rattle.base.specs.Number.{outcomeNumber};
 ghost use Rattle.run.specs.Rows.{startRow, continueRow};
 ghost use Rattle.run.specs.Steps.{newRun, started, stamped, labelsIn, advanced};
 use base::HELD_SIZE;
+use base::Outcome;
 use base::smaller;
 use checks::may_continue;
 use checks::may_start;
 pub use checks::nodes;
 pub use checks::store_short;
 use labels::label_many;
-use refusal::Outcome;
 
 // Document 01's run: statement, n, m, the number of labels made, and 41 places of 32 bytes for held labels.
 #[repr(C)]

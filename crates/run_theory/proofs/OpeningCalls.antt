@@ -11,8 +11,8 @@ use borrow.Author.Tests.{ltb-false, leb-true, leb-false, not-false, le-ltb, le-l
 use Rattle.base.specs.Choice.{both}
 use Rattle.base.specs.Limits.{edition, maxDepth, maxMemory}
 use Rattle.base.proofs.ChoiceLaws.{both-first, both-second}
-use Rattle.refusal.proofs.RowLaws.{NoneHolds, none-holds}
-use Rattle.refusal.specs.Row.{outside, memoryOver}
+use Rattle.base.proofs.RowLaws.{NoneHolds, none-holds}
+use Rattle.base.specs.Row.{outside, memoryOver}
 use Rattle.machine.specs.Machines.{Goes}
 use Rattle.machine.specs.Calls.{total, afterCalls}
 use Rattle.machine.proofs.CallLaws.{calls-state}

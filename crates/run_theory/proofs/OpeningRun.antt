@@ -24,7 +24,7 @@ use Rattle.tree.specs.Openings.{siblings, openingNodes, openingSize}
 use Rattle.tree.specs.TreeOpening.{treeOpening}
 use Rattle.tree.proofs.Order.{order-length}
 use Rattle.tree.proofs.OpeningLaws.{left-siblings-same, tree-leaf, tree-sibling}
-use Rattle.label.specs.Rule.{stampRule}
+use Rattle.labelling.specs.Rule.{stampRule}
 use Rattle.labelling.specs.Step.{nextNode, nextLabel, heldWith}
 use Rattle.opening.specs.Rows.{nodesAnew}
 use Rattle.opening_places.specs.Places.{labelIn, ancestor, beside, placed, copied, copiedAll, front}

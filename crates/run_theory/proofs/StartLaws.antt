@@ -8,8 +8,8 @@ use borrow.Author.Tests.{leb-true, le-leb, ltb-false, le-ltb, not-false}
 use Rattle.base.specs.Limits.{maxDepth, maxMemory}
 use Rattle.base.specs.Choice.{pick}
 use Rattle.base.proofs.ChoiceLaws.{both-first, both-second}
-use Rattle.refusal.specs.Row.{outside, isDone, memoryOver}
-use Rattle.refusal.proofs.RowLaws.{none-holds, NoneHolds}
+use Rattle.base.specs.Row.{outside, isDone, memoryOver}
+use Rattle.base.proofs.RowLaws.{none-holds, NoneHolds}
 use Rattle.tree.specs.Walk.{nodesIn}
 use Rattle.tree.specs.Store.{storeSize}
 use Rattle.run.specs.Rows.{startRow, continueRow}

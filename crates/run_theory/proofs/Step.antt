@@ -26,8 +26,8 @@ use Rattle.tree.proofs.Cut.{labels-back}
 use Rattle.tree.proofs.Labelling.{label-parents}
 use Rattle.tree.proofs.HeldLaws.{heldBelow-before, heldBelow-after, heldBelow-few, held-start, held-all, leaf-parents, inner-parents}
 use Rattle.sha256.proofs.Digests.{digest-length}
-use Rattle.label.proofs.RuleLaws.{stamp-hash}
-use Rattle.label.specs.Rule.{stampRule}
+use Rattle.labelling.proofs.RuleLaws.{stamp-hash}
+use Rattle.labelling.specs.Rule.{stampRule}
 use Rattle.labelling.specs.Step.{nextNode, placeOf, isLeaf, hashedLabels, nextLabel, heldWith}
 use Rattle.run_theory.specs.Reached.{labelOf, labelsOf, heldBytes}
 

@@ -7,7 +7,7 @@ use Rattle.base.specs.Bytes.{zeros, joined}
 use Rattle.tree.specs.Nodes.{Node, root, labellingOrder}
 use Rattle.tree.specs.Labels.{Label, label}
 use Rattle.tree.specs.Held.{heldBelow}
-use Rattle.label.specs.Rule.{stampRule}
+use Rattle.labelling.specs.Rule.{stampRule}
 use Rattle.run.specs.declared.Run.{Run}
 use Rattle.run.specs.Steps.{stored}
 

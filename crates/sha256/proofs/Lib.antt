@@ -4,3 +4,4 @@ pub mod Pushing
 pub mod Digests
 pub mod Portions
 pub mod Padded
+pub mod Examples

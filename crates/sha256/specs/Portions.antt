@@ -8,7 +8,7 @@ use lib.Dec.{leb, eqb}
 use Rattle.base.specs.Choice.{pick}
 use Rattle.base.specs.Bytes.{zeros}
 use Rattle.base.specs.Limits.{maxHashed}
-use Rattle.refusal.specs.Row.{firstOf}
+use Rattle.base.specs.Row.{firstOf}
 use Rattle.compression.specs.declared.Words.{Words}
 use Rattle.sha256.specs.declared.Hash.{Hash}
 use Rattle.compression.specs.Constants.{initial}

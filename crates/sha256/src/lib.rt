@@ -12,9 +12,11 @@ ghost use Rattle.compression.specs.Constants.{initial};
 ghost use Rattle.sha256.specs.Padding.{blocks};
 ghost use Rattle.sha256.specs.Digest.{hashAfter, digestOf};
 ghost use Rattle.base.specs.Limits.{maxHashed};
-ghost use Rattle.refusal.specs.Number.{outcomeNumber};
+ghost use Rattle.base.specs.Number.{outcomeNumber};
 ghost use Rattle.sha256.specs.Portions.{newHash, updateRow, updateState, finishRow, finishDigest, finishState, digestRow, digestAnswer};
 use absorb::absorb;
+use base::Outcome;
+use base::Refusal;
 use compression::INITIAL;
 use compression::Words;
 pub use encode::block_count;
@@ -22,8 +24,6 @@ use encode::digest_after;
 use encode::digest_bytes;
 use push::closed;
 use push::pushed;
-use refusal::Outcome;
-use refusal::Refusal;
 
 // A hash under way: the hash words, the bytes that wait for their block to fill, and how many
 // bytes were taken in all.

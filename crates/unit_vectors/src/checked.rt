@@ -1,13 +1,13 @@
 // Openings checked upward to the root: as they were made, of a wrong length, and with a byte of each label changed.
 ghost use Prim.Native.Nat.{_≤_};
 use base::label_at;
+use base::outcome_number;
 use opening::Opening;
 use opening_check::check_opening;
-use refusal::outcome_number;
-use vector_runs::finished;
-use vector_runs::hash;
-use vector_text::column;
-use vector_text::named;
+use vector_helpers::column;
+use vector_helpers::finished;
+use vector_helpers::hash;
+use vector_helpers::named;
 
 // The opening of a leaf, over output bytes that held something else.
 fn opened(statement: [u8; 32], depth: u64, memory: u64, leaf: u64, store: &[u8]) -> [u8; 1313] {
@@ -74,9 +74,9 @@ fn leaf_checked(
     answer(statement, depth, leaf, root, &out, size + 1);
     answer(statement, depth, leaf ^ 1, root, &out, size);
     answer(statement, depth, leaf, statement, &out, size);
-    vector_text::text(b" changed");
+    vector_helpers::text(b" changed");
     each_changed(statement, depth, leaf, root, out);
-    vector_text::end();
+    vector_helpers::end();
 }
 
 // Every leaf.
@@ -103,7 +103,7 @@ fn level_checked(depth: u64, memory: u64, leaves: u64)
 {
     named(b"depth ", depth);
     named(b" memory ", memory);
-    vector_text::end();
+    vector_helpers::end();
     let statement = hash(b"openings");
     let store = finished(statement, depth, memory);
     let root = label_at(&store, 0);

@@ -1,15 +1,15 @@
 // Every leaf of small trees opened at every memory level and several budgets, and each refusal at its edge. The stored output has the
 // digests of an independent model's openings, and its answers.
+use base::outcome_number;
 use opening::Opening;
-use refusal::outcome_number;
 use sha256::Hash;
-use vector_runs::finished;
-use vector_runs::flag_digest;
-use vector_runs::hash;
-use vector_runs::open_to_end;
-use vector_text::column;
-use vector_text::named;
-use vector_text::named_hex;
+use vector_helpers::column;
+use vector_helpers::finished;
+use vector_helpers::flag_digest;
+use vector_helpers::hash;
+use vector_helpers::named;
+use vector_helpers::named_hex;
+use vector_helpers::open_to_end;
 
 // The hash state with one more opening, made over output bytes that held something else, with a byte behind it.
 fn one(
@@ -75,7 +75,7 @@ fn level(depth: u64, memory: u64, leaves: u64) {
     digests(statement, depth, memory, 1000, leaves, store);
     digests(statement, depth, memory, 3, leaves, store);
     digests(statement, depth, memory, 1, leaves, store);
-    vector_text::end();
+    vector_helpers::end();
 }
 
 fn depth(n: u64, leaves: u64) {
@@ -142,7 +142,7 @@ fn continues_at(n: u64, m: u64, leaf: u64, made: u64, store: usize, out: usize) 
 }
 
 fn edge_at(n: u64, m: u64, leaf: u64, made: u64, store: usize, out: usize) {
-    vector_text::number(n);
+    vector_helpers::number(n);
     column(m);
     column(leaf);
     column(made);
@@ -150,7 +150,7 @@ fn edge_at(n: u64, m: u64, leaf: u64, made: u64, store: usize, out: usize) {
     column(out as u64);
     starts_at(n, m, leaf, store, out);
     continues_at(n, m, leaf, made, store, out);
-    vector_text::end();
+    vector_helpers::end();
 }
 
 fn edges() {

@@ -1,14 +1,14 @@
 // Starting and continuing a run at the edges of each refusal: the whole run and store before and after. The stored output has an
 // independent model's answers.
 use base::big_endian;
-use refusal::outcome_number;
+use base::outcome_number;
 use run::Advanced;
 use run::Run;
 use sha256::Hash;
-use vector_runs::hash;
-use vector_text::flag;
-use vector_text::named;
-use vector_text::named_hex;
+use vector_helpers::flag;
+use vector_helpers::hash;
+use vector_helpers::named;
+use vector_helpers::named_hex;
 
 // Room for memory level 14.
 fn dirty_store() -> [u8; 1048544] {
@@ -96,7 +96,7 @@ fn edge(depth: u64, memory: u64, made: u64, store: &mut [u8]) {
     named(b" store ", store.len() as u64);
     starts(depth, memory, store);
     continues(depth, memory, made, store);
-    vector_text::end();
+    vector_helpers::end();
 }
 
 // The same with a store of this length.

@@ -2,10 +2,10 @@
 // and of an independent model.
 use base::wide;
 use run::Run;
-use vector_runs::hash;
-use vector_runs::named_digest;
-use vector_runs::run_to_end;
-use vector_text::named;
+use vector_helpers::hash;
+use vector_helpers::named;
+use vector_helpers::named_digest;
+use vector_helpers::run_to_end;
 
 // Room for memory level 14 and a byte more, which no run may touch.
 fn dirty_store() -> [u8; 1048545] {
@@ -15,7 +15,7 @@ fn dirty_store() -> [u8; 1048545] {
 // The first bytes of the held labels, and the digest of all places.
 fn first_bytes(held: &[u8], count: usize) {
     if count <= held.len() {
-        vector_text::hex(&held[..count]);
+        vector_helpers::hex(&held[..count]);
     }
     named_digest(b" held ", held);
 }
@@ -24,7 +24,7 @@ fn first_bytes(held: &[u8], count: usize) {
 fn line(run: Run, store: &[u8]) {
     let held = run.held;
     named(b" made ", run.made);
-    vector_text::text(b" root ");
+    vector_helpers::text(b" root ");
     first_bytes(&held, 32);
     named_digest(b" store ", store);
 }
@@ -40,14 +40,14 @@ fn to_end(statement: [u8; 32], depth: u64, memory: u64, budget: u64, size: usize
     let end = run_to_end(run, 131071, budget, &mut space);
     line(end, &space[..size]);
     named(b" behind ", wide(space[size]));
-    vector_text::end();
+    vector_helpers::end();
 }
 
 fn vector(report: &[u8], depth: u64, memory: u64, size: usize) {
     let statement = hash(report);
     named(b"depth ", depth);
     named(b" memory ", memory);
-    vector_text::end();
+    vector_helpers::end();
     to_end(statement, depth, memory, 1000000, size);
     to_end(statement, depth, memory, 1000, size);
     to_end(statement, depth, memory, 1, size);

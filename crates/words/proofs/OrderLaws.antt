@@ -10,7 +10,7 @@ use borrow.Author.Tests.{ltb-false, leb-true, not-false}
 use Rattle.base.specs.Choice.{pick, both}
 use Rattle.base.specs.Limits.{maxDepth, maxChallenges, ownLevel, IsDepth, IsCount}
 use Rattle.base.proofs.ChoiceLaws.{both-first, both-second}
-use Rattle.refusal.specs.Row.{outside}
+use Rattle.base.specs.Row.{outside}
 use Rattle.words.specs.Parting.{wordAt, wordCount}
 use Rattle.words.specs.Values.{valueOf}
 use Rattle.words.specs.declared.Problem.{Problem}

@@ -7,7 +7,7 @@ use lib.ListN.{length}
 use Rattle.base.specs.Choice.{pick, both}
 use Rattle.base.specs.Lists.{sameBytes}
 use Rattle.base.specs.Limits.{maxDepth, maxChallenges, ownLevel}
-use Rattle.refusal.specs.Row.{outside, either}
+use Rattle.base.specs.Row.{outside, either}
 use Rattle.words.specs.Parting.{wordAt, wordCount}
 use Rattle.words.specs.Values.{valueOf}
 use Rattle.words.specs.declared.Problem.{Problem}

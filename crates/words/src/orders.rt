@@ -14,7 +14,7 @@ use crate::values::value;
 use base::MAX_CHALLENGES;
 use base::MAX_DEPTH;
 use base::OWN_LEVEL;
-use refusal::beyond;
+use base::beyond;
 
 fn is_word(word: &[u8], name: &[u8]) -> bool
     ensures { λ r. ⌜ r ≡ sameBytes (now (word .entry)) (now (name .entry)) ⌝ }

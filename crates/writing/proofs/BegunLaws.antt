@@ -12,13 +12,12 @@ use Rattle.opening.specs.declared.Opening.{Opening}
 use Rattle.opening.specs.Rows.{nodesAnew}
 use Rattle.opening.specs.Steps as openings
 use Rattle.opening.specs.Names.{openOf}
-use Rattle.challenges.specs.Challenge.{challengeLeaf, challenged}
+use Rattle.file_head.specs.Challenge.{challengeLeaf, challenged}
 use Rattle.file_head.specs.Layout.{head, headSize, openingFrom, headWritten}
 use Rattle.run_theory.specs.Openings.{Openable}
 use Rattle.run_theory.proofs.OpeningCalls.{started-fits, startedOut-fits}
-use Rattle.challenges.proofs.Leaves.{challengeLeaf-small}
-use Rattle.challenges.proofs.RowLaws.{challenge-done}
-use Rattle.file_head.proofs.RowLaws.{head-done}
+use Rattle.file_head.proofs.Leaves.{challengeLeaf-small}
+use Rattle.file_head.proofs.RowLaws.{challenge-done, head-done}
 use Rattle.writing.specs.declared.Writing.{Writing}
 use Rattle.writing.specs.Possible.{Room, Ready, writingOf, writtenOf, labelled}
 use Rattle.writing.specs.Steps.{Written, begun, followed, newWriting}

@@ -7,14 +7,14 @@ use borrow.Author.Tests.{ltb-false, leb-false}
 use lib.Dec.{ltb, leb}
 use lib.ListN.{length}
 use Rattle.base.specs.Limits.{maxDepth, maxMemory, maxChallenges, IsDepth, IsCount}
-use Rattle.refusal.specs.Row.{outside, either, isDone, memoryOver}
+use Rattle.base.specs.Row.{outside, either, isDone, memoryOver}
 use Rattle.run.specs.Rows.{impossible}
-use Rattle.refusal.proofs.Ranges.{neither}
+use Rattle.base.proofs.Ranges.{neither}
 use Rattle.machine.proofs.StepLaws as machines
 use Rattle.machine.proofs.StepLaws.{done-some, done-refused}
 use Rattle.opening.specs.declared.Opening.{Opening}
 use Rattle.opening.specs.Rows.{nodesAnew}
-use Rattle.refusal.proofs.Ranges.{range-of}
+use Rattle.base.proofs.Ranges.{range-of}
 use Rattle.writing.specs.declared.Writing.{Writing}
 use Rattle.writing.specs.Rows.{writeRow, rewriteRow}
 use Rattle.writing.specs.Possible.{stateOutside, writtenOf}

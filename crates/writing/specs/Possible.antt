@@ -5,7 +5,7 @@ use mathlib.Core.Bool.{Bool, false}
 use mathlib.Core.List.{List}
 use lib.Dec.{leb}
 use Rattle.base.specs.Limits.{maxDepth, maxMemory, maxChallenges, IsDepth, IsMemory}
-use Rattle.refusal.specs.Row.{outside, either}
+use Rattle.base.specs.Row.{outside, either}
 use Rattle.tree.specs.Store.{storeSize}
 use Rattle.run.specs.Rows.{impossible}
 use Rattle.opening.specs.declared.Opening.{Opening}

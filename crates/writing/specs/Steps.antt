@@ -8,7 +8,7 @@ use lib.ListN.{length, take, drop}
 use Rattle.base.specs.Limits.{edition}
 use Rattle.base.specs.Choice.{pick, both}
 use Rattle.base.specs.Bytes.{zeros, written}
-use Rattle.refusal.specs.Row.{isDone}
+use Rattle.base.specs.Row.{isDone}
 use Rattle.tree.specs.Openings.{openingSize}
 use Rattle.machine.specs.Machines as machines
 use Rattle.machine.specs.Machines.{Machine}
@@ -16,7 +16,7 @@ use Rattle.opening.specs.declared.Opening.{Opening}
 use Rattle.opening.specs.Rows.{nodesAnew}
 use Rattle.opening.specs.Steps as openings
 use Rattle.opening_places.specs.Places.{copiedAll}
-use Rattle.challenges.specs.Challenge.{challengeLeaf}
+use Rattle.file_head.specs.Challenge.{challengeLeaf}
 use Rattle.file_head.specs.Layout.{head, headSize, openingFrom}
 use Rattle.writing.specs.declared.Writing.{Writing}
 use Rattle.writing.specs.Rows.{writeRow, rewriteRow}

@@ -1,19 +1,19 @@
 // What may be started and continued: the rows of writing a file, for every number.
 ghost use mathlib.Core.Path.{_≡_};
-ghost use Rattle.refusal.specs.Number.{outcomeNumber};
+ghost use Rattle.base.specs.Number.{outcomeNumber};
 ghost use Rattle.writing.specs.Rows.{writeRow, rewriteRow};
 ghost use Rattle.writing.specs.Possible.{stateOutside};
 use crate::Writing;
 use crate::labels::may_follow;
 use base::MAX_CHALLENGES;
 use base::MAX_DEPTH;
+use base::Outcome;
+use base::Refusal;
+use base::beyond;
+use base::memory_over;
 use file_head::file_size;
 use opening::nodes_anew;
 use opening::not_possible;
-use refusal::Outcome;
-use refusal::Refusal;
-use refusal::beyond;
-use refusal::memory_over;
 use run::store_short;
 
 pub fn may_start(depth: u64, memory: u64, count: u64, store: usize, file: usize) -> Outcome

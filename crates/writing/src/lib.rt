@@ -5,11 +5,12 @@ mod parts; // parts.rt: an opening in its part of the file
 
 ghost use mathlib.Core.Path.{_≡_};
 ghost use lib.ListN.{length};
-ghost use Rattle.refusal.specs.Number.{outcomeNumber};
+ghost use Rattle.base.specs.Number.{outcomeNumber};
 ghost use Rattle.writing.specs.Rows.{writeRow, rewriteRow};
 ghost use Rattle.writing.specs.Possible.{writtenOf};
 ghost use Rattle.writing.specs.Steps.{noWriting, started, labelsIn, advanced};
 use base::HELD_SIZE;
+use base::Outcome;
 use base::smaller;
 use checks::may_continue;
 use checks::may_start;
@@ -17,7 +18,6 @@ use labels::label_many;
 use labels::labels_left;
 use labels::write_first;
 use opening::Opening;
-use refusal::Outcome;
 
 // A file under writing: its root and count, the number of the opening under way, from 1, and that opening.
 #[repr(C)]

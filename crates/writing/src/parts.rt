@@ -9,7 +9,7 @@ ghost use Rattle.file_head.specs.Layout.{headSize, openingFrom, fileSize};
 ghost use Rattle.writing.specs.Possible.{Room, Ready, writtenOf, labelled};
 ghost use Rattle.writing.specs.Steps.{begun};
 use crate::Writing;
-use challenges::challenge;
+use file_head::challenge;
 use file_head::file_size;
 use opening::Opening;
 

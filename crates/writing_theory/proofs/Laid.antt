@@ -16,7 +16,7 @@ use Rattle.file_head.specs.Layout.{head, headSize, openingFrom, fileSize, file}
 use Rattle.proof_file.specs.FileCheck.{fileCheck}
 use Rattle.run_theory.proofs.Step.{label-size}
 use Rattle.check_theory.specs.TreeFile.{rootOf, challengedOpening, treeOpenings, treeFile}
-use Rattle.challenges.proofs.Leaves.{challengeLeaf-small}
+use Rattle.file_head.proofs.Leaves.{challengeLeaf-small}
 use Rattle.check_theory.proofs.Reading.{length-head}
 use Rattle.check_theory.proofs.TreeFile.{openings-grow, openings-length, length-treeFile, tree-accepted}
 use Rattle.writing_theory.specs.Filed.{laid, laidSize, leafAfter}

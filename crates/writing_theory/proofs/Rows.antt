@@ -7,15 +7,15 @@ use lib.Dec.{ltb}
 use lib.ListN.{length}
 use borrow.Author.Tests.{le-ltb, lt-leb}
 use Rattle.base.specs.Limits.{maxDepth, maxMemory, maxChallenges, IsDepth, IsCount}
-use Rattle.refusal.specs.Row.{outside, memoryOver}
-use Rattle.refusal.proofs.RowLaws.{none-holds, NoneHolds}
+use Rattle.base.specs.Row.{outside, memoryOver}
+use Rattle.base.proofs.RowLaws.{none-holds, NoneHolds}
 use Rattle.tree.specs.Store.{storeSize}
 use Rattle.run.specs.Rows.{startRow}
 use Rattle.opening.specs.Rows.{nodesAnew}
 use Rattle.file_head.specs.Layout.{fileSize, headRow}
 use Rattle.run_theory.specs.Runs.{Startable}
 use Rattle.run_theory.proofs.StartLaws.{start-bounds}
-use Rattle.refusal.proofs.Ranges.{within}
+use Rattle.base.proofs.Ranges.{within}
 use Rattle.file_head.proofs.RowLaws.{done-head}
 use Rattle.writing.specs.declared.Writing.{Writing}
 use Rattle.writing.specs.Rows.{writeRow, rewriteRow}

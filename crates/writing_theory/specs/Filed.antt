@@ -13,7 +13,7 @@ use Rattle.tree.specs.Openings.{openingSize}
 use Rattle.run.specs.Steps.{Stamped}
 use Rattle.opening.specs.Rows.{nodesAnew}
 use Rattle.opening.specs.Steps.{Open}
-use Rattle.challenges.specs.Challenge.{challengeLeaf}
+use Rattle.file_head.specs.Challenge.{challengeLeaf}
 use Rattle.file_head.specs.Layout.{head, headSize, fileSize}
 use Rattle.run_theory.specs.Openings.{openAfter}
 use Rattle.check_theory.specs.TreeFile.{rootOf, treeOpenings}

@@ -1,6 +1,6 @@
 -- `chain::planning::check_leaves` meets its contract: one law for each exit.
 use Rattle.base.specs.Limits.{maxDepth, maxChallenges}
-use Rattle.refusal.proofs.Ranges.{below-range, above-range, in-range}
+use Rattle.base.proofs.Ranges.{below-range, above-range, in-range}
 use Rattle.chain.proofs.Rows.{row-depth, row-count, row-leaf, row-done}
 use borrow.Author.Tests.{not-true, not-false}
 use mathlib.Core.Path.{sym, _∙_}

@@ -1,6 +1,6 @@
 -- `chain::planning::plan` meets its contract: refused by the first three checks, or left to the list.
 use Rattle.chain.proofs.Rows.{leaves-refused}
-use Rattle.refusal.proofs.RowLaws.{is-done, refused-number}
+use Rattle.base.proofs.RowLaws.{is-done, refused-number}
 use borrow.Author.Needs.{needs}
 use Rattle.chain.proofs.planning.plan.Statement.{statement}
 use Rattle.chain.proofs.planning.plan.Tie as tie

@@ -5,7 +5,7 @@ use Prim.Native.Nat.{_-_, _≤_}
 use lib.ListN.{length}
 use borrow.Author.Tests.{not-true, not-false}
 use Rattle.compare.specs.FirstPair.{levelsFrom}
-use Rattle.child_table.specs.Table.{tableDisagreement}
+use Rattle.compare.specs.Table.{tableDisagreement}
 use Rattle.compare.proofs.FirstPairLaws.{levels-ended}
 use Rattle.compare.proofs.Turns.{cell-length, turn-unshared, turn-differs, turn-same}
 use borrow.Author.Needs.{needs}

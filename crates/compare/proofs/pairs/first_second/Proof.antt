@@ -4,7 +4,7 @@ use mathlib.Core.Path.{_≡_, sym, _∙_}
 use Prim.Native.Nat.{_+_, _-_, _≤_, _<_}
 use lib.ListN.{length}
 use Rattle.compare.specs.FirstPair.{secondsFrom}
-use Rattle.child_table.specs.Table.{tableDisagreement}
+use Rattle.compare.specs.Table.{tableDisagreement}
 use Rattle.compare.proofs.FirstPairLaws.{second-found, seconds-ended}
 use borrow.Author.Needs.{needs}
 use native.Mathlib.Omega.{arith}

@@ -1,6 +1,6 @@
 -- `compare::whole::check` meets its contract: one law for each return.
 use mathlib.Core.Path.{_≡_}
-use Rattle.refusal.proofs.RowLaws.{is-done, refused-number}
+use Rattle.base.proofs.RowLaws.{is-done, refused-number}
 use Rattle.chain.specs.Leaves.{leavesRow}
 use Rattle.compare.proofs.Checks.{leaves-refused, depth-known, all-fit, size-short, size-long, size-right}
 use native.Mathlib.Omega.{arith}

@@ -1,6 +1,6 @@
 -- `compare::compare` meets its contract: refused, or compared.
 use mathlib.Core.Path.{sym, _∙_}
-use Rattle.refusal.proofs.RowLaws.{is-done, refused-number, not-done}
+use Rattle.base.proofs.RowLaws.{is-done, refused-number, not-done}
 use Rattle.compare.proofs.Checks.{compared-done, compared-refused}
 use borrow.Author.Needs.{needs}
 use Rattle.base.specs.Limits.{edition}

@@ -1,7 +1,7 @@
 -- `compare::whole::compare_all` meets its contract: what the table shows is what the openings are.
 use mathlib.Core.Path.{refl, sym, _∙_}
 use lib.ListN.{length}
-use Rattle.child_table.specs.Table.{Inside, tableDisagreement}
+use Rattle.compare.specs.Table.{Inside, tableDisagreement}
 use Rattle.compare.proofs.FirstPairLaws.{pair-lies}
 use Rattle.compare.proofs.Checks.{sized}
 use Rattle.compare.proofs.Lookup.{agree-answers, disagree-answers}

@@ -1,6 +1,6 @@
 -- `draw::draw` meets its contract: refused, or drawn.
 use mathlib.Core.Path.{sym, ap, _∙_}
-use Rattle.refusal.specs.Number.{codeOf}
+use Rattle.base.specs.Number.{codeOf}
 use Rattle.draw.proofs.AcceptedFile.{file-refused}
 use borrow.Author.Needs.{needs}
 use Rattle.draw.proofs.whole.draw.Statement.{statement}

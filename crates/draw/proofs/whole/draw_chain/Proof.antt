@@ -1,5 +1,5 @@
 -- `draw::whole::draw_chain` meets its contract: the list is short, or the chain is written.
-use Rattle.refusal.proofs.RowLaws.{is-done}
+use Rattle.base.proofs.RowLaws.{is-done}
 use Rattle.draw.proofs.Chains.{chain-refused, chain-drawn}
 use borrow.Author.Needs.{needs}
 use Rattle.draw.proofs.whole.draw_chain.Statement.{statement}

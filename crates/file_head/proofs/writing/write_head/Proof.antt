@@ -4,7 +4,7 @@ use native.Mathlib.Omega.{arith}
 use borrow.Author.Needs.{needs}
 use lib.ListN.{length}
 use Rattle.base.specs.Limits.{maxDepth, maxChallenges, edition}
-use Rattle.refusal.proofs.Ranges.{range-of}
+use Rattle.base.proofs.Ranges.{range-of}
 use Rattle.file_head.proofs.WritingLaws.{depth-refused, count-refused, short-refused, head-fits, head-written}
 use Rattle.file_head.proofs.writing.write_head.Statement.{statement}
 use Rattle.file_head.proofs.writing.write_head.Tie as tie

@@ -6,7 +6,7 @@ use borrow.Author.Needs.{needs}
 use Rattle.base.specs.Bytes.{zeros, written}
 use Rattle.tree.specs.Nodes.{node}
 use Rattle.tree.specs.Labels.{labelBy}
-use Rattle.label.specs.Rule.{stampRule}
+use Rattle.labelling.specs.Rule.{stampRule}
 use Rattle.labelling.proofs.OneStep.{two-hashed}
 use Rattle.labelling.proofs.next.label_inner.Statement.{statement}
 use Rattle.labelling.proofs.next.label_inner.Tie as tie

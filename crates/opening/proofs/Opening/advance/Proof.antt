@@ -6,11 +6,11 @@ use borrow.Author.Tests.{ltb-false}
 use borrow.Author.Needs.{needs}
 use lib.Dec.{ltb, leb, lit≤}
 use lib.ListN.{length}
-use Rattle.refusal.specs.Row.{either}
+use Rattle.base.specs.Row.{either}
 use Rattle.tree.specs.Store.{storeSize}
 use Rattle.tree.specs.Openings.{openingSize}
 use Rattle.run.specs.Rows.{impossible}
-use Rattle.refusal.proofs.RowLaws.{passed, is-done, is-refused}
+use Rattle.base.proofs.RowLaws.{passed, is-done, is-refused}
 use Rattle.opening.specs.Rows.{nodesAnew, reopenRow}
 use Rattle.opening.specs.declared.Opening.{Opening}
 use Rattle.opening.proofs.RowLaws.{Ready, can-be, labels-done, labels-refused, advanced-by, unchanged}

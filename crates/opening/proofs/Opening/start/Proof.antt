@@ -6,9 +6,9 @@ use borrow.Author.Needs.{needs}
 use lib.Dec.{ltb, leb, lit≤}
 use lib.ListN.{length}
 use Rattle.base.specs.Limits.{maxDepth}
-use Rattle.refusal.specs.Row.{outside, memoryOver}
+use Rattle.base.specs.Row.{outside, memoryOver}
 use Rattle.tree.specs.Store.{storeSize}
-use Rattle.refusal.proofs.RowLaws.{passed, is-done, is-refused}
+use Rattle.base.proofs.RowLaws.{passed, is-done, is-refused}
 use Rattle.tree.specs.Openings.{openingSize}
 use Rattle.opening.specs.Rows.{openRow}
 use Rattle.opening.proofs.RowLaws.{Ready, possible, start-done, start-refused}

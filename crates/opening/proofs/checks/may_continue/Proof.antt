@@ -4,7 +4,7 @@ use mathlib.Core.Bool.{Bool, false}
 use Prim.Native.Nat.{_^_}
 use borrow.Author.Needs.{needs}
 use lib.Dec.{leb}
-use Rattle.refusal.specs.Row.{either}
+use Rattle.base.specs.Row.{either}
 use Rattle.run.specs.Rows.{impossible}
 use Rattle.opening_places.specs.Possible.{Possible}
 use Rattle.opening.specs.Rows.{nodesAnew, reopenRow}

@@ -5,9 +5,9 @@ use Prim.Native.Nat.{_^_}
 use borrow.Author.Needs.{needs}
 use lib.Dec.{ltb, leb}
 use Rattle.base.specs.Limits.{maxDepth}
-use Rattle.refusal.specs.Row.{outside, memoryOver}
+use Rattle.base.specs.Row.{outside, memoryOver}
 use Rattle.tree.specs.Store.{storeSize}
-use Rattle.refusal.proofs.Ranges.{depth-inside, memory-inside}
+use Rattle.base.proofs.Ranges.{depth-inside, memory-inside}
 use Rattle.opening.specs.Rows.{openRow}
 use Rattle.opening.proofs.checks.may_start.Statement.{statement}
 use Rattle.opening.proofs.checks.may_start.Tie as tie

@@ -6,8 +6,8 @@ use native.Mathlib.Omega.{arith}
 use borrow.Author.Tests.{lt-ltb, le-ltb}
 use borrow.Author.Needs.{needs}
 use Rattle.base.specs.Limits.{maxDepth}
-use Rattle.refusal.specs.Row.{outside, memoryOver}
-use Rattle.refusal.proofs.Ranges.{depth-inside, memory-below}
+use Rattle.base.specs.Row.{outside, memoryOver}
+use Rattle.base.proofs.Ranges.{depth-inside, memory-below}
 use Rattle.opening.specs.Rows.{nodesAnew}
 use Rattle.opening.proofs.checks.not_possible.Statement.{statement}
 use Rattle.opening.proofs.checks.not_possible.Tie as tie

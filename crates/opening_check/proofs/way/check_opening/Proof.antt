@@ -6,7 +6,7 @@ use borrow.Author.Needs.{needs}
 use Rattle.base.specs.Limits.{edition, maxDepth, IsDepth}
 use Rattle.base.proofs.Powers.{shifted-one}
 use Rattle.opening_check.proofs.OneOpening.{depth-refused, leaf-refused, short-refused, long-refused, rest-right}
-use Rattle.refusal.proofs.Ranges.{range-of}
+use Rattle.base.proofs.Ranges.{range-of}
 use Rattle.opening_check.proofs.way.check_opening.Statement.{statement}
 use Rattle.opening_check.proofs.way.check_opening.Tie as tie
 

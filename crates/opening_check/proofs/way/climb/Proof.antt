@@ -5,7 +5,7 @@ use Prim.Native.Nat.{_-_, _≤_, _+_, _*_}
 use native.Mathlib.Omega.{arith}
 use borrow.Author.Needs.{needs}
 use lib.ListN.{length}
-use Rattle.label.specs.Rule.{stampRule}
+use Rattle.labelling.specs.Rule.{stampRule}
 use Rattle.tree.specs.Openings.{computed}
 use Rattle.opening_check.specs.OpeningCheck.{givenBy}
 use Rattle.base.proofs.Parts.{part-size, part-length}

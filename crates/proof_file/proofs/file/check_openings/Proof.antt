@@ -8,7 +8,7 @@ use lib.ListN.{length}
 use Rattle.base.proofs.Parts.{part-size, part-length}
 use Rattle.tree.specs.Openings.{openingSize}
 use Rattle.proof_file.specs.FileCheck.{openingsFrom}
-use Rattle.challenges.proofs.Leaves.{challengeLeaf-small}
+use Rattle.file_head.proofs.Leaves.{challengeLeaf-small}
 use Rattle.proof_file.proofs.FileLaws.{opening-refused, opening-right, none-left}
 use Rattle.file_head.proofs.HeadLaws.{openings-small, opening-inside}
 use Rattle.proof_file.proofs.file.check_openings.Statement.{statement}

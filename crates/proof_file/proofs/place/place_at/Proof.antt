@@ -2,7 +2,7 @@
 use mathlib.Core.Path.{sym, _∙_}
 use native.Mathlib.Omega.{arith}
 use borrow.Author.Needs.{needs}
-use Rattle.refusal.proofs.Ranges.{range-of}
+use Rattle.base.proofs.Ranges.{range-of}
 use Rattle.file_head.proofs.HeadLaws.{other-length, no-opening, an-opening}
 use Rattle.proof_file.proofs.place.place_at.Statement.{statement}
 use Rattle.proof_file.proofs.place.place_at.Tie as tie

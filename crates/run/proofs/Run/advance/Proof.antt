@@ -4,7 +4,7 @@ use Prim.Native.Nat.{ℕ, _-_, min}
 use native.Mathlib.Omega.{arith}
 use borrow.Author.Needs.{needs}
 use lib.ListN.{length}
-use Rattle.refusal.proofs.RowLaws.{is-done, is-refused}
+use Rattle.base.proofs.RowLaws.{is-done, is-refused}
 use Rattle.run.proofs.RowLaws.{Whole, may-go-on, labels-done, labels-refused, advanced-by, unchanged}
 use Rattle.run.proofs.Run.advance.Statement.{statement}
 use Rattle.run.proofs.Run.advance.Tie as tie

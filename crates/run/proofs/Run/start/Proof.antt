@@ -1,7 +1,7 @@
 -- `run::Run::start` meets its contract, by the answer.
 use mathlib.Core.Path.{_∙_}
 use lib.ListN.{length}
-use Rattle.refusal.proofs.RowLaws.{is-done, is-refused}
+use Rattle.base.proofs.RowLaws.{is-done, is-refused}
 use Rattle.run.proofs.RowLaws.{start-done, start-refused}
 use borrow.Author.Needs.{needs}
 use Rattle.run.proofs.Run.start.Statement.{statement}

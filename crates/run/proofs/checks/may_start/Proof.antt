@@ -1,7 +1,7 @@
 -- `run::checks::may_start` meets its contract: each return by the tests passed.
 use mathlib.Core.Path.{sym, _∙_}
 use Rattle.run.specs.Rows.{startRow}
-use Rattle.refusal.proofs.Ranges.{memory-inside}
+use Rattle.base.proofs.Ranges.{memory-inside}
 use borrow.Author.Needs.{needs}
 use Rattle.run.proofs.checks.may_start.Statement.{statement}
 use Rattle.run.proofs.checks.may_start.Tie as tie

@@ -1,6 +1,6 @@
 -- `run::checks::not_possible` meets its contract: each return by the tests passed.
 use mathlib.Core.Path.{sym, _∙_}
-use Rattle.refusal.proofs.Ranges.{depth-inside}
+use Rattle.base.proofs.Ranges.{depth-inside}
 use borrow.Author.Needs.{needs}
 use Rattle.run.proofs.checks.not_possible.Statement.{statement}
 use Rattle.run.proofs.checks.not_possible.Tie as tie

@@ -4,7 +4,7 @@ use mathlib.Core.Bool.{Bool, false}
 use mathlib.Core.List.{List, [], _∷_}
 use borrow.Author.Tests.{ltb-false}
 use lib.Dec.{ltb}
-use Rattle.refusal.proofs.RowLaws.{NoneHolds, none-holds, is-done, is-refused}
+use Rattle.base.proofs.RowLaws.{NoneHolds, none-holds, is-done, is-refused}
 use Rattle.tree.specs.Store.{storeSize}
 use Rattle.file_head.specs.Layout.{fileSize}
 use Rattle.writing.specs.declared.Writing.{Writing}

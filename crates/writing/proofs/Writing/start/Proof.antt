@@ -6,11 +6,11 @@ use native.Mathlib.Omega.{arith}
 use borrow.Author.Tests.{ltb-false}
 use lib.Dec.{ltb}
 use Rattle.base.specs.Limits.{maxDepth, maxMemory, maxChallenges, IsCount}
-use Rattle.refusal.specs.Row.{outside, memoryOver}
-use Rattle.refusal.proofs.RowLaws.{NoneHolds, none-holds, is-done, is-refused}
+use Rattle.base.specs.Row.{outside, memoryOver}
+use Rattle.base.proofs.RowLaws.{NoneHolds, none-holds, is-done, is-refused}
 use Rattle.tree.specs.Store.{storeSize}
 use Rattle.file_head.specs.Layout.{fileSize}
-use Rattle.refusal.proofs.Ranges.{range-of}
+use Rattle.base.proofs.Ranges.{range-of}
 use Rattle.writing.specs.Possible.{Room}
 use borrow.Author.Needs.{needs}
 use mathlib.Core.Path.{_≡_, refl, ap, _∙_}

@@ -5,11 +5,11 @@ use mathlib.Core.Bool.{false}
 use borrow.Author.Tests.{lt-ltb, le-ltb}
 use lib.Dec.{ltb}
 use Rattle.base.specs.Limits.{maxDepth, maxChallenges}
-use Rattle.refusal.specs.Row.{outside, memoryOver}
+use Rattle.base.specs.Row.{outside, memoryOver}
 use Rattle.tree.specs.Store.{storeSize}
-use Rattle.refusal.proofs.Ranges.{depth-inside, memory-inside}
+use Rattle.base.proofs.Ranges.{depth-inside, memory-inside}
 use Rattle.file_head.specs.Layout.{fileSize}
-use Rattle.refusal.proofs.Ranges.{range-of}
+use Rattle.base.proofs.Ranges.{range-of}
 use Rattle.writing.specs.Rows.{writeRow}
 use Rattle.writing.proofs.checks.may_start.Statement.{statement}
 use Rattle.writing.proofs.checks.may_start.Tie as tie

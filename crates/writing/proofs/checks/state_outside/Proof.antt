@@ -5,7 +5,7 @@ use Prim.Native.Nat.{ℕ, _^_}
 use lib.Dec.{ltb, leb, eqb}
 use Rattle.base.specs.Choice.{both}
 use Rattle.base.specs.Limits.{maxChallenges}
-use Rattle.refusal.specs.Row.{outside, either}
+use Rattle.base.specs.Row.{outside, either}
 use Rattle.run.specs.Rows.{impossible}
 use Rattle.opening.specs.Rows.{nodesAnew}
 use Rattle.opening.proofs.RowLaws.{can-be}

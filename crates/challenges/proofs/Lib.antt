@@ -1,3 +1,0 @@
-pub mod ChallengeLaws
-pub mod Leaves
-pub mod RowLaws

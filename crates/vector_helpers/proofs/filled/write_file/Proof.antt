@@ -1,0 +1,28 @@
+-- `vector_helpers::filled::write_file` meets its contract.
+use mathlib.Core.Path.{ap, _∙_}
+use mathlib.Core.List.{List}
+use Prim.Native.Nat.{ℕ}
+use lib.ListN.{take}
+use borrow.Author.Needs.{needs}
+use Rattle.vector_helpers.specs.Whole.{wholeRun, wholeFile}
+use Rattle.vector_helpers.proofs.filled.write_file.Statement.{statement}
+use Rattle.vector_helpers.proofs.filled.write_file.Tie as tie
+
+returns : tie.Need-returns
+returns c =
+    let a = c .before .before .before .before .before .before .before .before .before .before .before .before .args in
+    let space = c .before .before .before .before .before .before .before .before .before .before .store-space .ensures in
+    let run = c .before .before .before .before .before .before .before .before .run-whole .ensures in
+    let root = c .before .before .before .before .before .label-at in
+    let store = run ∙ ap (λ (s : List ℕ). wholeRun (a .statement) (a .depth) (a .memory) s) space in (
+      root .ensures ∙ ap (λ (s : List ℕ). take 32 s) store,
+      c .before .before .write-whole .ensures
+          ∙ ap (λ (s : List ℕ). wholeFile (a .statement) (root .result) (a .depth) (a .memory) (a .count) s (a .file .now)) store,
+    )
+
+pub write-file-spec : {M : Type 1} → statement M
+write-file-spec =
+    tie.close
+    (tie.spec
+    (λ c κs. search needs) (λ c. search needs) (λ c κs. search needs) (λ c. search needs) (λ c κs. search needs)
+    (λ c. search needs) (λ c κs. search needs) (λ c. search needs) returns)
