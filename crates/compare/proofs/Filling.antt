@@ -14,14 +14,11 @@ use borrow.Rule.Slice.PartMut.{putMid}
 use Rattle.base.specs.Choice.{odd}
 use Rattle.base.specs.Bytes.{joined, written}
 use Rattle.base.specs.Limits.{maxDepth, maxChallenges}
-use Rattle.base.specs.Lists.{EachOf}
 use Rattle.base.proofs.ChoiceLaws.{is-odd, is-even}
 use Rattle.base.proofs.WrittenLaws.{drop-written, written-here, written-apart, written-append}
-use Rattle.tree.specs.Nodes.{Node}
-use Rattle.tree.specs.Labels.{Label, Rule, labelBy, inLabels}
+use Rattle.tree.specs.Labels.{Label, Rule}
 use Rattle.tree.specs.Openings.{Given, childLabels, computed, openingSize}
 use Rattle.tree.specs.Disagreement.{childrenKnown}
-use Rattle.tree.proofs.Cut.{labels-back}
 use Rattle.tree.proofs.Clash.{children-known}
 use Rattle.labelling.specs.Rule.{stampRule}
 use Rattle.opening_check.specs.OpeningCheck.{givenBy}
@@ -76,23 +73,6 @@ children-length : (b : Bool) (child beside : Label) → length child ≡ 32 → 
 unfolding joined
 children-length true child beside c b = simp (length-append, c, b)
 children-length false child beside c b = simp (length-append, c, b)
-
-children-each : (b : Bool) (child beside : Label) → length child ≡ 32 → length beside ≡ 32 → EachOf 32 (childLabels b child beside)
-children-each true child beside c b = (b, (c, tt))
-children-each false child beside c b = (c, (b, tt))
-
--- the label over the two that were written
-pub label-over : (r : Rule) (row after : List ℕ) (v : Node) (at : ℕ) (b : Bool) (child beside : Label) → length child ≡ 32 → length beside ≡ 32
-    → at + 64 ≤ length row → after ≡ written row at (joined (childLabels b child beside))
-    → labelBy r v (inLabels (take (at + 64 - at) (drop at after))) ≡ labelBy r v (childLabels b child beside)
-label-over r row after v at b child beside c s fits e =
-    let size : length (joined (childLabels b child beside)) ≡ 64 = children-length b child beside c s in
-    rw (
-      part-size after at 64,
-      e,
-      written-here row (joined (childLabels b child beside)) at (rw size fits) 64 size,
-      labels-back (childLabels b child beside) (children-each b child beside c s),
-    )
 
 -- ---- an opening's row
 pub row-more :

@@ -15,7 +15,7 @@ use base::MAX_DEPTH;
 use base::MAX_LEAVES;
 use base::label_at;
 use base::put;
-use labelling::label;
+use opening_check::label_above;
 
 // The bytes of a row, and of the table.
 const ROW_SIZE: usize = 64 * MAX_DEPTH as usize;
@@ -60,17 +60,7 @@ fn fill_node(
     ensures { λ r. ⌜ r ≡ labelBy (stampRule edition n statement) (node level (position / 2)) (childLabels (odd position) child (now (beside .entry))) ⌝ }
 {
     put_children(row, at, position, child, beside);
-    let end = at + 64;
-    label(
-        edition,
-        n,
-        statement,
-        level,
-        position / 2,
-        2,
-        b"",
-        &row[at..end],
-    )
+    label_above(edition, n, statement, level, position, child, beside)
 }
 
 // Fills an opening's row, walking its way upward once. What lies behind the way's nodes stays.

@@ -1,16 +1,16 @@
--- Laws of writing the head: the numbers in their groups, part after part over the front of the output, and the row.
+-- Laws of writing the head: the numbers in their groups, part after part over the front of the output, and all of it by the row's answer.
 use mathlib.Core.Path.{_≡_, _∙_}
-use mathlib.Core.Bool.{true, false}
+use mathlib.Core.Bool.{false}
 use mathlib.Core.List.{List, _++_}
 use Prim.Native.Nat.{ℕ, _+_, _/_, _≤_, _<_}
 use native.Mathlib.Nat.{zero-add}
 use native.Mathlib.Omega.{arith}
-use borrow.Author.Tests.{lt-ltb, le-ltb}
+use borrow.Author.Tests.{le-ltb}
 use lib.ListN.{length, drop, length-append}
 use lib.Seq.{take-append-seam, drop-append-add, drop-drop}
 use Rattle.base.specs.Limits.{maxDepth, maxChallenges}
 use Rattle.base.specs.Bytes.{written}
-use Rattle.base.specs.Row.{outside}
+use Rattle.base.specs.Row.{isDone}
 use Rattle.groups.specs.Groups.{groups}
 use Rattle.groups.specs.Writing.{putRow, putCount, outputAfter}
 use Rattle.groups.proofs.Steps.{groups-last, groups-more}
@@ -52,9 +52,9 @@ module _ (n t : ℕ) (small : n ≤ maxDepth) where
   size-four m h = rw (one-group n (omega arith), two-groups t m (omega arith))
 
 -- a file that fits has a head that fits
-pub head-fits : (n t size room : ℕ) → size ≡ fileSize n t → size ≤ room → headSize n t ≤ room
+pub head-fits : (n t room : ℕ) → fileSize n t ≤ room → headSize n t ≤ room
 unfolding fileSize
-head-fits n t size room is h = omega arith
+head-fits n t room h = omega arith
 
 -- ---- a part behind what is written over the front
 pub written-next : (out m part b : List ℕ) (at : ℕ) → b ≡ written out 0 m → at ≡ length m
@@ -93,30 +93,12 @@ head-put edition statement root n t out o1 o2 o3 at s a e1 e2 e3 =
     (e2 ∙ written-next out (headNumbers edition n t) statement o1 at e1 a)
     (rw (length-append, s, a))
 
--- ---- the row, one law for each return
-abbrev Answers : ℕ → List ℕ → List ℕ → ℕ → ℕ → List ℕ → ℕ → List ℕ → Type 0
-Answers edition statement root n t out number after = (number ≡ headRow n t (length out)) × (after ≡ headWritten edition statement root n t out)
-
+-- ---- what writing gives, by the row's answer
 module _ (edition : ℕ) (statement root : List ℕ) (n t : ℕ) (out : List ℕ) where
-  pub depth-refused : outside 1 maxDepth n ≡ true → Answers edition statement root n t out 1 out
-  unfolding headRow headWritten
-  depth-refused d = (rw d, rw d)
+  pub head-refused : isDone (headRow n t (length out)) ≡ false → out ≡ headWritten edition statement root n t out
+  unfolding headWritten
+  head-refused e = rw e
 
-  module _ (d : outside 1 maxDepth n ≡ false) where
-    pub count-refused : outside 1 maxChallenges t ≡ true → Answers edition statement root n t out 8 out
-    unfolding headRow headWritten
-    count-refused c = (rw (d, c), rw (d, c))
-
-    module _ (c : outside 1 maxChallenges t ≡ false) (size : ℕ) (is : size ≡ fileSize n t) where
-      pub short-refused : length out < size → Answers edition statement root n t out 7 out
-      unfolding headRow headWritten
-      short-refused h =
-          let short = lt-ltb (length out) (fileSize n t) (rw is at h) in
-          (rw (d, c, short), rw (d, c, short))
-
-      pub head-written : (after : List ℕ) → size ≤ length out → after ≡ written out 0 (head edition statement root n t)
-          → Answers edition statement root n t out 0 after
-      unfolding headRow headWritten
-      head-written after h e =
-          let enough = le-ltb (length out) (fileSize n t) (rw is at h) in
-          (rw (d, c, enough), rw (d, c, enough) e)
+  pub head-written : headRow n t (length out) ≡ 0 → written out 0 (head edition statement root n t) ≡ headWritten edition statement root n t out
+  unfolding headWritten
+  head-written e = rw e

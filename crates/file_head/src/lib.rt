@@ -13,6 +13,7 @@ pub use head::read_head;
 pub use sizes::file_length;
 pub use sizes::opening_start;
 pub use writing::file_size;
+pub use writing::may_write;
 pub use writing::write_head;
 
 // What reading the head's numbers gives: depth, count and the place after them, or the refusal.

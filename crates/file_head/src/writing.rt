@@ -58,6 +58,22 @@ fn put_head(edition: u64, statement: [u8; 32], root: [u8; 32], n: u64, t: u64, o
     put(out, at + 32, &root);
 }
 
+// The row, for an output of so many bytes.
+pub fn may_write(depth: u64, count: u64, out: usize) -> Outcome
+    ensures { λ r. ⌜ outcomeNumber r ≡ headRow depth count out ⌝ }
+{
+    if beyond(MAX_DEPTH, depth) {
+        return Outcome::Refused(Refusal::Depth);
+    }
+    if beyond(MAX_CHALLENGES, count) {
+        return Outcome::Refused(Refusal::Count);
+    }
+    if out < file_size(depth, count) {
+        return Outcome::Refused(Refusal::ShortOutput);
+    }
+    Outcome::Done
+}
+
 // Writes the head of a file of t openings at depth n.
 pub fn write_head(
     statement: [u8; 32],
@@ -69,15 +85,12 @@ pub fn write_head(
     ensures { λ r. ⌜ outcomeNumber r ≡ headRow depth count (length (now (out .entry))) ⌝ }
     ensures { λ _. ⌜ now (out .exit) ≡ headWritten edition statement root depth count (now (out .entry)) ⌝ }
 {
-    if beyond(MAX_DEPTH, depth) {
-        return Outcome::Refused(Refusal::Depth);
+    let checked = may_write(depth, count, out.len());
+    match checked {
+        Outcome::Refused(why) => Outcome::Refused(why),
+        Outcome::Done => {
+            put_head(EDITION, statement, root, depth, count, out);
+            Outcome::Done
+        }
     }
-    if beyond(MAX_CHALLENGES, count) {
-        return Outcome::Refused(Refusal::Count);
-    }
-    if out.len() < file_size(depth, count) {
-        return Outcome::Refused(Refusal::ShortOutput);
-    }
-    put_head(EDITION, statement, root, depth, count, out);
-    Outcome::Done
 }

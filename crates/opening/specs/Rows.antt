@@ -1,29 +1,25 @@
 -- Document 01's rows 'Starting an opening' and 'Continuing an opening'.
 use Prim.Native.Nat.{ℕ, _+_, _-_, _^_}
-use mathlib.Core.List.{[], _∷_}
+use mathlib.Core.Bool.{Bool}
+use mathlib.Core.List.{List, [], _∷_, _++_}
 use lib.Dec.{ltb, leb}
-use Rattle.base.specs.Limits.{maxDepth}
-use Rattle.base.specs.Row.{firstOf, outside, either, memoryOver}
+use Rattle.base.specs.Row.{firstOf, either}
 use Rattle.tree.specs.Openings.{openingSize}
 use Rattle.tree.specs.Store.{storeSize}
-use Rattle.run.specs.Rows.{impossible}
+use Rattle.run.specs.Rows.{startChecks, impossible}
 use Rattle.opening.specs.declared.Opening.{Opening}
 
 -- the nodes that an opening labels anew: those strictly below the leaf's ancestor on level m
 abbrev pub nodesAnew : ℕ → ℕ → ℕ
 nodesAnew n m = 2 ^ (n - m + 1) - 2
 
--- 1, 2, 3; 6: position 2^n or more; 7: output short
+-- 6: position 2^n or more; 7: output short
+abbrev pub leafChecks : ℕ → ℕ → ℕ → List (Bool × ℕ)
+leafChecks n leaf out = (leb (2 ^ n) leaf, 6) ∷ (ltb out (openingSize n), 7) ∷ []
+
+-- 1, 2, 3; 6; 7
 unfoldable pub openRow : ℕ → ℕ → ℕ → ℕ → ℕ → ℕ
-openRow n m leaf store out =
-    firstOf
-    ((outside 1 maxDepth n, 1)
-    ∷ (memoryOver n m, 2)
-    ∷ (ltb store (storeSize m), 3)
-    ∷ (leb (2 ^ n) leaf, 6)
-    ∷ (ltb out (openingSize n), 7)
-    ∷ []
-    )
+openRow n m leaf store out = firstOf (startChecks n m store ++ leafChecks n leaf out)
 
 -- 4 (also a leaf of 2^n or more); 3; 7
 unfoldable pub reopenRow : Opening → ℕ → ℕ → ℕ

@@ -3,11 +3,11 @@ ghost use mathlib.Core.Path.{_≡_};
 ghost use Prim.Native.Nat.{_^_, _≤_};
 ghost use lib.Dec.{ltb, leb};
 ghost use Rattle.base.specs.Limits.{maxDepth};
-ghost use Rattle.base.specs.Row.{either};
+ghost use Rattle.base.specs.Row.{firstOf, either};
 ghost use Rattle.base.specs.Number.{outcomeNumber};
 ghost use Rattle.tree.specs.Openings.{openingSize};
 ghost use Rattle.run.specs.Rows.{impossible};
-ghost use Rattle.opening.specs.Rows.{nodesAnew, openRow, reopenRow};
+ghost use Rattle.opening.specs.Rows.{nodesAnew, leafChecks, openRow, reopenRow};
 use crate::Opening;
 use base::MAX_DEPTH;
 use base::Outcome;
@@ -55,18 +55,10 @@ pub fn not_possible(depth: u64, memory: u64, made: u64, leaf: u64) -> bool
     leaf_outside(depth, leaf)
 }
 
-pub fn may_start(depth: u64, memory: u64, leaf: u64, store: usize, out: usize) -> Outcome
-    ensures { λ r. ⌜ outcomeNumber r ≡ openRow depth memory leaf store out ⌝ }
+fn leaf_fits(depth: u64, leaf: u64, out: usize) -> Outcome
+    requires { ⌜ depth ≤ maxDepth ⌝ }
+    ensures { λ r. ⌜ outcomeNumber r ≡ firstOf (leafChecks depth leaf out) ⌝ }
 {
-    if beyond(MAX_DEPTH, depth) {
-        return Outcome::Refused(Refusal::Depth);
-    }
-    if memory_over(depth, memory) {
-        return Outcome::Refused(Refusal::MemoryLevel);
-    }
-    if store_short(memory, store) {
-        return Outcome::Refused(Refusal::ShortStore);
-    }
     if leaf_outside(depth, leaf) {
         return Outcome::Refused(Refusal::LeafPosition);
     }
@@ -74,6 +66,16 @@ pub fn may_start(depth: u64, memory: u64, leaf: u64, store: usize, out: usize) -
         return Outcome::Refused(Refusal::ShortOutput);
     }
     Outcome::Done
+}
+
+pub fn may_start(depth: u64, memory: u64, leaf: u64, store: usize, out: usize) -> Outcome
+    ensures { λ r. ⌜ outcomeNumber r ≡ openRow depth memory leaf store out ⌝ }
+{
+    let checked = run::may_start(depth, memory, store);
+    match checked {
+        Outcome::Refused(why) => Outcome::Refused(why),
+        Outcome::Done => leaf_fits(depth, leaf, out),
+    }
 }
 
 pub fn may_continue(opening: Opening, store: usize, out: usize) -> Outcome

@@ -66,7 +66,7 @@ fn leaf_label(edition: u64, statement: [u8; 32], n: u64, leaf: u64, bytes: &[u8]
 }
 
 // The label of the node above a child at this position, from the child's label and its sibling's.
-fn label_above(
+pub fn label_above(
     edition: u64,
     n: u64,
     statement: [u8; 32],

@@ -1,23 +1,45 @@
--- What is known of a run that may be continued.
-use mathlib.Core.Path.{_≡_, refl, sym}
+-- What is known of a run that may be started or continued, and of a row that begins with a start's checks.
+use mathlib.Core.Path.{_≡_, refl, sym, _∙_}
 use mathlib.Core.Bool.{Bool, true, false, not}
-use mathlib.Core.List.{List}
+use mathlib.Core.List.{List, _++_}
 use Prim.Native.Nat.{ℕ, _-_, _≤_, _<_, min}
 use native.Mathlib.Omega.{arith}
 use borrow.Author.Tests.{ltb-true, ltb-false, leb-true, leb-false, lt-ltb, le-ltb, le-leb, lt-leb, not-false}
 use lib.Dec.{ltb, leb, lit≤}
 use lib.ListN.{length}
-use Rattle.base.specs.Limits.{maxDepth, maxMemory}
-use Rattle.base.specs.Row.{outside, either, isDone, memoryOver}
-use Rattle.base.proofs.Ranges.{depth-inside, memory-inside, neither}
-use Rattle.base.proofs.RowLaws.{passed}
+use Rattle.base.specs.Limits.{maxDepth, maxMemory, IsDepth}
+use Rattle.base.specs.declared.refusal.Refusal.{Refusal}
+use Rattle.base.specs.declared.refusal.Outcome.{Outcome}
+use Rattle.base.specs.declared.refusal.Outcome.the-variants.{Refused}
+use Rattle.base.specs.Number.{numberOf, outcomeNumber}
+use Rattle.base.specs.Row.{firstOf, outside, either, isDone, memoryOver}
+use Rattle.base.proofs.Ranges.{range-of, depth-inside, memory-inside, neither}
+use Rattle.base.proofs.RowLaws.{NoneHolds, passed, none-holds, row-refused, row-passed, not-done, refused-number}
 use Rattle.machine.proofs.StepLaws as machines
 use Rattle.machine.proofs.StepLaws.{done-some, done-refused}
 use Rattle.tree.specs.Walk.{nodesIn}
 use Rattle.tree.specs.Store.{storeSize}
 use Rattle.run.specs.declared.Run.{Run}
-use Rattle.run.specs.Rows.{impossible, startRow, continueRow}
+use Rattle.run.specs.Rows.{startChecks, impossible, startRow, continueRow}
 use Rattle.run.specs.Steps.{newRun, noRun, started, stamped, steps, labelsIn, advanced, runMachine}
+
+module _ (n m store : ℕ) where
+  pub start-depth : startRow n m store ≡ 0 → IsDepth n
+  unfolding startRow
+  start-depth e = range-of 1 maxDepth n (none-holds (startChecks n m store) refl e .0)
+
+  -- a row that goes on with more conditions: refused by a start's, or left to the others
+  pub start-refuses : (o : Outcome) (r : Refusal) (more : List (Bool × ℕ)) → outcomeNumber o ≡ startRow n m store → o ≡ Refused r
+      → numberOf r ≡ firstOf (startChecks n m store ++ more)
+  unfolding startRow
+  start-refuses o r more e is =
+      let number : numberOf r ≡ startRow n m store = refused-number o (startRow n m store) r e is in
+      number ∙ sym (row-refused (startChecks n m store) more (not-done r (startRow n m store) number))
+
+  pub start-passes : (more : List (Bool × ℕ)) (number : ℕ) → startRow n m store ≡ 0 → number ≡ firstOf more
+      → number ≡ firstOf (startChecks n m store ++ more)
+  unfolding startRow
+  start-passes more number done e = e ∙ sym (row-passed (startChecks n m store) more (none-holds (startChecks n m store) refl done))
 
 -- a run that can be
 pub record Possible (n m made : ℕ) : Type 0 where

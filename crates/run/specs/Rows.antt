@@ -1,7 +1,7 @@
 -- Document 01's rows 'Starting a run' and 'Continuing a run'.
 use Prim.Native.Nat.{ℕ}
 use mathlib.Core.Bool.{Bool}
-use mathlib.Core.List.{[], _∷_}
+use mathlib.Core.List.{List, [], _∷_}
 use lib.Dec.{ltb}
 use Rattle.base.specs.Limits.{maxDepth}
 use Rattle.base.specs.Row.{firstOf, outside, memoryOver, either}
@@ -9,10 +9,12 @@ use Rattle.tree.specs.Walk.{nodesIn}
 use Rattle.tree.specs.Store.{storeSize}
 use Rattle.run.specs.declared.Run.{Run}
 
--- 1: n not 1..40; 2: m over min(n, 20); 3: store short
+-- 1: n not 1..40; 2: m over min(n, 20); 3: store short. An opening and a file are started with these and more.
+abbrev pub startChecks : ℕ → ℕ → ℕ → List (Bool × ℕ)
+startChecks n m store = (outside 1 maxDepth n, 1) ∷ (memoryOver n m, 2) ∷ (ltb store (storeSize m), 3) ∷ []
+
 unfoldable pub startRow : ℕ → ℕ → ℕ → ℕ
-startRow n m store =
-    firstOf ((outside 1 maxDepth n, 1) ∷ (memoryOver n m, 2) ∷ (ltb store (storeSize m), 3) ∷ [])
+startRow n m store = firstOf (startChecks n m store)
 
 -- n not 1..40, m over min(n, 20), or more labels made than there are to make
 abbrev pub impossible : ℕ → ℕ → ℕ → ℕ → Bool

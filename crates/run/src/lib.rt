@@ -11,7 +11,7 @@ use base::HELD_SIZE;
 use base::Outcome;
 use base::smaller;
 use checks::may_continue;
-use checks::may_start;
+pub use checks::may_start;
 pub use checks::nodes;
 pub use checks::store_short;
 use labels::label_many;

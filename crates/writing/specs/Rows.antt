@@ -1,13 +1,13 @@
 -- The checks of writing a whole file by budgets. Document 01 has no row of its own for it: starting takes the row 'Starting an
 -- opening' (1, 2, 3) and then that of the head (8, 7); continuing takes the row 'Continuing an opening'.
 use Prim.Native.Nat.{ℕ, _^_}
-use mathlib.Core.List.{[], _∷_}
+use mathlib.Core.List.{[], _∷_, _++_}
 use lib.Dec.{ltb, leb, eqb}
 use Rattle.base.specs.Choice.{both}
-use Rattle.base.specs.Limits.{maxDepth, maxChallenges}
-use Rattle.base.specs.Row.{firstOf, outside, either, memoryOver}
+use Rattle.base.specs.Limits.{maxChallenges}
+use Rattle.base.specs.Row.{firstOf, outside, either}
 use Rattle.tree.specs.Store.{storeSize}
-use Rattle.run.specs.Rows.{impossible}
+use Rattle.run.specs.Rows.{startChecks, impossible}
 use Rattle.opening.specs.declared.Opening.{Opening}
 use Rattle.opening.specs.Rows.{nodesAnew}
 use Rattle.file_head.specs.Layout.{fileSize}
@@ -16,14 +16,7 @@ use Rattle.writing.specs.declared.Writing.{Writing}
 -- 1, 2, 3; 8: t not 1..200; 7: less than the whole file fits
 unfoldable pub writeRow : ℕ → ℕ → ℕ → ℕ → ℕ → ℕ
 writeRow n m t store file =
-    firstOf
-    ((outside 1 maxDepth n, 1)
-    ∷ (memoryOver n m, 2)
-    ∷ (ltb store (storeSize m), 3)
-    ∷ (outside 1 maxChallenges t, 8)
-    ∷ (ltb file (fileSize n t), 7)
-    ∷ []
-    )
+    firstOf (startChecks n m store ++ (outside 1 maxChallenges t, 8) ∷ (ltb file (fileSize n t), 7) ∷ [])
 
 -- 4 (also a leaf of 2^n or more, a count not 1..200, an opening's number not 1..t, or an opening done that is not the last,
 -- which no start or call leaves); 3; 7

@@ -6,12 +6,11 @@ ghost use Rattle.writing.specs.Possible.{stateOutside};
 use crate::Writing;
 use crate::labels::may_follow;
 use base::MAX_CHALLENGES;
-use base::MAX_DEPTH;
 use base::Outcome;
 use base::Refusal;
 use base::beyond;
-use base::memory_over;
 use file_head::file_size;
+use file_head::may_write;
 use opening::nodes_anew;
 use opening::not_possible;
 use run::store_short;
@@ -19,22 +18,11 @@ use run::store_short;
 pub fn may_start(depth: u64, memory: u64, count: u64, store: usize, file: usize) -> Outcome
     ensures { λ r. ⌜ outcomeNumber r ≡ writeRow depth memory count store file ⌝ }
 {
-    if beyond(MAX_DEPTH, depth) {
-        return Outcome::Refused(Refusal::Depth);
+    let checked = run::may_start(depth, memory, store);
+    match checked {
+        Outcome::Refused(why) => Outcome::Refused(why),
+        Outcome::Done => may_write(depth, count, file),
     }
-    if memory_over(depth, memory) {
-        return Outcome::Refused(Refusal::MemoryLevel);
-    }
-    if store_short(memory, store) {
-        return Outcome::Refused(Refusal::ShortStore);
-    }
-    if beyond(MAX_CHALLENGES, count) {
-        return Outcome::Refused(Refusal::Count);
-    }
-    if file < file_size(depth, count) {
-        return Outcome::Refused(Refusal::ShortOutput);
-    }
-    Outcome::Done
 }
 
 // The first condition of continuing.

@@ -33,12 +33,14 @@ tenth-requires c κs =
 
 returns-2 : tie.Need-returns-2 Inv-loop μ-loop
 returns-2 c =
-    let a = c .before .before .before .before .before .before .before .allowed in
-    let l = c .before .before .before .before .before .before .loop in
+    let wide = c .before .before in
+    let loop = wide .before .before .before .before in
+    let a = loop .before .allowed in
+    let l = loop .loop in
     read-whole _ _ _ _ _ (a .ensures)
     (l .inv .4
-    ∙ read-tenth _ _ _ _ _ (c .before .before .wide .result) (omega (arith, c .before .if2 .taken))
-    (omega (arith, c .before .if2 .taken)) (omega arith) (c .before .before .wide .ensures .0)
+    ∙ read-tenth _ _ _ _ _ (wide .wide .result) (omega (arith, c .before .if2 .taken))
+    (omega (arith, c .before .if2 .taken)) (omega arith) (wide .wide .ensures .0)
     ∙ sym (c .tenth .ensures))
 
 mul-low : tie.Need-mul-low Inv-loop μ-loop
@@ -53,11 +55,13 @@ add-low c =
 
 returns-3 : tie.Need-returns-3 Inv-loop μ-loop
 returns-3 c =
-    let a = c .before .before .before .before .before .before .before .before .allowed in
-    let l = c .before .before .before .before .before .before .before .loop in
+    let wide = c .before .before .before in
+    let loop = wide .before .before .before .before in
+    let a = loop .before .allowed in
+    let l = loop .loop in
     read-whole _ _ _ _ _ (a .ensures)
     (l .inv .4
-    ∙ read-last _ _ _ _ _ (a .result - (l .i + 1)) _ _ (omega arith) (omega arith) (c .before .before .before .wide .ensures .0)
+    ∙ read-last _ _ _ _ _ (a .result - (l .i + 1)) _ _ (omega arith) (omega arith) (wide .wide .ensures .0)
     (l .inv .2) (c .before .if3 .taken)
     ∙ sym (c .last .ensures))
 

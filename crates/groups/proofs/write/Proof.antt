@@ -33,12 +33,14 @@ same-length c = c .before .before .put .kept .0
 
 returns-2 : tie.Need-returns-2
 returns-2 c =
-    let laid = c .before .before .before .before .before .before .before .before .lay in
-    let put = c .before .before .put in
+    let at-put = c .before .before in
+    let if1 = at-put .before .before .before in
+    let has-room = if1 .before in
+    let lay = has-room .before .before in
+    let laid = lay .lay in
+    let put = at-put .put in
     let done =
-    groups-written _ _ _ _ (laid .ensures .1) _ (laid .ensures .0)
-    (sym (c .before .before .before .before .before .before .has-room .ensures)
-    ∙ not-false _ (c .before .before .before .before .before .if1 .left)) in
+    groups-written _ _ _ _ (laid .ensures .1) _ (laid .ensures .0) (sym (has-room .has-room .ensures) ∙ not-false _ (if1 .if1 .left)) in
     (done .row, (done .bytes, put .ensures ∙ done .output))
 
 pub write-spec : {M : Type 1} → statement M

@@ -23,18 +23,21 @@ label-at-requires c κs = let l : length (c .before .before .before .before .lab
 
 write-openings-requires : tie.Need-write-openings-requires
 write-openings-requires c κs =
-    let a = c .before .before .before .before .before .before .before .before .before .before .before .before .before in
-    let tree = c .before .before .before .before .before .before .before .label-tree in (
+    let label-at = c .before .before in
+    let label-tree = label-at .before .before .before .before .before in
+    let portion-of = label-tree .before .before in
+    let a = portion-of .before .before .before .before in
+    let tree = label-tree .label-tree in (
       (
         still-fits (a .args .statement) (a .args .depth) (a .args .memory) (a .args .challenges) (a .args .store .now)
             (length (a .args .file .now)) (a .pre) _ (tree .ensures .1),
         the-root (a .args .statement) (a .args .depth) (a .args .memory) (a .args .challenges) (a .args .store .now)
-            (length (a .args .file .now)) (a .pre) (tree .result) (tree .ensures .0) _ (c .before .before .label-at .ensures),
+            (length (a .args .file .now)) (a .pre) (tree .result) (tree .ensures .0) _ (label-at .label-at .ensures),
         holds-labels (a .args .statement) (a .args .depth) (a .args .memory) (a .args .challenges) (a .args .store .now)
             (length (a .args .file .now)) (a .pre) _ (tree .ensures .1),
       ),
       (
-        some-labels _ _ (c .before .before .before .before .before .before .before .before .before .portion-of .ensures),
+        some-labels _ _ (portion-of .portion-of .ensures),
         omega (
           arith,
           all-made (a .args .statement) (a .args .depth) (a .args .memory) (a .args .challenges) (a .args .store .now)
@@ -46,34 +49,36 @@ write-openings-requires c κs =
 
 add-t23 : tie.Need-add-t23
 add-t23 c =
-    let a =
-    c .before .before .before .before .before .before .before .before .before .before .before .before .before .before .before .before in
-    let tree = c .before .before .before .before .before .before .before .before .before .before .label-tree in
+    let write-openings = c .before .before in
+    let label-tree = write-openings .before .before .before .before .before .before .before .before in
+    let a = label-tree .before .before .before .before .before .before in
+    let tree = label-tree .label-tree in
     omega (
       arith,
       all-made (a .args .statement) (a .args .depth) (a .args .memory) (a .args .challenges) (a .args .store .now)
           (length (a .args .file .now)) (a .pre) (tree .result) (tree .ensures .0),
-      c .before .before .write-openings .ensures .0,
+      write-openings .write-openings .ensures .0,
       small-nodes (a .args .depth) (a .pre .depth .1),
       small-anew (a .args .depth) (a .args .memory) (a .args .challenges) _ (a .pre .depth .1) (a .pre .count .1) refl,
     )
 
 returns : tie.Need-returns
 returns c =
-    let a =
-    c .before .before .before .before .before .before .before .before .before .before .before .before .before .before .before .before in
-    let tree = c .before .before .before .before .before .before .before .before .before .before .label-tree in (
+    let write-openings = c .before .before in
+    let label-at = write-openings .before .before .before in
+    let label-tree = label-at .before .before .before .before .before in
+    let a = label-tree .before .before .before .before .before .before in
+    let tree = label-tree .label-tree in (
       (
         the-root (a .args .statement) (a .args .depth) (a .args .memory) (a .args .challenges) (a .args .store .now)
-            (length (a .args .file .now)) (a .pre) (tree .result) (tree .ensures .0) _
-            (c .before .before .before .before .before .label-at .ensures),
+            (length (a .args .file .now)) (a .pre) (tree .result) (tree .ensures .0) _ (label-at .label-at .ensures),
         rw (
           all-made (a .args .statement) (a .args .depth) (a .args .memory) (a .args .challenges) (a .args .store .now)
               (length (a .args .file .now)) (a .pre) (tree .result) (tree .ensures .0),
-          c .before .before .write-openings .ensures .0,
+          write-openings .write-openings .ensures .0,
         ),
       ),
-      (tree .ensures .1, c .before .before .write-openings .ensures .1),
+      (tree .ensures .1, write-openings .write-openings .ensures .1),
     )
 
 pub make-proof-spec : {M : Type 1} → statement M

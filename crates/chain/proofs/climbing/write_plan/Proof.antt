@@ -32,11 +32,15 @@ write-climb-requires c κs =
 
 loop-again : tie.Need-loop-again Inv-loop μ-loop
 loop-again c =
-    let l = c .before .before .before .before .before .before .before .loop in
-    let s = c .before .before .before .before .before .before .before .before .before .before in
-    let code = c .before .before .before .before .before .code-at in
-    let next = c .before .before .before .before .code-at2 in
-    let wrote = c .before .before .write-climb in
+    let write-climb = c .before .before in
+    let code-at2 = write-climb .before .before in
+    let code-at = code-at2 .before in
+    let loop = code-at .before .before in
+    let s = loop .before .before .before in
+    let l = loop .loop in
+    let code = code-at .code-at in
+    let next = code-at2 .code-at2 in
+    let wrote = write-climb .write-climb in
     let turn = plan-count (s .args .depth) (s .args .leaves .now) (l .i) (code .result) (next .result) (omega arith) (code .ensures) (next .ensures) in (
       omega arith,
       plan-written (s .args .depth) (s .args .leaves .now) (l .i) (code .result) (next .result) (omega arith) (code .ensures)

@@ -22,29 +22,33 @@ file-size-requires c κs =
 
 array-share-prefix-file : tie.Need-array-share-prefix-file
 array-share-prefix-file c =
-    let a = c .before .before .before .before .before .before .before .before .before in
+    let make-proof = c .before .before .before in
+    let empty-file = make-proof .before .before .before in
+    let a = empty-file .before .before .before in
     let k = seal-bounds (a .args .depth) (a .args .challenges) (a .args .memory) (a .pre) in
-    let l : length (c .before .before .before .before .before .before .empty-file .result) ≡ maxFile = search needs in
+    let l : length (empty-file .empty-file .result) ≡ maxFile = search needs in
     omega (
       arith,
       c .file-size .ensures,
       file-fits (a .args .depth) (a .args .challenges) (k .depth .1) (k .count .1),
-      c .before .before .before .make-proof .kept,
+      make-proof .make-proof .kept,
       l,
     )
 
 slice-aggregate-keep-proof : tie.Need-slice-aggregate-keep-proof
 slice-aggregate-keep-proof c =
-    let a = c .before .before .before .before .before .before .before .before .before .before in
+    let make-proof = c .before .before .before .before in
+    let empty-file = make-proof .before .before .before in
+    let a = empty-file .before .before .before in
     let k = seal-bounds (a .args .depth) (a .args .challenges) (a .args .memory) (a .pre) in
-    let l : length (c .before .before .before .before .before .before .before .empty-file .result) ≡ maxFile = search needs in
+    let l : length (empty-file .empty-file .result) ≡ maxFile = search needs in
     sym
     (length-take-le _ _
     (omega (
       arith,
       c .before .file-size .ensures,
       file-fits (a .args .depth) (a .args .challenges) (k .depth .1) (k .count .1),
-      c .before .before .before .before .make-proof .kept,
+      make-proof .make-proof .kept,
       l,
     )))
 

@@ -9,18 +9,24 @@ use Rattle.commands.proofs.telling.tell_chain.Statement.{statement}
 use Rattle.commands.proofs.telling.tell_chain.Tie as tie
 use Rattle.planning.specs.Output.{maxOutput}
 
+places : (c : tie.After-empty-list) → length (c .empty-list .result) ≡ maxChain
+places c = search needs
+
+room : (c : tie.After-empty-text) → length (c .empty-text .result) ≡ maxOutput
+room c = search needs
+
 put-drawing-requires : tie.Need-put-drawing-requires
 put-drawing-requires c κs =
-    let s = c .before .before .before .before .before .before .before .before .before in
-    let w = c .before .before .before .before .before .before .before .wanted-in .result in
-    let list = c .before .before .before .before .before .before .empty-list .result in
-    let d = c .before .before .before .before .draw in
-    let text = c .before .before .empty-text .result in
-    let places : length list ≡ maxChain = search needs in
-    let room : length text ≡ maxOutput = search needs in (
-      chain-in (s .args .file .now) (s .args .statement) (w .depth) (w .count) _ list _ places (d .ensures .0) (d .ensures .1 .0)
-          (omega (arith, d .kept)),
-      omega arith,
+    let empty-text = c .before .before in
+    let draw = empty-text .before .before in
+    let empty-list = draw .before .before in
+    let wanted-in = empty-list .before in
+    let a = wanted-in .before .before .args in
+    let w = wanted-in .wanted-in .result in
+    let d = draw .draw in (
+      chain-in (a .file .now) (a .statement) (w .depth) (w .count) _ (empty-list .empty-list .result) _ (places empty-list) (d .ensures .0)
+          (d .ensures .1 .0) (omega (arith, d .kept)),
+      omega (arith, room empty-text),
     )
 
 pub tell-chain-spec : {M : Type 1} → statement M

@@ -61,28 +61,28 @@ same-cells-requires c κs =
 
 returns-2 : tie.Need-returns-2 Inv-loop μ-loop
 returns-2 c =
-    let a = c .before .before .before .before .before .before .before .before .before .before .args in
-    let l = c .before .before .before .before .before .before .before .loop in
+    let cells = c .before .before in
+    let shares = cells .before .before .before in
+    let loop = shares .before .before in
+    let a = loop .before .before .before .args in
+    let l = loop .loop in
     sym
-    (l .inv .1 ∙ turn-differs (a .n) (a .leaves .now) (a .table .now) (a .i) (a .j) (l .level)
-    (c .before .before .before .before .before .before .loop-test .taken) _
-    (c .before .before .before .before .before .shares .ensures) (not-false _ (c .before .before .before .before .if1 .left)) _ _
-    (c .before .before .before .cell-at .ensures)
-    (c .before .before .cell-at2 .ensures)
-    (sym (c .before .same-cells .ensures) ∙ not-true _ (c .if2 .taken)))
+    (l .inv .1 ∙ turn-differs (a .n) (a .leaves .now) (a .table .now) (a .i) (a .j) (l .level) (shares .before .loop-test .taken) _
+    (shares .shares .ensures) (not-false _ (cells .before .before .if1 .left)) _ _ (cells .before .cell-at .ensures)
+    (cells .cell-at2 .ensures) (sym (c .before .same-cells .ensures) ∙ not-true _ (c .if2 .taken)))
 
 loop-again : tie.Need-loop-again Inv-loop μ-loop
 loop-again c =
-    let a = c .before .before .before .before .before .before .before .before .before .before .args in
-    let l = c .before .before .before .before .before .before .before .loop in (
+    let cells = c .before .before in
+    let shares = cells .before .before .before in
+    let loop = shares .before .before in
+    let a = loop .before .before .before .args in
+    let l = loop .loop in (
       omega arith,
       l .inv .1
-          ∙ turn-same (a .n) (a .leaves .now) (a .table .now) (a .i) (a .j) (l .level)
-          (c .before .before .before .before .before .before .loop-test .taken) _
-          (c .before .before .before .before .before .shares .ensures)
-          (not-false _ (c .before .before .before .before .if1 .left)) _ _ (c .before .before .before .cell-at .ensures)
-          (c .before .before .cell-at2 .ensures)
-          (sym (c .before .same-cells .ensures) ∙ not-false _ (c .if2 .left)),
+          ∙ turn-same (a .n) (a .leaves .now) (a .table .now) (a .i) (a .j) (l .level) (shares .before .loop-test .taken) _
+          (shares .shares .ensures) (not-false _ (cells .before .before .if1 .left)) _ _ (cells .before .cell-at .ensures)
+          (cells .cell-at2 .ensures) (sym (c .before .same-cells .ensures) ∙ not-false _ (c .if2 .left)),
     )
 
 returns-3 : tie.Need-returns-3 Inv-loop μ-loop

@@ -53,18 +53,21 @@ fill-node-requires c κs =
 
 loop-again : tie.Need-loop-again Inv-loop μ-loop
 loop-again c =
-    let s = c .before .before .before .before .before .before .before .before .before .before in
+    let fill-node = c .before .before in
+    let loop-test = fill-node .before .before .before in
+    let loop = loop-test .before in
+    let s = loop .before .before .before .before in
     let a = s .args in
-    let l = c .before .before .before .before .before .before .loop in
-    let h = c .before .before .before .before .before .loop-test .taken in (
+    let l = loop .loop in
+    let h = loop-test .loop-test .taken in (
       omega arith,
       search needs,
       search needs,
       climbed (a .edition) (a .statement) (a .bytes .now) (a .n) (a .leaf) (l .height) _ _
-          (l .inv .3) (c .before .before .fill-node .ensures .1),
+          (l .inv .3) (fill-node .fill-node .ensures .1),
       row-more (a .edition) (a .statement) (a .bytes .now) (a .row .now) (l .row) _ (a .n) (a .leaf)
           (l .height) (l .child) h (s .pre .0) (s .pre .1) (l .inv .1) (l .inv .2) (l .inv .3) (l .inv .4)
-          (c .before .before .fill-node .ensures .0),
+          (fill-node .fill-node .ensures .0),
     )
 
 returns : tie.Need-returns Inv-loop μ-loop

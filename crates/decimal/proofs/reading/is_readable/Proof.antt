@@ -23,19 +23,25 @@ loop-holds c = (omega arith, refl, all-start _)
 
 returns : tie.Need-returns Inv-loop μ-loop
 returns c =
-    let l = c .before .before .before .before .before .before .loop in
-    let s = c .before .before .before .before .before .before .before .before in
-    let b = c .before .before .before .wide in
+    let step = c .before .before in
+    let wide = step .before in
+    let loop = wide .before .before .before in
+    let s = loop .before .before in
+    let l = loop .loop in
+    let b = wide .wide in
     sym
     (all-stop (s .args .input .now) (l .i) (b .result) (l .value) (omega arith) (b .ensures .0)
-    (sym (c .before .before .step .ensures .right) ∙ not-true _ (c .if1 .taken))) ∙ l .inv .2
+    (sym (step .step .ensures .right) ∙ not-true _ (c .if1 .taken))) ∙ l .inv .2
 
 loop-again : tie.Need-loop-again Inv-loop μ-loop
 loop-again c =
-    let l = c .before .before .before .before .before .before .loop in
-    let s = c .before .before .before .before .before .before .before .before in
-    let b = c .before .before .before .wide in
-    let step = c .before .before .step in
+    let at-step = c .before .before in
+    let wide = at-step .before in
+    let loop = wide .before .before .before in
+    let s = loop .before .before in
+    let l = loop .loop in
+    let b = wide .wide in
+    let step = at-step .step in
     let good = not-false _ (c .if1 .left) in
     let on = sym (step .ensures .right) ∙ good in (
       omega arith,

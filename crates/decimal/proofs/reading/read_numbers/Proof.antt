@@ -3,7 +3,7 @@
 use Rattle.decimal.proofs.ReadLaws.{all-start, all-turn, next-fits, must-go, numbers-turn, numbers-last, first-full, first-all, kept-first}
 use Rattle.decimal.proofs.ReadLaws.{kept-behind, ended-short, all-kept}
 use Rattle.base.specs.Bytes.{zeros}
-use Rattle.decimal.specs.Steps.{allFit, ended}
+use Rattle.decimal.specs.Steps.{allFit, goesOn, ended}
 use Rattle.decimal.specs.Numbers.{maxNumbers, fits, numbers, numbersFrom}
 use lib.ListN.{length, drop, take}
 use native.Mathlib.Omega.{arith}
@@ -31,54 +31,71 @@ loop-holds c = (omega arith, refl, omega arith, refl, refl, all-start _ ∙ c .b
 push-requires : tie.Need-push-requires Inv-loop μ-loop
 push-requires c κs = omega (arith, c .before .before .before .before .before .loop .inv .1)
 
+-- a turn, from where its number is pushed: the byte goes on, there is room, and those kept and those left are still all numbers
+module _ (p : tie.After-push Inv-loop μ-loop) where
+  goes-on : let wide = p .before .before .before in goesOn (wide .wide .result) (wide .before .before .before .loop .value) ≡ true
+  goes-on =
+      let wide = p .before .before .before in
+      let loop = wide .before .before .before in
+      let l = loop .loop in
+      must-go (loop .before .before .args .input .now) (l .i) (wide .wide .result) (l .value) (omega arith) (wide .wide .ensures .0) (l .inv .5)
+
+  room :
+      let step = p .before .before in
+      let l = step .before .before .before .before .loop in
+      l .count + length (ended (l .within) (step .step .result .digit) (l .value)) ≤ length (l .list)
+  room =
+      let step = p .before .before in
+      let l = step .before .before .before .before .loop in
+      omega (arith, l .inv .1, l .inv .2, ended-short (l .within) (step .step .result .digit) (l .value))
+
+  turned :
+      let step = p .before .before in
+      let loop = step .before .before .before .before in
+      let bytes = loop .before .before .args .input .now in
+      take (p .push .result) (p .push .last .0) ++ numbersFrom (step .step .result .digit) (step .step .result .value) (drop (loop .loop .i + 1) bytes)
+      ≡ numbers bytes
+  turned =
+      let step = p .before .before in
+      let wide = step .before in
+      let loop = wide .before .before .before in
+      let l = loop .loop in
+      let bytes = loop .before .before .args .input .now in
+      let good = step .step .ensures .right ∙ goes-on in
+      numbers-turn bytes (l .i) (wide .wide .result) (l .value) (omega arith) (wide .wide .ensures .0) (l .within) (step .step .result .digit)
+      (step .step .result .value) (take (l .count) (l .list)) (take (p .push .result) (p .push .last .0)) (numbers bytes)
+      (step .step .ensures .kind good) (step .step .ensures .after good) (kept-first (l .list) _ _ (l .count) _ (p .push .ensures) room) (l .inv .3)
+
 returns : tie.Need-returns Inv-loop μ-loop
 returns c =
-    let l = c .before .before .before .before .before .before .before .before .loop in
-    let s = c .before .before .before .before .before .before .before .before .before .before in
-    let b = c .before .before .before .before .before .wide in
-    let step = c .before .before .before .before .step in
-    let push = c .before .before .push in
-    let bytes = s .args .input .now in
-    let short = ended-short (l .within) (step .result .digit) (l .value) in
-    let room : l .count + length (ended (l .within) (step .result .digit) (l .value)) ≤ length (l .list) =
-    omega (arith, l .inv .1, l .inv .2, short) in
-    let good = step .ensures .right ∙ must-go bytes (l .i) (b .result) (l .value) (omega arith) (b .ensures .0) (l .inv .5) in
-    let turn =
-    numbers-turn bytes (l .i) (b .result) (l .value) (omega arith) (b .ensures .0) (l .within) (step .result .digit)
-    (step .result .value) (take (l .count) (l .list)) (take (push .result) (push .last .0)) (numbers bytes)
-    (step .ensures .kind good) (step .ensures .after good) (kept-first (l .list) _ _ (l .count) _ (push .ensures) room)
-    (l .inv .3) in
+    let p = c .before .before in
+    let loop = p .before .before .before .before .before .before in
+    let l = loop .loop in
+    let push = p .push in
     let all =
-    first-full (push .last .0) _ (numbers bytes) (push .result) (omega (arith, push .ensures .next, room, push .kept .0))
-    (push .kept .0 ∙ l .inv .1) (c .if1 .taken) turn in (
+    first-full (push .last .0) _ (numbers (loop .before .before .args .input .now)) (push .result)
+    (omega (arith, push .ensures .next, room p, push .kept .0)) (push .kept .0 ∙ l .inv .1) (c .if1 .taken) (turned p) in (
       all-kept (push .last .0) (zeros maxNumbers) _ (push .result) (all .0) (all .1)
-          (kept-behind (l .list) _ _ (l .count) _ (push .ensures) room (zeros maxNumbers) (l .inv .6)),
+          (kept-behind (l .list) _ _ (l .count) _ (push .ensures) (room p) (zeros maxNumbers) (l .inv .6)),
       all .1,
     )
 
 loop-again : tie.Need-loop-again Inv-loop μ-loop
 loop-again c =
-    let l = c .before .before .before .before .before .before .before .before .loop in
-    let s = c .before .before .before .before .before .before .before .before .before .before in
-    let b = c .before .before .before .before .before .wide in
-    let step = c .before .before .before .before .step in
-    let push = c .before .before .push in
-    let bytes = s .args .input .now in
-    let short = ended-short (l .within) (step .result .digit) (l .value) in
-    let room : l .count + length (ended (l .within) (step .result .digit) (l .value)) ≤ length (l .list) =
-    omega (arith, l .inv .1, l .inv .2, short) in
-    let on = must-go bytes (l .i) (b .result) (l .value) (omega arith) (b .ensures .0) (l .inv .5) in
-    let good = step .ensures .right ∙ on in (
+    let p = c .before .before in
+    let wide = p .before .before .before in
+    let loop = wide .before .before .before in
+    let l = loop .loop in
+    let on = goes-on p in
+    let after = p .before .before .step .ensures .after (p .before .before .step .ensures .right ∙ on) in (
       omega arith,
-      push .kept .0 ∙ l .inv .1,
+      p .push .kept .0 ∙ l .inv .1,
       c .if1 .left,
-      numbers-turn bytes (l .i) (b .result) (l .value) (omega arith) (b .ensures .0) (l .within) (step .result .digit)
-          (step .result .value) (take (l .count) (l .list)) (take (push .result) (push .last .0)) (numbers bytes)
-          (step .ensures .kind good) (step .ensures .after good) (kept-first (l .list) _ _ (l .count) _ (push .ensures) room)
-          (l .inv .3),
-      next-fits (b .result) (l .value) _ on (step .ensures .after good),
-      all-turn bytes (l .i) (b .result) (l .value) (omega arith) (b .ensures .0) _ (l .inv .4) on (step .ensures .after good) ∙ l .inv .5,
-      kept-behind (l .list) _ _ (l .count) _ (push .ensures) room (zeros maxNumbers) (l .inv .6),
+      turned p,
+      next-fits (wide .wide .result) (l .value) _ on after,
+      all-turn (loop .before .before .args .input .now) (l .i) (wide .wide .result) (l .value) (omega arith) (wide .wide .ensures .0) _
+          (l .inv .4) on after ∙ l .inv .5,
+      kept-behind (l .list) _ _ (l .count) _ (p .push .ensures) (room p) (zeros maxNumbers) (l .inv .6),
     )
 
 push-requires-2 : tie.Need-push-requires-2 Inv-loop μ-loop

@@ -11,10 +11,13 @@ use Rattle.decimal.proofs.texts.put_field.Tie as tie
 
 returns : tie.Need-returns
 returns c =
-    let put = c .before .before .before .before .before .before .before .before .before .before .put in
-    let spelt = c .before .before .before .before .before .before .before .spell in
-    let put2 = c .before .before .put2 in
-    let s = c .before .before .before .before .before .before .before .before .before .before .before .before .before .before in
+    let at-put2 = c .before .before in
+    let spell = at-put2 .before .before .before .before .before in
+    let at-put = spell .before .before .before in
+    let s = at-put .before .before .before .before in
+    let put = at-put .put in
+    let spelt = spell .spell in
+    let put2 = at-put2 .put2 in
     let count = length-drop (spelt .result .start) (spelt .result .text) in
     let part =
     take-all (20 - spelt .result .start) (drop (spelt .result .start) (spelt .result .text))

@@ -6,14 +6,17 @@ use borrow.Author.Needs.{needs}
 use Rattle.drawing_text.proofs.telling.clash_lines.Statement.{statement}
 use Rattle.drawing_text.proofs.telling.clash_lines.Tie as tie
 
+sizes : (s : tie.Start) → (length (s .args .t4) ≡ 105) × (length (s .args .t5) ≡ 105)
+sizes s = (search needs, search needs)
+
 returns : tie.Need-returns
 returns c =
-    let s = c .before .before .before .before .before .before .before .before .before in
-    let f : length (s .args .t4) ≡ 105 = search needs in
-    let g : length (s .args .t5) ≡ 105 = search needs in
-    clash-told _ _ _ _ _ f g (c .before .before .before .before .add-line .ensures) (c .add-line2 .ensures)
-    (c .before .before .before .before .before .before .before .before .clash .ensures)
-    (c .before .before .before .before .before .fact-bytes .ensures) (c .before .fact-bytes2 .ensures)
+    let add-line = c .before .before .before .before in
+    let fact-bytes = add-line .before in
+    let clash = fact-bytes .before .before .before in
+    let both = sizes (clash .before) in
+    clash-told _ _ _ _ _ (both .0) (both .1) (add-line .add-line .ensures) (c .add-line2 .ensures) (clash .clash .ensures)
+    (fact-bytes .fact-bytes .ensures) (c .before .fact-bytes2 .ensures)
 
 pub clash-lines-spec : {M : Type 1} → statement M
 clash-lines-spec =

@@ -20,11 +20,14 @@ returns-2 c =
 
 returns-3 : tie.Need-returns-3
 returns-3 c =
-    let a = c .before .before .before .before .before .before .before .before .args in
+    let beyond = c .before .before in
+    let number2 = beyond .before .before in
+    let read = number2 .before .before in
+    let s = read .before .before in
+    let a = s .args in
     c .read-count .ensures
-    ∙ depth-read (a .bytes .now) (a .from .at) _ _
-    (sym (c .before .before .before .before .before .before .read .ensures) ∙ ap answerOf (c .before .before .before .before .number2 .given .1))
-    (sym (c .before .before .beyond .ensures) ∙ c .before .if1 .left)
+    ∙ depth-read (a .bytes .now) (a .from .at) _ _ (sym (read .read .ensures) ∙ ap answerOf (number2 .number2 .given .1))
+    (sym (beyond .beyond .ensures) ∙ c .before .if1 .left)
 
 pub read-depth-spec : {M : Type 1} → statement M
 read-depth-spec =

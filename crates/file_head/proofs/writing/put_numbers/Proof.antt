@@ -26,47 +26,42 @@ put-number-requires-2 c κs =
 
 put-number-requires-3 : tie.Need-put-number-requires-3
 put-number-requires-3 c κs =
-    let entry = c .before .before .before .before .before .before .before .before .before .before in
-    let put-number2 = c .before .before .before .put-number2 in
+    let at-put-number2 = c .before .before .before in
+    let put-number = at-put-number2 .before .before .before .before in
+    let entry = put-number .before .before .before in
+    let put-number2 = at-put-number2 .put-number2 in
     omega (
       arith,
       numbers-length (entry .args .edition) (entry .args .n)
           (entry .args .t),
-      c .before .before .before
-          .before .before .before .before .before .before .before .pre,
+      entry .pre,
       put-number2 .ensures .0,
-      c .before
-          .before .before .before .before .before .before .put-number .ensures .0,
+      put-number .put-number .ensures .0,
       put-number2 .kept .1 .0,
-      c
-          .before .before .before .before .before .before .before .put-number .kept .1 .0,
+      put-number .put-number .kept .1 .0,
     )
 
 returns : tie.Need-returns
 returns c =
-    let entry = c .before .before .before .before .before .before .before .before .before .before .before .before .before in
-    let put-number = c .before .before .before .before .before .before .before .before .before .before .put-number in
-    let put-number2 = c .before .before .before .before .before .before .put-number2 in
+    let put-number3 = c .before .before in
+    let at-put-number2 = put-number3 .before .before .before .before in
+    let at-put-number = at-put-number2 .before .before .before .before in
+    let entry = at-put-number .before .before .before in
+    let put-number = at-put-number .put-number in
+    let put-number2 = at-put-number2 .put-number2 in
     let a = entry .args in (
       omega (
         arith,
         numbers-length (entry .args .edition)
-            (entry .args .n)
-            (entry .args .t),
-        c
-            .before .before .before .before .before .before .before .before .before .before .before .before .before .pre,
-        c .before
-            .before .put-number3 .ensures .0,
+            (entry .args .n) (entry .args .t),
+        entry .pre,
+        put-number3 .put-number3 .ensures .0,
         put-number2 .ensures .0,
-        c .before
-            .before .before .before .before .before .before .before .before .before .put-number .ensures .0,
+        at-put-number .put-number .ensures .0,
       ),
       numbers-put (a .edition) (a .n) (a .t)
-          (a .out .now) _ _ _ _ _
-          (put-number .ensures .1)
-          (put-number2 .ensures .1) (c .before .before .put-number3 .ensures .1)
-          (put-number .ensures .0 ∙ zero-add _)
-          (put-number2 .ensures .0),
+          (a .out .now) _ _ _ _ _ (put-number .ensures .1) (put-number2 .ensures .1) (put-number3 .put-number3 .ensures .1)
+          (put-number .ensures .0 ∙ zero-add _) (put-number2 .ensures .0),
     )
 
 pub put-numbers-spec : {M : Type 1} → statement M

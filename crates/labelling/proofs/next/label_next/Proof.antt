@@ -70,38 +70,45 @@ label-inner-requires c κs =
 
 returns : tie.Need-returns
 returns c =
-    let if1 = c .before .before .before .before .if1 in
-    let s = c .before .before .before .before .before .before .before .before .before in
-    let w = c .before .before .before .before .before .before .next-node in (
+    let label-leaf = c .before .before in
+    let at-if1 = label-leaf .before .before in
+    let next-node = at-if1 .before .before in
+    let s = next-node .before .before .before in
+    let if1 = at-if1 .if1 in
+    let w = next-node .next-node in (
       w .ensures,
       (
-        c .before .before .label-leaf .ensures .0
+        label-leaf .label-leaf .ensures .0
             ∙ leaf-label (s .args .height) (s .args .level) (s .args .position) (s .args .made) (w .result .level)
             (w .result .position) (s .pre .0 .2) (w .ensures) (s .args .edition) (s .args .statement) (s .args .front .now) (s .args .held .now)
             (if1 .taken) (s .pre .1 .0),
-        c .before .before .label-leaf .ensures .1
+        label-leaf .label-leaf .ensures .1
             ∙ leaf-held (s .args .height) (s .args .level) (s .args .position) (s .args .made) (w .result .level)
             (w .result .position) (s .pre .0 .2) (w .ensures) (s .args .edition) (s .args .statement) (s .args .front .now) (s .args .held .now)
-            (if1 .taken) (s .pre .1 .0) (c .before .before .label-leaf .result),
+            (if1 .taken) (s .pre .1 .0) (label-leaf .label-leaf .result),
       ),
     )
 
 returns-2 : tie.Need-returns-2
 returns-2 c =
-    let if1 = c .before .before .before .before .before .before .if1 in
-    let place = c .before .before .before .before .place in
-    let s = c .before .before .before .before .before .before .before .before .before .before .before in
-    let w = c .before .before .before .before .before .before .before .before .next-node in (
+    let label-inner = c .before .before in
+    let at-place = label-inner .before .before in
+    let at-if1 = at-place .before .before in
+    let next-node = at-if1 .before .before in
+    let s = next-node .before .before .before in
+    let if1 = at-if1 .if1 in
+    let place = at-place .place in
+    let w = next-node .next-node in (
       w .ensures,
       (
-        c .before .before .label-inner .ensures .0
+        label-inner .label-inner .ensures .0
             ∙ inner-label (s .args .height) (s .args .level) (s .args .position) (s .args .made) (w .result .level)
             (w .result .position) (s .pre .0 .2) (w .ensures) (s .args .edition) (s .args .statement) (s .args .front .now) (s .args .held .now)
             (if1 .left) _ (place .ensures),
-        c .before .before .label-inner .ensures .1
+        label-inner .label-inner .ensures .1
             ∙ inner-held (s .args .height) (s .args .level) (s .args .position) (s .args .made) (w .result .level)
             (w .result .position) (s .pre .0 .2) (w .ensures) (s .args .edition) (s .args .statement) (s .args .front .now) (s .args .held .now)
-            (if1 .left) _ (place .ensures) (c .before .before .label-inner .result),
+            (if1 .left) _ (place .ensures) (label-inner .label-inner .result),
       ),
     )
 

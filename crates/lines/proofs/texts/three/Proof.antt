@@ -12,17 +12,22 @@ use Rattle.lines.proofs.texts.three.Tie as tie
 returns : tie.Need-returns
 unfolding threeText
 returns c =
-    let a = c .before .before .before .before .before .before .before .before .before .before .before .before in
+    let add3 = c .before .before in
+    let add-number2 = add3 .before in
+    let add2 = add-number2 .before in
+    let add-number = add2 .before in
+    let add = add-number .before in
+    let empty = add .before in
+    let a = empty .before .before .before .before .before in
     let s =
-    first _ _ _ 1000 (c .before .before .before .before .before .before .before .empty .ensures)
-    (c .before .before .before .before .before .before .add .ensures) (a .pre .0) (omega arith) in
+    first _ _ _ 1000 (empty .empty .ensures) (add .add .ensures) (a .pre .0) (omega arith) in
     let n =
-    more _ 20 s (c .before .before .before .before .before .add-number .ensures) (decimal-short (a .args .x)) (omega arith) in
+    more _ 20 s (add-number .add-number .ensures) (decimal-short (a .args .x)) (omega arith) in
     let o =
-    more _ 20 (more _ 1000 n (c .before .before .before .before .add2 .ensures) (a .pre .1) (omega arith))
-    (c .before .before .before .add-number2 .ensures) (decimal-short (a .args .y)) (omega arith) in
+    more _ 20 (more _ 1000 n (add2 .add2 .ensures) (a .pre .1) (omega arith))
+    (add-number2 .add-number2 .ensures) (decimal-short (a .args .y)) (omega arith) in
     let p =
-    more _ 20 (more _ 1000 o (c .before .before .add3 .ensures) (a .pre .2) (omega arith))
+    more _ 20 (more _ 1000 o (add3 .add3 .ensures) (a .pre .2) (omega arith))
     (c .before .add-number3 .ensures) (decimal-short (a .args .z)) (omega arith) in
     more _ 1000 p (c .add4 .ensures) (a .pre .3) (omega arith) .out
     ∙ in-threes (a .args .a .now) (decimal (a .args .x)) (a .args .b .now) (decimal (a .args .y)) (a .args .c .now)

@@ -59,13 +59,18 @@ label-many-requires c κs =
 
 returns : tie.Need-returns
 returns c =
-    let a = c .before .before .before .before .before .before .before .before .before .before .before .before .args in
-    let e = c .before .before .label-many .ensures in
+    let label-many = c .before .before in
+    let smaller = label-many .before .before in
+    let nodes-anew = smaller .before .before in
+    let may-continue = nodes-anew .before .before .before in
+    let s = may-continue .before .before .before in
+    let a = s .args in
+    let e = label-many .label-many .ensures in
     let k =
-    c .before .before .before .before .smaller .ensures
-    ∙ ap (λ (x : ℕ). min (a .budget) (x - a .self .made)) (c .before .before .before .before .before .before .nodes-anew .ensures)
-    ∙ labels-done (a .self) (a .store .now) (a .out .now) (a .budget) (done (c .before .before .before .before .before .before .before)) in (
-      c .before .before .before .before .before .before .before .before .before .may-continue .ensures,
+    smaller .smaller .ensures
+    ∙ ap (λ (x : ℕ). min (a .budget) (x - a .self .made)) (nodes-anew .nodes-anew .ensures)
+    ∙ labels-done (a .self) (a .store .now) (a .out .now) (a .budget) (done (nodes-anew .before)) in (
+      may-continue .may-continue .ensures,
       (k, advanced-by (a .self) (a .store .now) (a .out .now) (a .budget) _ _ _ k (e .0) (e .1)),
     )
 

@@ -38,12 +38,15 @@ copy-held-requires c κs = let r = start-ready _ _ _ _ _ (done (c .before)) in (
 
 returns : tie.Need-returns
 returns c =
-    let a = c .before .before .before .before .before .before .before .before .before .before .args in
+    let copy-held = c .before .before .before in
+    let may-start = copy-held .before .before .before .before in
+    let s = may-start .before .before .before in
+    let a = s .args in
     let (o, w) =
     start-done (a .statement) (a .depth) (a .memory) (a .leaf) (a .store .now) (a .out .now)
-    (done (c .before .before .before .before .before)) in (
-      c .before .before .before .before .before .before .before .may-start .ensures,
-      (c .new-opening .ensures ∙ o, c .before .before .before .copy-held .ensures ∙ w),
+    (done (copy-held .before .before)) in (
+      may-start .may-start .ensures,
+      (c .new-opening .ensures ∙ o, copy-held .copy-held .ensures ∙ w),
     )
 
 returns-2 : tie.Need-returns-2

@@ -54,23 +54,27 @@ slice-aggregate-label-one-2 c = sym (c .before .before .before .loop .inv .2)
 
 label-one-requires : tie.Need-label-one-requires Inv-loop μ-loop
 label-one-requires c κs =
-    let s = c .before .before .before .before .before .before .before .before .before .before .before in (
+    let loop = c .before .before .before .before in
+    let labels-above = loop .before .before in
+    let s = labels-above .before .before .before .before .before in (
       (s .pre .0 .0, omega arith),
       (
-        length-take-le _ _ (read-fits (c .before .before .before .before .before .before))
-            ∙ c .before .before .before .before .before .before .labels-above .ensures .0,
-        c .before .before .before .before .loop .inv .2,
+        length-take-le _ _ (read-fits labels-above)
+            ∙ labels-above .labels-above .ensures .0,
+        loop .loop .inv .2,
         omega arith,
       ),
     )
 
 loop-again : tie.Need-loop-again Inv-loop μ-loop
 loop-again c =
-    let e = c .before .before .before .label-one .ensures in (
+    let label-one = c .before .before .before in
+    let loop = label-one .before .before .before .before .before in
+    let labels-above = loop .before .before in
+    let e = label-one .label-one .ensures in (
       omega arith,
-      steps-more _ _ _ _ _ _ _ _ _ _ (c .before .before .before .before .before .before .before .before .loop .inv .1) _
-          (c .before .before .before .before .before .before .before .before .before .before .labels-above .ensures .1 .0) _ _
-          (e .0) (e .1),
+      steps-more _ _ _ _ _ _ _ _ _ _ (loop .loop .inv .1) _
+          (labels-above .labels-above .ensures .1 .0) _ _ (e .0) (e .1),
       search needs,
       search needs,
     )

@@ -89,14 +89,15 @@ label-requires c κs =
 
 returns : tie.Need-returns Inv-loop μ-loop
 returns c =
-    let entry = c .before .before .before .before .before .before in
+    let loop-test = c .before .before .before in
+    let loop = loop-test .before in
+    let entry = loop .before .before in
     let a = entry .args in
-    let l = c .before .before .before .before .loop in
+    let l = loop .loop in
     c .label .ensures
     ∙ leaf-hash (a .n) (a .leaf) (givenBy (a .bytes .now)) (a .edition) (a .statement) _ (l .height)
-    (given-labels (a .n) (a .bytes .now) (omega (arith, c .before .before .before .before .before .before .pre .2)))
-    (c .before .before .before .loop-test .left)
-    (rw (all-gathered (c .before .before .before)) (l .inv .1 .labels))
+    (given-labels (a .n) (a .bytes .now) (omega (arith, entry .pre .2))) (loop-test .loop-test .left)
+    (rw (all-gathered loop-test) (l .inv .1 .labels))
 
 pub leaf-label-spec : {M : Type 1} → statement M
 leaf-label-spec =

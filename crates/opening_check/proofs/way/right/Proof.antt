@@ -22,21 +22,23 @@ returns c =
 
 returns-2 : tie.Need-returns-2
 returns-2 c =
-    let a = c .before .before .before .before .before .before .before .before .before .before .before .args in
-    wrong-root (a .edition) (a .statement) (a .n) (a .leaf) (a .t5) (a .bytes .now) _
-    (c .before .before .before .before .before .before .before .before .before .leaf-label .ensures)
-    (sym (c .before .before .before .before .before .before .same .ensures) ∙ not-false _
-    (c .before .before .before .before .before .if1 .left))
-    _ (c .before .before .before .before .climb .ensures) (sym (c .before .same2 .ensures) ∙ not-true _ (c .if2 .taken))
+    let climb = c .before .before .before .before in
+    let same = climb .before .before in
+    let leaf-label = same .before .before .before in
+    let a = leaf-label .before .before .args in
+    wrong-root (a .edition) (a .statement) (a .n) (a .leaf) (a .t5) (a .bytes .now) _ (leaf-label .leaf-label .ensures)
+    (sym (same .same .ensures) ∙ not-false _ (climb .before .if1 .left)) _ (climb .climb .ensures)
+    (sym (c .before .same2 .ensures) ∙ not-true _ (c .if2 .taken))
 
 returns-3 : tie.Need-returns-3
 returns-3 c =
-    let a = c .before .before .before .before .before .before .before .before .before .before .before .args in
-    both-right (a .edition) (a .statement) (a .n) (a .leaf) (a .t5) (a .bytes .now) _
-    (c .before .before .before .before .before .before .before .before .before .leaf-label .ensures)
-    (sym (c .before .before .before .before .before .before .same .ensures) ∙ not-false _
-    (c .before .before .before .before .before .if1 .left))
-    _ (c .before .before .before .before .climb .ensures) (sym (c .before .same2 .ensures) ∙ not-false _ (c .if2 .left))
+    let climb = c .before .before .before .before in
+    let same = climb .before .before in
+    let leaf-label = same .before .before .before in
+    let a = leaf-label .before .before .args in
+    both-right (a .edition) (a .statement) (a .n) (a .leaf) (a .t5) (a .bytes .now) _ (leaf-label .leaf-label .ensures)
+    (sym (same .same .ensures) ∙ not-false _ (climb .before .if1 .left)) _ (climb .climb .ensures)
+    (sym (c .before .same2 .ensures) ∙ not-false _ (c .if2 .left))
 
 pub right-spec : {M : Type 1} → statement M
 right-spec =

@@ -13,11 +13,14 @@ returns c =
 
 returns-2 : tie.Need-returns-2
 returns-2 c =
-    let if1 = c .before .before .before .before .before .before .if1 in
-    let a = c .before .before .before .before .before .before .before .before .before .args in (
-      c .before .before .put .ensures
-          ∙ left-one (a .bytes .now) (a .store .now) (a .len) (a .level) (a .position) _ (if1 .left)
-          (c .before .before .before .before .before .slot-of .ensures),
+    let put = c .before .before in
+    let slot-of = put .before .before .before in
+    let at-if1 = slot-of .before in
+    let s = at-if1 .before .before .before in
+    let if1 = at-if1 .if1 in
+    let a = s .args in (
+      put .put .ensures
+          ∙ left-one (a .bytes .now) (a .store .now) (a .len) (a .level) (a .position) _ (if1 .left) (slot-of .slot-of .ensures),
       omega (arith, if1 .left),
     )
 

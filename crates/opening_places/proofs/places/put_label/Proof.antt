@@ -12,11 +12,16 @@ returns c =
     (sym (c .before .before .before .before .before .same-node .ensures) ∙ c .before .before .before .before .if1 .taken)
 
 returns-2 : tie.Need-returns-2
-returns-2 c = c .before .before .put2 .ensures
-    ∙ placed-beside _ _ _ _ _ _ (c .before .before .before .before .before .before .sibling-of .ensures)
-    (sym (c .before .before .before .before .before .before .before .before .same-node .ensures)
-    ∙ c .before .before .before .before .before .before .before .if1 .left)
-    (sym (c .before .before .before .before .before .same-node2 .ensures) ∙ c .before .before .before .before .if2 .taken)
+returns-2 c =
+    let put2 = c .before .before in
+    let if2 = put2 .before .before in
+    let same-node2 = if2 .before in
+    let sibling-of = same-node2 .before in
+    let if1 = sibling-of .before in
+    let same-node = if1 .before in
+    put2 .put2 .ensures
+    ∙ placed-beside _ _ _ _ _ _ (sibling-of .sibling-of .ensures) (sym (same-node .same-node .ensures) ∙ if1 .if1 .left)
+    (sym (same-node2 .same-node2 .ensures) ∙ if2 .if2 .taken)
 
 returns-3 : tie.Need-returns-3
 returns-3 c = placed-nowhere _ _ _ _ _ _ (c .before .before .sibling-of .ensures)

@@ -42,9 +42,13 @@ put-plan-requires c κs =
 
 returns : tie.Need-returns
 returns c =
-    let p = c .before .before .before .before .before .before .before .before .before .plan in
-    refused-wrote _ _ _ _ _ _ _ _ _ refl (p .ensures .0) (c .before .before .before .before .before .before .outcome .given .1)
-    (c .before .before .before .number .ensures) (c .before .before .put-refused .ensures)
+    let put-refused = c .before .before in
+    let number = put-refused .before in
+    let outcome = number .before .before .before in
+    let plan = outcome .before .before .before in
+    let p = plan .plan in
+    refused-wrote _ _ _ _ _ _ _ _ _ refl (p .ensures .0) (outcome .outcome .given .1)
+    (number .number .ensures) (put-refused .put-refused .ensures)
 
 returns-2 : tie.Need-returns-2
 returns-2 c =

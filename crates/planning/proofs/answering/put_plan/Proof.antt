@@ -53,14 +53,17 @@ put-node-requires c κs =
 
 loop-again : tie.Need-loop-again Inv-loop μ-loop
 loop-again c =
-    let at = c .before .before .before .before .before .before .before in
+    let put-node = c .before .before in
+    let node-of = put-node .before .before in
+    let loop-test = node-of .before .before in
+    let at = loop-test .before in
     let l = at .loop in
     let s = at .before .before .before .before .before .before .before .before .before in
     let a = s .args in
     let head = at .before .before .before .put-head in
-    let spot = c .before .before .before .before .node-of in
-    let put = c .before .before .put-node in
-    let taken = c .before .before .before .before .before .before .loop-test .taken in
+    let spot = node-of .node-of in
+    let put = put-node .put-node in
+    let taken = loop-test .loop-test .taken in
     let count = codes-count (a .depth) (a .leaves .now) (a .codes .now) (s .pre .0) (s .pre .1 .0) in
     let few = few-codes (a .depth) (a .leaves .now) (a .codes .now) (s .pre .0) (s .pre .1 .0) in
     let short = head-room (a .depth) (at .before .before .before .before .different-leaves .result) (length (a .codes .now)) in

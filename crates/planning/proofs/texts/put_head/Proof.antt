@@ -20,21 +20,25 @@ put-field-requires-2 c κs =
 put-field-requires-3 : tie.Need-put-field-requires-3
 put-field-requires-3 c κs =
     let g = c .before .before .before .before .put-field2 in
-    let f = c .before .before .before .before .before .before .before .before .before .put-field in
+    let first = c .before .before .before .before .before .before .before .before .before in
+    let f = first .put-field in
     omega (
       arith,
       field-end leavesWord _ (g .ensures),
       g .kept .0,
       field-end depthWord _ (f .ensures),
       f .kept .0,
-      c .before .before .before .before .before .before .before .before .before .before .before .before .before .pre,
+      first .before .before .before .before .pre,
     )
 
 end-line-requires : tie.Need-end-line-requires
 end-line-requires c κs =
-    let h = c .before .before .before .put-field3 in
-    let g = c .before .before .before .before .before .before .before .before .put-field2 in
-    let f = c .before .before .before .before .before .before .before .before .before .before .before .before .before .put-field in
+    let third = c .before .before .before in
+    let second = third .before .before .before .before .before in
+    let first = second .before .before .before .before .before in
+    let h = third .put-field3 in
+    let g = second .put-field2 in
+    let f = first .put-field in
     omega (
       arith,
       field-end chainWord _ (h .ensures),
@@ -43,7 +47,7 @@ end-line-requires c κs =
       g .kept .0,
       field-end depthWord _ (f .ensures),
       f .kept .0,
-      c .before .before .before .before .before .before .before .before .before .before .before .before .before .before .before .before .before .pre,
+      first .before .before .before .before .pre,
     )
 
 returns : tie.Need-returns

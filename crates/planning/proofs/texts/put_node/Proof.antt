@@ -16,25 +16,27 @@ put-field-requires-2 c κs =
 
 end-line-requires : tie.Need-end-line-requires
 end-line-requires c κs =
-    let g = c .before .before .before .put-field2 in
-    let f = c .before .before .before .before .before .before .before .before .put-field in
+    let second = c .before .before .before in
+    let first = second .before .before .before .before .before in
+    let g = second .put-field2 in
+    let f = first .put-field in
     omega (
       arith,
       field-end (32 ∷ []) _ (g .ensures),
       g .kept .0,
       field-end [] _ (f .ensures),
       f .kept .0,
-      c .before .before .before .before .before .before .before .before .before .before .before .before .pre,
+      first .before .before .before .before .pre,
     )
 
 returns : tie.Need-returns
 unfolding nodeText
 returns c =
-    let g = c .before .before .before .before .before .before .put-field2 in
-    let f = c .before .before .before .before .before .before .before .before .before .before .before .put-field in
-    let s = c .before .before .before .before .before .before .before .before .before .before .before .before .before .before .before in
+    let second = c .before .before .before .before .before .before in
+    let first = second .before .before .before .before .before in
+    let s = first .before .before .before .before in
     let a = s .args in
-    then (then (f .ensures) (g .ensures) (omega (arith, node-one (a .level) (a .position), s .pre)))
+    then (then (first .put-field .ensures) (second .put-field2 .ensures) (omega (arith, node-one (a .level) (a .position), s .pre)))
     (c .before .before .end-line .ensures) (omega (arith, node-short (node (a .level) (a .position)), s .pre))
 
 pub put-node-spec : {M : Type 1} → statement M

@@ -16,9 +16,11 @@ end-line-requires c κs =
 returns : tie.Need-returns
 unfolding refusedText
 returns c =
-    let f = c .before .before .before .before .before .before .put-field in
-    let s = c .before .before .before .before .before .before .before .before .before .before in
-    then (f .ensures) (c .before .before .end-line .ensures) (omega (arith, refused-short (s .args .number), s .pre))
+    let end-line = c .before .before in
+    let put-field = end-line .before .before .before .before in
+    let s = put-field .before .before .before .before in
+    let f = put-field .put-field in
+    then (f .ensures) (end-line .end-line .ensures) (omega (arith, refused-short (s .args .number), s .pre))
 
 pub put-refused-spec : {M : Type 1} → statement M
 put-refused-spec =

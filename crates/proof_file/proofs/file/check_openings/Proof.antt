@@ -42,8 +42,10 @@ opening-fits : (c : tie.After-opening-start Inv-loop μ-loop)
     (c .before .before .before .before .before .before .args .bytes .now)) ×
     (length (c .before .before .before .before .before .before .args .bytes .now) ≤ 262470)
 opening-fits c =
-    let entry = c .before .before .before .before .before .before in
-    let loop = c .before .before .before .loop in
+    let loop-test = c .before .before in
+    let at-loop = loop-test .before in
+    let entry = at-loop .before .before .before in
+    let loop = at-loop .loop in
     let a = entry .args in
     let i = loop .i in
     omega (
@@ -51,9 +53,8 @@ opening-fits c =
       c .opening-start .ensures,
       openings-small (a .n) (a .t)
           (entry .pre .0 .1) (entry .pre .0 .2),
-      opening-inside (a .n) (a .t) i (loop .inv .0) (c .before .before .loop-test .taken),
-      c .before
-          .before .before .before .before .before .pre,
+      opening-inside (a .n) (a .t) i (loop .inv .0) (loop-test .loop-test .taken),
+      entry .pre,
     )
 
 add-end : tie.Need-add-end Inv-loop μ-loop
@@ -83,11 +84,12 @@ right-requires c κs =
 
 cast-t22 : tie.Need-cast-t22 Inv-loop μ-loop
 cast-t22 c =
+    let loop-test = c .before .before .before .before .before .before .before in
+    let s = loop-test .before .before .before .before in
     omega (
       arith,
-      c .before .before .before .before .before .before .before .before .before .before .before .pre .0,
-      c .before .before
-          .before .before .before .before .before .loop-test .taken,
+      s .pre .0,
+      loop-test .loop-test .taken,
     )
 
 returns : tie.Need-returns Inv-loop μ-loop
@@ -103,11 +105,12 @@ returns c =
 
 add-i : tie.Need-add-i Inv-loop μ-loop
 add-i c =
+    let loop-test = c .before .before .before .before .before .before in
+    let s = loop-test .before .before .before .before in
     omega (
       arith,
-      c .before .before .before .before .before .before .before .before .before .before .pre .0,
-      c .before .before .before
-          .before .before .before .loop-test .taken,
+      s .pre .0,
+      loop-test .loop-test .taken,
     )
 
 loop-less : tie.Need-loop-less Inv-loop μ-loop

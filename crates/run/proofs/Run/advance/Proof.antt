@@ -30,19 +30,24 @@ label-many-requires c κs =
 
 returns : tie.Need-returns
 returns c =
-    let a = c .before .before .before .before .before .before .before .before .before .before .before .args in
-    let o = c .before .before .before .before .before .before .before .before .before .may-continue in
+    let label-many = c .before .before in
+    let smaller = label-many .before .before in
+    let nodes = smaller .before .before in
+    let enum-told = nodes .before in
+    let may-continue = enum-told .before .before in
+    let s = may-continue .before .before in
+    let a = s .args in
+    let o = may-continue .may-continue in
     let k =
-    c .before .before .before .before .smaller .ensures
-    ∙ ap (λ (x : ℕ). min (a .budget) (x - a .self .made))
-    (c .before .before .before .before .before .before .nodes .ensures)
+    smaller .smaller .ensures
+    ∙ ap (λ (x : ℕ). min (a .budget) (x - a .self .made)) (nodes .nodes .ensures)
     ∙ labels-done (a .self) (a .store .now) (a .budget)
-    (is-done _ _ (o .ensures) (c .before .before .before .before .before .before .before .enum-told .given .1)) in (
+    (is-done _ _ (o .ensures) (enum-told .enum-told .given .1)) in (
       o .ensures,
       (
         k,
-        advanced-by (a .self) (a .store .now) (a .budget) _ _ _ k (c .before .before .label-many .ensures .0)
-            (c .before .before .label-many .ensures .1),
+        advanced-by (a .self) (a .store .now) (a .budget) _ _ _ k (label-many .label-many .ensures .0)
+            (label-many .label-many .ensures .1),
       ),
     )
 

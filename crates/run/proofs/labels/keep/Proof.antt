@@ -45,11 +45,12 @@ put-requires c κs =
 
 returns : tie.Need-returns
 returns c =
-    let entry = c .before .before .before .before .before .before .before .before .before .before .before in
-    c .before .before .put .ensures
+    let put = c .before .before in
+    let if1 = put .before .before .before .before .before .before in
+    let entry = if1 .before .before .before in
+    put .put .ensures
     ∙ kept (entry .args .memory) (entry .args .store .now) (entry .args .w .level) (entry .args .w .position)
-    (entry .args .w .label) (entry .pre .0)
-    (omega (arith, c .before .before .before .before .before .before .before .before .if1 .taken))
+    (entry .args .w .label) (entry .pre .0) (omega (arith, if1 .if1 .taken))
 
 returns-2 : tie.Need-returns-2
 returns-2 c =

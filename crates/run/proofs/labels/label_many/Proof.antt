@@ -49,13 +49,14 @@ label-one-requires c κs =
 
 loop-again : tie.Need-loop-again Inv-loop μ-loop
 loop-again c =
-    let entry = c .before .before .before .before .before .before .before .before .before .before .before in
-    let l = c .before .before .before .before .before .before .before .loop in
-    let o = c .before .before .before .label-one in (
+    let label-one = c .before .before .before in
+    let loop = label-one .before .before .before .before in
+    let entry = loop .before .before .before .before in
+    let l = loop .loop in
+    let o = label-one .label-one in (
       search needs,
       next-step (stamped (entry .args .run) (entry .args .store .now)) (entry .args .run .statement) (entry .args .run .depth)
-          (entry .args .run .memory) (entry .args .run .made) (l .i) (l .held) (l .store) (l .inv .1) _ _ (o .ensures .0)
-          (o .ensures .1),
+          (entry .args .run .memory) (entry .args .run .made) (l .i) (l .held) (l .store) (l .inv .1) _ _ (o .ensures .0) (o .ensures .1),
       omega (arith, o .kept, l .inv .2),
       omega (arith, o .kept, l .inv .3),
     )

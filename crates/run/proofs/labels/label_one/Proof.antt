@@ -18,11 +18,13 @@ keep-requires c κs =
 
 returns : tie.Need-returns
 returns c =
-    let s = c .before .before .before .before .before .before .before .before .before .before .before in
-    let w = c .before .before .before .before .before .before .label-next in
+    let keep = c .before .before in
+    let label-next = keep .before .before .before .before in
+    let s = label-next .before .before .before .before .before in
+    let w = label-next .label-next in
     one-step (s .args .statement) (s .args .depth) (s .args .memory) (s .args .made) (s .args .held .now) (s .args .store .now)
     (w .result .level) (w .result .position) (w .result .label) _ _ (w .ensures .0) (w .ensures .1 .0) (w .ensures .1 .1)
-    (c .before .before .keep .ensures)
+    (keep .keep .ensures)
 
 pub label-one-spec : {M : Type 1} → statement M
 label-one-spec =

@@ -3,7 +3,7 @@ use mathlib.Core.Path.{_≡_, refl, _∙_}
 use borrow.Author.Needs.{needs}
 use native.Mathlib.Omega.{arith}
 use lib.ListN.{length}
-use Prim.Native.Nat.{_-_, _≤_}
+use Prim.Native.Nat.{_-_, _≤_, min}
 use Rattle.machine.specs.Machines as machines
 use Rattle.tree.specs.Walk.{nodesIn}
 use Rattle.run.specs.Steps.{stamped, steps}
@@ -27,51 +27,52 @@ loop-holds : tie.Need-loop-holds Inv-loop μ-loop
 unfolding machines.steps
 loop-holds c = (omega arith, refl, refl, refl)
 
+-- the function's start, from a call
+abbrev entry : tie.After-advance Inv-loop μ-loop → tie.Start Inv-loop μ-loop
+entry c =
+    let loop = c .before .before .before in
+    let start = loop .before .before in
+    let nodes = start .before .before in
+    nodes .before .before
+
+-- a call's labels: the smaller of the portion and what is left
+call-made :
+    (c : tie.After-advance Inv-loop μ-loop)
+    → c .advance .result .labels ≡ min (entry c .args .portion) (nodesIn (entry c .args .depth) - c .before .before .before .loop .made)
+call-made c =
+    let loop = c .before .before .before in
+    let start = loop .before .before .start in
+    let l = loop .loop in
+    let a = entry c in
+    c .advance .ensures .1 .0
+    ∙ call-labels (a .args .statement) (a .args .depth) (a .args .memory) (a .args .store .now) (a .pre .0) _ (start .ensures .1) (l .made)
+    (a .args .portion) (l .inv .0) _ _ (l .inv .1) (l .inv .2)
+
 add-made : tie.Need-add-made Inv-loop μ-loop
 add-made c =
-    let a = c .before .before .before .before .before .before .before .before .before .before .before .before .before in
-    let l = c .before .before .before .before .before .before .before .loop in
-    let call = c .before .before .before .before .advance in
-    let taken = c .before .before .before .before .before .before .loop-test .taken in
-    let all = c .before .before .before .before .before .before .before .before .before .before .before .nodes .ensures in
-    let e =
-    call .ensures .1 .0
-    ∙ call-labels (a .args .statement) (a .args .depth) (a .args .memory) (a .args .store .now) (a .pre .0) _
-    (c .before .before .before .before .before .before .before .before .before .start .ensures .1) (l .made)
-    (a .args .portion) (l .inv .0) _ _ (l .inv .1) (l .inv .2) in
-    omega (arith, e, small-nodes (a .args .depth) (a .pre .0 .shallow))
+    let call = c .before .before .before .before in
+    omega (arith, call-made call, small-nodes (entry call .args .depth) (entry call .pre .0 .shallow))
 
 loop-less : tie.Need-loop-less Inv-loop μ-loop
 loop-less c =
-    let a = c .before .before .before .before .before .before .before .before .before .before .before .before .before .before in
-    let l = c .before .before .before .before .before .before .before .before .loop in
-    let call = c .before .before .before .before .before .advance in
-    let taken = c .before .before .before .before .before .before .before .loop-test .taken in
-    let all = c .before .before .before .before .before .before .before .before .before .before .before .before .nodes .ensures in
-    let e =
-    call .ensures .1 .0
-    ∙ call-labels (a .args .statement) (a .args .depth) (a .args .memory) (a .args .store .now) (a .pre .0) _
-    (c .before .before .before .before .before .before .before .before .before .before .start .ensures .1) (l .made)
-    (a .args .portion) (l .inv .0) _ _ (l .inv .1) (l .inv .2) in
-    omega (arith, e, taken, all, a .pre .1)
+    let call = c .before .before .before .before .before in
+    let test = call .before .before in
+    let nodes = test .before .before .before .before .before in
+    omega (arith, call-made call, test .loop-test .taken, nodes .nodes .ensures, entry call .pre .1)
 
 loop-again : tie.Need-loop-again Inv-loop μ-loop
 loop-again c =
-    let start = c .before .before .before .before .before .before .before .before .before .before .start in
-    let a = c .before .before .before .before .before .before .before .before .before .before .before .before .before .before in
-    let l = c .before .before .before .before .before .before .before .before .loop in
-    let call = c .before .before .before .before .before .advance in
-    let taken = c .before .before .before .before .before .before .before .loop-test .taken in
-    let all = c .before .before .before .before .before .before .before .before .before .before .before .before .nodes .ensures in
-    let e =
-    call .ensures .1 .0
-    ∙ call-labels (a .args .statement) (a .args .depth) (a .args .memory) (a .args .store .now) (a .pre .0) _
-    (start .ensures .1) (l .made) (a .args .portion) (l .inv .0) _ _ (l .inv .1) (l .inv .2) in (
-      omega (arith, e, l .inv .0),
+    let call = c .before .before .before .before .before in
+    let loop = call .before .before .before in
+    let start = loop .before .before .start in
+    let l = loop .loop in
+    let made = call .advance .ensures .1 in
+    let a = entry call in (
+      omega (arith, call-made call, l .inv .0),
       next-run (a .args .statement) (a .args .depth) (a .args .memory) (a .args .store .now) (a .pre .0) _ (start .ensures .1)
-          (l .made) (a .args .portion) (l .inv .0) _ _ (l .inv .1) (l .inv .2) _ (call .ensures .1 .0) _ (call .ensures .1 .1 .0),
+          (l .made) (a .args .portion) (l .inv .0) _ _ (l .inv .1) (l .inv .2) _ (made .0) _ (made .1 .0),
       next-store (a .args .statement) (a .args .depth) (a .args .memory) (a .args .store .now) (a .pre .0) _ (start .ensures .1)
-          (l .made) (a .args .portion) (l .inv .0) _ _ (l .inv .1) (l .inv .2) _ (call .ensures .1 .0) _ (call .ensures .1 .1 .1),
+          (l .made) (a .args .portion) (l .inv .0) _ _ (l .inv .1) (l .inv .2) _ (made .0) _ (made .1 .1),
       search needs,
     )
 

@@ -45,15 +45,23 @@ loop-holds : tie.Need-loop-holds Inv-loop μ-loop
 unfolding machines.steps
 loop-holds c = (omega arith, refl, refl, refl)
 
+-- the count of labels, and the function's start, from a call
+abbrev counted : tie.After-advance Inv-loop μ-loop → tie.After-nodes-anew Inv-loop μ-loop
+counted c = let loop = c .before .before .before in let start = loop .before .before .before .before in start .before .before
+
+abbrev entry : tie.After-advance Inv-loop μ-loop → tie.Start Inv-loop μ-loop
+entry c = counted c .before .before .before
+
 -- a call's labels: the smaller of the portion and what is left
 call-made :
     (c : tie.After-advance Inv-loop μ-loop)
-    → let a = c .before .before .before .before .before .before .before .before .before .before .before .before .args in
+    → let a = entry c .args in
     c .advance .result .labels ≡ min (a .portion) (labelsAnew (a .depth) (a .memory) (a .challenges) - c .before .before .before .loop .made)
 call-made c =
-    let a = c .before .before .before .before .before .before .before .before .before .before .before .before in
-    let l = c .before .before .before .loop in
-    let start = c .before .before .before .before .before .before .before .start in
+    let loop = c .before .before .before in
+    let l = loop .loop in
+    let start = loop .before .before .before .before .start in
+    let a = entry c in
     c .advance .ensures .1 .0
     ∙ call-labels (a .args .statement) (a .args .root) (a .args .depth) (a .args .memory) (a .args .challenges) (a .args .store .now)
     (a .args .file .now) (search needs) (a .pre .0 .2) (a .pre .0 .0) (a .pre .0 .1) _ _ (start .ensures .1 .0) (start .ensures .1 .1)
@@ -62,39 +70,22 @@ call-made c =
 add-made : tie.Need-add-made Inv-loop μ-loop
 add-made c =
     let call = c .before .before .before .before in
-    omega (
-      arith,
-      call-made call,
-      all-few (call .before .before .before .before .before .before .before .before .before),
-      call .before .before .before .loop .inv .0,
-    )
+    omega (arith, call-made call, all-few (counted call), call .before .before .before .loop .inv .0)
 
 add-show-progress : tie.Need-add-show-progress Inv-loop μ-loop
 add-show-progress c =
     let call = c .before .before .before .before in
-    omega (
-      arith,
-      call-made call,
-      all-few (call .before .before .before .before .before .before .before .before .before),
-      call .before .before .before .loop .inv .0,
-      call .before .before .before .before .before .before .before .before .before .before .before .before .pre .1 .1,
-    )
+    omega (arith, call-made call, all-few (counted call), call .before .before .before .loop .inv .0, entry call .pre .1 .1)
 
 loop-less : tie.Need-loop-less Inv-loop μ-loop
 loop-less c =
     let call = c .before .before .before .before .before in
-    omega (
-      arith,
-      call-made call,
-      all-few (call .before .before .before .before .before .before .before .before .before),
-      call .before .before .loop-test .taken,
-      call .before .before .before .before .before .before .before .before .before .before .before .before .pre .1 .0,
-    )
+    omega (arith, call-made call, all-few (counted call), call .before .before .loop-test .taken, entry call .pre .1 .0)
 
 loop-again : tie.Need-loop-again Inv-loop μ-loop
 loop-again c =
     let call = c .before .before .before .before .before in
-    let a = call .before .before .before .before .before .before .before .before .before .before .before .before in
+    let a = entry call in
     let l = call .before .before .before .loop in
     let start = call .before .before .before .before .before .before .before .start in
     let size : length (a .args .statement) ≡ 32 = search needs in (
@@ -112,12 +103,13 @@ loop-again c =
 
 returns : tie.Need-returns Inv-loop μ-loop
 returns c =
-    let start = c .before .before .before .before .before .start in
-    let a = c .before .before .before .before .before .before .before .before .before .before in
+    let at-start = c .before .before .before .before .before in
+    let a = at-start .before .before .before .before .before in
+    let start = at-start .start in
     let size : length (a .args .statement) ≡ 32 = search needs in
     let l = c .before .loop in
     let done : l .made ≡ labelsAnew (a .args .depth) (a .args .memory) (a .args .challenges) =
-    omega (arith, l .inv .0, c .loop-test .left, all-few (c .before .before .before .before .before .before .before)) in (
+    omega (arith, l .inv .0, c .loop-test .left, all-few (at-start .before .before)) in (
       done,
       l .inv .2
           ∙ ends (a .args .statement) (a .args .root) (a .args .depth) (a .args .memory) (a .args .challenges)

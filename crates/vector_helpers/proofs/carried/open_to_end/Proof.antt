@@ -32,9 +32,12 @@ loop-holds c = (refl, omega arith, refl, omega arith)
 
 returns : tie.Need-returns Inv-loop μ-loop
 returns c =
-    let l = c .before .before .before .before .before .before .before .before .loop in
-    let a = c .before .before .before .before .before .before .before .before .before .before .before .args in
-    let made = c .before .before .before .before .before .advance in
+    let advance = c .before .before .before .before .before in
+    let loop = advance .before .before .before in
+    let entry = loop .before .before .before in
+    let l = loop .loop in
+    let a = entry .args in
+    let made = advance .advance in
     let s = openOf (l .state) (l .out) in
     let none = sym (made .ensures .1 .0) ∙ c .if1 .taken in
     let idle = opening-idle (a .store .now) s (a .budget) none in
@@ -44,10 +47,14 @@ returns c =
 
 loop-again : tie.Need-loop-again Inv-loop μ-loop
 loop-again c =
-    let loop-test = c .before .before .before .before .before .before .before .before .loop-test in
-    let l = c .before .before .before .before .before .before .before .before .before .loop in
-    let a = c .before .before .before .before .before .before .before .before .before .before .before .before .args in
-    let made = c .before .before .before .before .before .before .advance in
+    let at-advance = c .before .before .before .before .before .before in
+    let at-loop-test = at-advance .before .before in
+    let loop = at-loop-test .before in
+    let entry = loop .before .before .before in
+    let loop-test = at-loop-test .loop-test in
+    let l = loop .loop in
+    let a = entry .args in
+    let made = at-advance .advance in
     let s = openOf (l .state) (l .out) in
     let advance = opens.advanced (a .store .now) in
     let labels = opens.labelsIn (a .store .now) in

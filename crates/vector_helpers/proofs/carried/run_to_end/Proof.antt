@@ -23,9 +23,12 @@ loop-holds c = (refl, refl)
 
 returns : tie.Need-returns Inv-loop μ-loop
 returns c =
-    let l = c .before .before .before .before .before .before .before .before .loop in
-    let a = c .before .before .before .before .before .before .before .before .before .before .args in
-    let made = c .before .before .before .before .before .advance in
+    let advance = c .before .before .before .before .before in
+    let loop = advance .before .before .before in
+    let entry = loop .before .before in
+    let l = loop .loop in
+    let a = entry .args in
+    let made = advance .advance in
     let s = stamped (l .state) (l .store) in
     let idle = run-idle s (a .budget) (sym (made .ensures .1 .0) ∙ c .if1 .taken) in
     let same = sym (calls-idle advanced labelsIn (a .budget) s idle (l .left)) ∙ l .inv .1 in
@@ -34,14 +37,18 @@ returns c =
 
 loop-again : tie.Need-loop-again Inv-loop μ-loop
 loop-again c =
-    let l = c .before .before .before .before .before .before .before .before .loop in
-    let a = c .before .before .before .before .before .before .before .before .before .before .args in
-    let made = c .before .before .before .before .before .advance in
+    let advance = c .before .before .before .before .before in
+    let loop-test = advance .before .before in
+    let loop = loop-test .before in
+    let entry = loop .before .before in
+    let l = loop .loop in
+    let a = entry .args in
+    let made = advance .advance in
     let s = stamped (l .state) (l .store) in
     let next = ap₂ stamped (made .ensures .1 .1 .0) (made .ensures .1 .1 .1) in (
       search needs,
       ap (λ (t : Stamped). afterCalls advanced t (replicate (l .left - 1) (a .budget))) next
-          ∙ sym (calls-more advanced labelsIn (a .budget) s (l .left) (c .before .before .before .before .before .before .before .loop-test .taken))
+          ∙ sym (calls-more advanced labelsIn (a .budget) s (l .left) (loop-test .loop-test .taken))
           ∙ l .inv .1,
     )
 

@@ -23,13 +23,15 @@ loop-holds c = (omega arith, rw (c .new .ensures))
 
 loop-again : tie.Need-loop-again Inv-loop μ-loop
 loop-again c =
-    let l = c .before .before .before .before .before .before .loop in
-    let list = c .before .before .before .before .before .before .before .before .before .args .list .now in (
+    let big-endian = c .before .before .before in
+    let loop-test = big-endian .before .before in
+    let loop = loop-test .before in
+    let s = loop .before .before .before in
+    let l = loop .loop in
+    let list = s .args .list .now in (
       omega arith,
       l .inv .1 ∙ hashed-more list (l .i) (l .state) _ _
-          (c .before .before .before .before .before .loop-test .taken)
-          (c .before .before .before .big-endian .ensures)
-          (c .before .update .ensures .1),
+          (loop-test .loop-test .taken) (big-endian .big-endian .ensures) (c .before .update .ensures .1),
     )
 
 returns : tie.Need-returns Inv-loop μ-loop

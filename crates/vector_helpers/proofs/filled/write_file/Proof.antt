@@ -10,13 +10,18 @@ use Rattle.vector_helpers.proofs.filled.write_file.Tie as tie
 
 returns : tie.Need-returns
 returns c =
-    let a = c .before .before .before .before .before .before .before .before .before .before .before .before .args in
-    let space = c .before .before .before .before .before .before .before .before .before .before .store-space .ensures in
-    let run = c .before .before .before .before .before .before .before .before .run-whole .ensures in
-    let root = c .before .before .before .before .before .label-at in
+    let write-whole = c .before .before in
+    let label-at = write-whole .before .before .before in
+    let run-whole = label-at .before .before .before in
+    let store-space = run-whole .before .before in
+    let entry = store-space .before .before in
+    let a = entry .args in
+    let space = store-space .store-space .ensures in
+    let run = run-whole .run-whole .ensures in
+    let root = label-at .label-at in
     let store = run ∙ ap (λ (s : List ℕ). wholeRun (a .statement) (a .depth) (a .memory) s) space in (
       root .ensures ∙ ap (λ (s : List ℕ). take 32 s) store,
-      c .before .before .write-whole .ensures
+      write-whole .write-whole .ensures
           ∙ ap (λ (s : List ℕ). wholeFile (a .statement) (root .result) (a .depth) (a .memory) (a .count) s (a .file .now)) store,
     )
 

@@ -6,12 +6,13 @@ use Rattle.vector_helpers.proofs.filled.write_whole.Tie as tie
 
 returns : tie.Need-returns
 returns c =
-    let a = c .before .before .before .before .before .before .before .before .before .before .before .args in
-    let started = c .before .before .before .before .before .before .before .start .ensures .1 in
-    file-whole (a .statement) (a .root) (a .depth) (a .memory) (a .count) (a .store .now) (a .file .now) _ _ _
-    (started .0)
-    (started .1)
-    (c .before .before .advance .ensures .1 .1 .1)
+    let advance = c .before .before in
+    let start = advance .before .before .before .before .before in
+    let s = start .before .before .before .before in
+    let a = s .args in
+    let started = start .start .ensures .1 in
+    file-whole (a .statement) (a .root) (a .depth) (a .memory) (a .count) (a .store .now) (a .file .now) _ _ _ (started .0) (started .1)
+    (advance .advance .ensures .1 .1 .1)
 
 pub write-whole-spec : {M : Type 1} → statement M
 write-whole-spec =

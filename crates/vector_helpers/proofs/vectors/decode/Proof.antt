@@ -26,13 +26,17 @@ returns c =
 
 loop-again : tie.Need-loop-again Inv-loop μ-loop
 loop-again c =
-    let l = c .before .before .before .before .before .before .loop in
-    let a = c .before .before .before .before .before .before .before .before .before .args in (
+    let digit = c .before .before in
+    let if1 = digit .before .before in
+    let loop = if1 .before .before in
+    let s = loop .before .before .before in
+    let l = loop .loop in
+    let a = s .args in (
       omega arith,
       search needs,
-      omega (arith, c .before .before .before .before .if1 .left),
+      omega (arith, if1 .if1 .left),
       spelled-more (a .text .now) (a .out .now) (l .out) (l .i) _ _ (omega arith) (l .inv .3)
-          (c .before .before .digit .ensures .0) (c .digit2 .ensures .0),
+          (digit .digit .ensures .0) (c .digit2 .ensures .0),
     )
 
 returns-2 : tie.Need-returns-2 Inv-loop μ-loop

@@ -1,6 +1,10 @@
 -- `words::orders::check_words` meets its contract.
 use borrow.Author.Tests.{eq-eqb, ne-eqb, lt-ltb, le-ltb}
-use mathlib.Core.Path.{sym, _∙_}
+use mathlib.Core.Path.{_≡_, sym, _∙_}
+use lib.Dec.{eqb}
+use Rattle.base.specs.Choice.{pick, both}
+use Rattle.words.specs.declared.Problem.the-variants.{Missing}
+use Rattle.words.specs.declared.Words.the-variants.{Right, Wrong}
 use Rattle.words.specs.Orders.{wordRow}
 use borrow.Author.Needs.{needs}
 use Rattle.words.proofs.orders.check_words.Statement.{statement}
@@ -36,31 +40,31 @@ returns-4 c =
       lt-ltb _ _ (c .if4 .taken),
     )
 
-returns-5 : tie.Need-returns-5
+-- the row, once the number of words fits
+half-left :
+    (c : tie.Else4)
+    → let a = c .before .before .before .before .before .before .args in
+    wordRow (a .kind) (a .all) ≡ pick (both (eqb (a .kind) 2) (eqb (a .all) 4)) (Wrong Missing) Right
 unfolding wordRow
-returns-5 c =
+half-left c =
+    let most-words = c .before in
+    let if3 = most-words .before in
+    let fewest-words = if3 .before in
+    let if2 = fewest-words .before in
     rw (
-      ne-eqb _ 0 (c .before .before .before .before .before .before .before .if1 .left),
-      ne-eqb _ 0 (c .before .before .before .before .before .before .if2 .left),
-      ← c .before .before .before .before .before .fewest-words .ensures,
-      le-ltb _ _ (c .before .before .before .before .if3 .left),
-      ← c .before .before .before .most-words .ensures,
-      le-ltb _ _ (c .before .before .if4 .left),
-      sym (c .before .half-wanted .ensures) ∙ c .if5 .taken,
+      ne-eqb _ 0 (if2 .before .if1 .left),
+      ne-eqb _ 0 (if2 .if2 .left),
+      ← fewest-words .fewest-words .ensures,
+      le-ltb _ _ (if3 .if3 .left),
+      ← most-words .most-words .ensures,
+      le-ltb _ _ (c .if4 .left),
     )
 
+returns-5 : tie.Need-returns-5
+returns-5 c = rw (half-left (c .before .before), sym (c .before .half-wanted .ensures) ∙ c .if5 .taken)
+
 returns-6 : tie.Need-returns-6
-unfolding wordRow
-returns-6 c =
-    rw (
-      ne-eqb _ 0 (c .before .before .before .before .before .before .before .if1 .left),
-      ne-eqb _ 0 (c .before .before .before .before .before .before .if2 .left),
-      ← c .before .before .before .before .before .fewest-words .ensures,
-      le-ltb _ _ (c .before .before .before .before .if3 .left),
-      ← c .before .before .before .most-words .ensures,
-      le-ltb _ _ (c .before .before .if4 .left),
-      sym (c .before .half-wanted .ensures) ∙ c .if5 .left,
-    )
+returns-6 c = rw (half-left (c .before .before), sym (c .before .half-wanted .ensures) ∙ c .if5 .left)
 
 pub check-words-spec : {M : Type 1} → statement M
 check-words-spec =

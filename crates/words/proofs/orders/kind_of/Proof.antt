@@ -20,20 +20,22 @@ returns-2 c =
 returns-3 : tie.Need-returns-3
 unfolding kindOf
 returns-3 c =
+    let second = c .before .before .before in
+    let first = second .before .before .before in
     rw (
-      sym (c .before .before .before .before .before .before .before .is-word .ensures)
-          ∙ c .before .before .before .before .before .before .if1 .left,
-      sym (c .before .before .before .before .is-word2 .ensures) ∙ c .before .before .before .if2 .left,
+      sym (first .before .is-word .ensures) ∙ first .if1 .left,
+      sym (second .before .is-word2 .ensures) ∙ second .if2 .left,
       sym (c .before .is-word3 .ensures) ∙ c .if3 .taken,
     )
 
 returns-4 : tie.Need-returns-4
 unfolding kindOf
 returns-4 c =
+    let second = c .before .before .before in
+    let first = second .before .before .before in
     rw (
-      sym (c .before .before .before .before .before .before .before .is-word .ensures)
-          ∙ c .before .before .before .before .before .before .if1 .left,
-      sym (c .before .before .before .before .is-word2 .ensures) ∙ c .before .before .before .if2 .left,
+      sym (first .before .is-word .ensures) ∙ first .if1 .left,
+      sym (second .before .is-word2 .ensures) ∙ second .if2 .left,
       sym (c .before .is-word3 .ensures) ∙ c .if3 .left,
     )
 

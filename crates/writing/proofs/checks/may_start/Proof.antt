@@ -1,98 +1,41 @@
--- `writing::checks::may_start` meets its contract: each return by the tests passed.
-use borrow.Author.Needs.{needs}
-use mathlib.Core.Path.{_≡_, sym, _∙_}
-use mathlib.Core.Bool.{false}
-use borrow.Author.Tests.{lt-ltb, le-ltb}
+-- `writing::checks::may_start` meets its contract: refused as a run's start would be, or left to the head's row, whose depth is known by then.
+use mathlib.Core.Path.{_≡_, _∙_}
+use mathlib.Core.Bool.{Bool}
+use mathlib.Core.List.{List, [], _∷_}
+use Prim.Native.Nat.{ℕ}
 use lib.Dec.{ltb}
-use Rattle.base.specs.Limits.{maxDepth, maxChallenges}
-use Rattle.base.specs.Row.{outside, memoryOver}
-use Rattle.tree.specs.Store.{storeSize}
-use Rattle.base.proofs.Ranges.{depth-inside, memory-inside}
-use Rattle.file_head.specs.Layout.{fileSize}
-use Rattle.base.proofs.Ranges.{range-of}
+use borrow.Author.Needs.{needs}
+use Rattle.base.specs.Limits.{maxDepth, maxChallenges, IsDepth}
+use Rattle.base.specs.Row.{firstOf, outside}
+use Rattle.base.proofs.Ranges.{within}
+use Rattle.base.proofs.RowLaws.{is-done}
+use Rattle.run.proofs.RowLaws.{start-depth, start-refuses, start-passes}
+use Rattle.file_head.specs.Layout.{fileSize, headRow}
 use Rattle.writing.specs.Rows.{writeRow}
 use Rattle.writing.proofs.checks.may_start.Statement.{statement}
 use Rattle.writing.proofs.checks.may_start.Tie as tie
 
--- the tests passed
-depth-fits : (c : tie.Else1) → outside 1 maxDepth (c .before .before .args .depth) ≡ false
-depth-fits c = sym (c .before .beyond .ensures) ∙ c .if1 .left
+abbrev rest : tie.Start → List (Bool × ℕ)
+rest s = (outside 1 maxChallenges (s .args .count), 8) ∷ (ltb (s .args .file) (fileSize (s .args .depth) (s .args .count)), 7) ∷ []
 
-memory-fits : (c : tie.Else2) → memoryOver (c .before .before .before .before .args .depth) (c .before .before .before .before .args .memory) ≡ false
-memory-fits c = sym (c .before .memory-over .ensures) ∙ c .if2 .left
-
-store-fits :
-    (c : tie.Else3)
-    → ltb (c .before .before .before .before .before .before .args .store)
-    (storeSize (c .before .before .before .before .before .before .args .memory)) ≡ false
-store-fits c = sym (c .before .store-short .ensures) ∙ c .if3 .left
-
-count-fits : (c : tie.Else4) → outside 1 maxChallenges (c .before .before .before .before .before .before .before .before .args .count) ≡ false
-count-fits c = sym (c .before .beyond2 .ensures) ∙ c .if4 .left
+head-rest : (s : tie.Start) → IsDepth (s .args .depth) → headRow (s .args .depth) (s .args .count) (s .args .file) ≡ firstOf (rest s)
+unfolding headRow
+head-rest s depth = rw (within 1 maxDepth (s .args .depth) depth)
 
 returns : tie.Need-returns
 unfolding writeRow
-returns c = rw (sym (c .before .beyond .ensures) ∙ c .if1 .taken)
+returns c =
+    start-refuses _ _ _ _ _ (rest (c .before .before .before .before)) (c .before .before .before .may-start .ensures) (c .before .checked .given .1)
 
 returns-2 : tie.Need-returns-2
 unfolding writeRow
-returns-2 c = rw (depth-fits (c .before .before), sym (c .before .memory-over .ensures) ∙ c .if2 .taken)
-
-store-short-requires : tie.Need-store-short-requires
-store-short-requires c κs =
-    let entry = c .before .before .before .before in
-    memory-inside (entry .args .depth) (entry .args .memory) (memory-fits c)
-
-returns-3 : tie.Need-returns-3
-unfolding writeRow
-returns-3 c =
-    rw (
-      depth-fits (c .before .before .before .before),
-      memory-fits (c .before .before),
-      sym (c .before .store-short .ensures) ∙ c .if3 .taken,
-    )
-
-returns-4 : tie.Need-returns-4
-unfolding writeRow
-returns-4 c =
-    rw (
-      depth-fits (c .before .before .before .before .before .before),
-      memory-fits (c .before .before .before .before),
-      store-fits (c .before .before),
-      sym (c .before .beyond2 .ensures) ∙ c .if4 .taken,
-    )
-
-file-size-requires : tie.Need-file-size-requires
-file-size-requires c κs =
-    (depth-inside _ (depth-fits (c .before .before .before .before .before .before)), range-of 1 maxChallenges _ (count-fits c) .1)
-
-returns-5 : tie.Need-returns-5
-unfolding writeRow
-returns-5 c =
-    let a = c .before .before .before .before .before .before .before .before .before .before .args in
-    rw (
-      depth-fits (c .before .before .before .before .before .before .before .before),
-      memory-fits (c .before .before .before .before .before .before),
-      store-fits (c .before .before .before .before),
-      count-fits (c .before .before),
-      lt-ltb (a .file) (fileSize (a .depth) (a .count)) (rw (c .before .file-size .ensures) at (c .if5 .taken)),
-    )
-
-returns-6 : tie.Need-returns-6
-unfolding writeRow
-returns-6 c =
-    let a = c .before .before .before .before .before .before .before .before .before .before .args in
-    rw (
-      depth-fits (c .before .before .before .before .before .before .before .before),
-      memory-fits (c .before .before .before .before .before .before),
-      store-fits (c .before .before .before .before),
-      count-fits (c .before .before),
-      le-ltb (a .file) (fileSize (a .depth) (a .count)) (rw (c .before .file-size .ensures) at (c .if5 .left)),
-    )
+returns-2 c =
+    let s = c .before .before .before .before in
+    let row = is-done _ _ (c .before .before .before .may-start .ensures) (c .before .enum-told .given .1) in
+    start-passes _ _ _ (rest s) _ row (c .may-write .ensures ∙ head-rest s (start-depth _ _ _ row))
 
 pub may-start-spec : {M : Type 1} → statement M
 may-start-spec =
     tie.close
     (tie.spec
-    (λ c κs. search needs) returns (λ c κs. search needs) returns-2 store-short-requires returns-3
-    (λ c κs. search needs) returns-4 file-size-requires returns-5 returns-6)
+    (λ c κs. search needs) (λ c. search needs) (λ c. search needs) (λ c κs. search needs) returns returns-2)
