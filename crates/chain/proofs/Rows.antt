@@ -22,7 +22,7 @@ use Rattle.chain_theory.proofs.Sorting.{every-sorted, length-sorted}
 use Rattle.chain_theory.proofs.Plan.{plan-chain}
 use Rattle.chain_theory.proofs.Bound.{leavesOpened-le, plan-length}
 use Rattle.chain.specs.PlanRow.{planRow, plannedCount, plannedList}
-use Rattle.chain.specs.Leaves.{Leaves, leavesRow}
+use Rattle.chain.specs.Leaves.{Leaves, leavesChecks, leavesRow}
 
 -- each exit of the first three checks
 module _ (n : ℕ) (leaves : List ℕ) where
@@ -43,11 +43,6 @@ module _ (n : ℕ) (leaves : List ℕ) where
       → 0 ≡ leavesRow n leaves
   unfolding leavesRow
   row-done a b d = rw (a, b, d)
-
--- the first three checks
-abbrev pub leavesChecks : ℕ → List ℕ → List (Bool × ℕ)
-leavesChecks n leaves =
-    (outside 1 maxDepth n, 1) ∷ (outside 1 maxChallenges (length leaves), 8) ∷ (not (every (isLeaf n) leaves), 6) ∷ []
 
 module _ (n : ℕ) (leaves : List ℕ) (done : leavesRow n leaves ≡ 0) where
   pub passed : NoneHolds (leavesChecks n leaves)

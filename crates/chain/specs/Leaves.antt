@@ -1,7 +1,7 @@
 -- The checks of leaf positions, and what is known of leaves that passed them.
 use mathlib.Core.Path.{_≡_}
 use Prim.Native.Nat.{ℕ, _≤_}
-use mathlib.Core.Bool.{true, not}
+use mathlib.Core.Bool.{Bool, true, not}
 use mathlib.Core.List.{List, [], _∷_}
 use lib.ListN.{length}
 use Rattle.base.specs.Choice.{every}
@@ -15,12 +15,10 @@ pub record Leaves (n : ℕ) (leaves : List ℕ) : Type 0 where
   pub few : length leaves ≤ maxChallenges
   pub inside : every (isLeaf n) leaves ≡ true
 
--- the planning row up to the list: 1; 8: not 1..200 leaves; 6
+-- 1; 8: not 1..200 leaves; 6. Planning and comparing begin with these.
+abbrev pub leavesChecks : ℕ → List ℕ → List (Bool × ℕ)
+leavesChecks n leaves =
+    (outside 1 maxDepth n, 1) ∷ (outside 1 maxChallenges (length leaves), 8) ∷ (not (every (isLeaf n) leaves), 6) ∷ []
+
 unfoldable pub leavesRow : ℕ → List ℕ → ℕ
-leavesRow n leaves =
-    firstOf
-    ((outside 1 maxDepth n, 1)
-    ∷ (outside 1 maxChallenges (length leaves), 8)
-    ∷ (not (every (isLeaf n) leaves), 6)
-    ∷ []
-    )
+leavesRow n leaves = firstOf (leavesChecks n leaves)

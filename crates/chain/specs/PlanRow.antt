@@ -1,26 +1,17 @@
 -- Document 01's row 'Planning a chain', and what planning writes.
 use Prim.Native.Nat.{ℕ}
-use mathlib.Core.Bool.{not}
-use mathlib.Core.List.{List, [], _∷_}
+use mathlib.Core.List.{List, [], _∷_, _++_}
 use lib.Dec.{ltb}
 use lib.ListN.{length}
-use Rattle.base.specs.Choice.{pick, every}
+use Rattle.base.specs.Choice.{pick}
 use Rattle.base.specs.Bytes.{written}
-use Rattle.base.specs.Limits.{maxDepth, maxChallenges}
-use Rattle.base.specs.Row.{firstOf, outside, isDone}
-use Rattle.chain_theory.specs.Planning.{isLeaf}
+use Rattle.base.specs.Row.{firstOf, isDone}
 use Rattle.chain_theory.specs.Ways.{chain, chainCodes}
+use Rattle.chain.specs.Leaves.{leavesChecks}
 
--- 1; 8: not 1..200 leaves; 6; 16: list short
+-- 1; 8; 6; 16: list short
 unfoldable pub planRow : ℕ → List ℕ → ℕ → ℕ
-planRow n leaves list =
-    firstOf
-    ((outside 1 maxDepth n, 1)
-    ∷ (outside 1 maxChallenges (length leaves), 8)
-    ∷ (not (every (isLeaf n) leaves), 6)
-    ∷ (ltb list (length (chain n leaves)), 16)
-    ∷ []
-    )
+planRow n leaves list = firstOf (leavesChecks n leaves ++ (ltb list (length (chain n leaves)), 16) ∷ [])
 
 -- the count answered: 0 where it is refused
 unfoldable pub plannedCount : ℕ → List ℕ → ℕ → ℕ

@@ -7,6 +7,7 @@ use base::MAX_DEPTH;
 use base::MAX_LEAVES;
 use base::Outcome;
 use base::Refusal;
+use base::beyond;
 ghost use mathlib.Core.Path.{_≡_};
 ghost use mathlib.Core.Bool.{true};
 ghost use Prim.Native.Nat.{_+_, _≤_};
@@ -46,10 +47,7 @@ fn are_leaves(depth: u64, leaves: &[u64]) -> bool
 pub fn check_leaves(depth: u64, leaves: &[u64]) -> Outcome
     ensures { λ r. ⌜ outcomeNumber r ≡ leavesRow depth (now (leaves .entry)) ⌝ }
 {
-    if depth < 1 {
-        return Outcome::Refused(Refusal::Depth);
-    }
-    if MAX_DEPTH < depth {
+    if beyond(MAX_DEPTH, depth) {
         return Outcome::Refused(Refusal::Depth);
     }
     if leaves.len() < 1 {

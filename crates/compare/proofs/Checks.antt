@@ -15,15 +15,11 @@ use Rattle.base.specs.Row.{firstOf, isDone}
 use Rattle.base.proofs.RowLaws.{NoneHolds, none-holds, row-refused, row-passed, not-done}
 use Rattle.base.proofs.Ranges.{range-of}
 use Rattle.tree.specs.Openings.{openingSize}
-use Rattle.chain.specs.Leaves.{leavesRow}
-use Rattle.chain.proofs.Rows.{leavesChecks, passed}
-use Rattle.compare.specs.Comparison.{compareRow, compared, firstDisagreement}
+use Rattle.chain.specs.Leaves.{leavesChecks, leavesRow}
+use Rattle.chain.proofs.Rows.{passed}
+use Rattle.compare.specs.Comparison.{sizeChecks, compareRow, compared, firstDisagreement}
 use Rattle.compare.specs.declared.Pair.the-variants.{Agree}
 use Rattle.compare.specs.Table.{Sized}
-
--- the checks that follow those of planning
-abbrev sizeChecks : ℕ → List ℕ → ℕ → List (Bool × ℕ)
-sizeChecks n leaves size = (ltb size (length leaves * openingSize n), 10) ∷ (ltb (length leaves * openingSize n) size, 13) ∷ []
 
 module _ (n : ℕ) (leaves : List ℕ) (size : ℕ) where
   pub leaves-refused : (r : Refusal) → numberOf r ≡ leavesRow n leaves → numberOf r ≡ compareRow n leaves size

@@ -1,17 +1,16 @@
 -- The comparison of openings given as bytes one after the other, with their leaves. They need not be right.
 use Prim.Native.Nat.{ℕ, _-_, _*_}
-use mathlib.Core.Bool.{Bool, not}
-use mathlib.Core.List.{List, [], _∷_}
+use mathlib.Core.Bool.{Bool}
+use mathlib.Core.List.{List, [], _∷_, _++_}
 use lib.Dec.{ltb}
 use lib.ListN.{length, take, drop}
-use Rattle.base.specs.Choice.{pick, every}
+use Rattle.base.specs.Choice.{pick}
 use Rattle.base.specs.Bytes.{zeros}
-use Rattle.base.specs.Limits.{maxDepth, maxChallenges}
-use Rattle.base.specs.Row.{firstOf, outside, isDone}
+use Rattle.base.specs.Row.{firstOf, isDone}
 use Rattle.tree.specs.Labels.{Rule}
 use Rattle.tree.specs.Openings.{Given, inputAt, openingSize}
 use Rattle.tree.specs.Disagreement.{wayNode, disagreeAt}
-use Rattle.chain_theory.specs.Planning.{isLeaf}
+use Rattle.chain.specs.Leaves.{leavesChecks}
 use Rattle.labelling.specs.Rule.{stampRule}
 use Rattle.opening_check.specs.OpeningCheck.{givenBy}
 use Rattle.compare.specs.Table.{leafOf}
@@ -46,17 +45,13 @@ abbrev pub secondInput : ℕ → List ℕ → ℕ → List ℕ → List ℕ → 
 secondInput edition statement n leaves openings Agree = zeros 105
 secondInput edition statement n leaves openings (Disagree i j l) = inputOf edition statement n leaves openings j l
 
--- The comparison's checks, of which document 01 has no row: those of planning (1, 8, 6), then 10: bytes too few; 13: too many.
+-- 10: bytes too few; 13: too many
+abbrev pub sizeChecks : ℕ → List ℕ → ℕ → List (Bool × ℕ)
+sizeChecks n leaves size = (ltb size (length leaves * openingSize n), 10) ∷ (ltb (length leaves * openingSize n) size, 13) ∷ []
+
+-- The comparison's checks, of which document 01 has no row: those of planning (1; 8; 6), then 10; 13.
 unfoldable pub compareRow : ℕ → List ℕ → ℕ → ℕ
-compareRow n leaves size =
-    firstOf
-    ((outside 1 maxDepth n, 1)
-    ∷ (outside 1 maxChallenges (length leaves), 8)
-    ∷ (not (every (isLeaf n) leaves), 6)
-    ∷ (ltb size (length leaves * openingSize n), 10)
-    ∷ (ltb (length leaves * openingSize n) size, 13)
-    ∷ []
-    )
+compareRow n leaves size = firstOf (leavesChecks n leaves ++ sizeChecks n leaves size)
 
 -- what is answered: no pair where it is refused
 unfoldable pub compared : ℕ → List ℕ → ℕ → List ℕ → List ℕ → Pair

@@ -23,7 +23,7 @@ use Rattle.chain_theory.specs.Ways.{chain, code, chainCodes}
 use Rattle.chain_theory.specs.Counts.{leavesOpened}
 use Rattle.chain_theory.proofs.Once.{chain-at, same-code}
 use Rattle.chain.specs.PlanRow.{planRow, plannedCount, plannedList}
-use Rattle.chain.proofs.Rows.{leavesChecks}
+use Rattle.chain.specs.Leaves.{leavesChecks}
 use Rattle.base.proofs.WrittenLaws.{written-none, written-append}
 use Rattle.planning.specs.Output.{places, refusedText, headText, nodeText, nodesText, answerText, planText}
 use Rattle.decimal.specs.Steps.{Wrote}
