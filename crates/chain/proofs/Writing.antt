@@ -1,10 +1,9 @@
 -- Codes written one after the other, and climbs of them.
 use mathlib.Core.Path.{_≡_, sym, _∙_}
 use Prim.Native.Nat.{ℕ, zero, suc, _+_, _-_, _/_, _≤_, _<_}
-use native.Mathlib.Numerals.{add-one}
 use native.Mathlib.Omega.{arith}
-use mathlib.Core.List.{List, [], _∷_, _++_, append-nil}
-use lib.ListN.{length, set, drop, length-set, length-append, take-append-drop}
+use mathlib.Core.List.{List, [], _++_}
+use lib.ListN.{length, set, drop, length-append}
 use Rattle.base.specs.Bytes.{written}
 use Rattle.base.proofs.WrittenLaws.{written-none, written-one, written-append}
 use Rattle.chain_theory.specs.Planning.{climb, nextCode, planFrom}

@@ -2,7 +2,7 @@
 use mathlib.Core.Path.{_≡_, refl}
 use Prim.Native.Nat.{ℕ, _^_, _≤_}
 use native.Mathlib.Omega.{arith}
-use mathlib.Core.Bool.{Bool, true, false, not}
+use mathlib.Core.Bool.{Bool, false, not}
 use mathlib.Core.List.{List, [], _∷_}
 use lib.Dec.{ltb, leb}
 use lib.ListN.{length}
@@ -12,7 +12,7 @@ use Rattle.base.specs.Limits.{maxDepth}
 use Rattle.base.proofs.ListsLaws.{test-same, tells-bytes}
 use Rattle.base.proofs.RowLaws.{NoneHolds, none-holds}
 use Rattle.base.proofs.Ranges.{within, range-of}
-use Rattle.base.specs.Row.{firstOf, outside}
+use Rattle.base.specs.Row.{outside}
 use Rattle.tree.specs.Openings.{LeafRight, RootRight, openingSize}
 use Rattle.labelling.specs.Rule.{stampRule}
 use Rattle.opening_check.specs.OpeningCheck.{givenBy, leafWrong, rootWrong, rightRow, openingRow}

@@ -1,7 +1,7 @@
 -- The program's own store and file hold what an order to seal asks for.
 use mathlib.Core.Path.{_≡_}
 use mathlib.Core.Logic.{⊎-elim}
-use Prim.Native.Nat.{ℕ, _+_, _-_, _≤_}
+use Prim.Native.Nat.{ℕ, _+_, _≤_}
 use lib.Pow.{pow-mono}
 use native.Mathlib.Omega.{arith}
 use Rattle.base.specs.Limits.{maxDepth, maxChallenges, maxFile, ownStore, ownLevel}

@@ -1,7 +1,7 @@
 -- FIPS 180-4, section 6.2.2: the eight new hash words, over the eight old ones and the sixteen words of a block alone.
 use Prim.Native.Nat.{ℕ, zero, suc, _+_, _-_}
 use mathlib.Core.List.{List, [], _∷_, _++_}
-use lib.ListN.{length, getD}
+use lib.ListN.{getD}
 use Rattle.compression.specs.declared.Words.{Words}
 use Rattle.compression.specs.Words.{sum, ch, maj, bigSigma0, bigSigma1, sigma0, sigma1}
 use Rattle.compression.specs.Constants.{constant}

@@ -1,17 +1,16 @@
 -- Texts laid one after the other.
 use mathlib.Core.Path.{_≡_, refl, sym, ap, _∙_}
-use Prim.Native.Nat.{ℕ, zero, suc, _+_, _-_, _*_, _/_, _%_, _^_, _≤_, _<_}
+use Prim.Native.Nat.{ℕ, zero, suc, _+_, _-_, _/_, _%_, _^_, _≤_, _<_}
 use native.Mathlib.Numerals.{add-one}
 use native.Mathlib.Omega.{arith}
 use mathlib.Core.Bool.{Bool, true, false}
 use mathlib.Core.List.{List, [], _∷_, _++_, append-assoc}
 use lib.Dec.{ltb}
-use lib.ListN.{length, getD, take, drop, set, length-append, length-set, length-drop, drop-of-length-le}
+use lib.ListN.{length, take, drop, set, length-append, length-set}
 use lib.Seq.{drop-cons, drop-set-lt, getD-set-same}
 use borrow.Author.Tests.{lt-ltb, le-ltb}
 use Rattle.base.specs.Choice.{pick}
 use Rattle.base.specs.Bytes.{zeros, written}
-use Rattle.base.proofs.Copying.{length-written}
 use Rattle.base.proofs.WrittenLaws.{written-none, written-one, written-append}
 use Rattle.decimal.specs.Text.{digits, decimal, field}
 use Rattle.decimal.specs.Steps.{Wrote}

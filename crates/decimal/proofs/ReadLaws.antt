@@ -1,11 +1,11 @@
 -- Reading byte by byte: what is left to read gives the same result.
 use mathlib.Core.Path.{_≡_, refl, sym, ap, _∙_}
-use Prim.Native.Nat.{ℕ, suc, _+_, _-_, _*_, _/_, _^_, _≤_, _<_}
+use Prim.Native.Nat.{ℕ, _+_, _-_, _*_, _^_, _≤_, _<_}
 use native.Mathlib.Numerals.{add-one}
 use native.Mathlib.Omega.{arith}
 use mathlib.Core.Bool.{Bool, true, false, not, true≢false}
 use mathlib.Core.List.{List, [], _∷_, _++_, append-assoc}
-use lib.Dec.{ltb, leb, eqb}
+use lib.Dec.{leb}
 use lib.ListN.{length, getD, take, drop, set, length-append, take-append-drop, drop-of-length-le}
 use lib.Seq.{drop-cons, drop-drop, take-at, drop-at, take-all, length-take-le}
 use borrow.Author.Tests.{lt-leb, le-leb, ne-eqb, le-ltb, lt-ltb, ltb-false}
@@ -13,7 +13,7 @@ use Rattle.base.specs.Choice.{pick, both, every}
 use Rattle.base.specs.Bytes.{written}
 use Rattle.base.proofs.ChoiceLaws.{both-first, both-second, both-false}
 use Rattle.base.proofs.WrittenLaws.{written-none}
-use Rattle.decimal.specs.Numbers.{maxNumbers, isDigit, readable, fits, numbersFrom, numbers}
+use Rattle.decimal.specs.Numbers.{maxNumbers, isDigit, readable, fits, numbersFrom}
 use Rattle.decimal.specs.Steps.{goesOn, nextValue, Step, Wrote, allFit, ended}
 use Rattle.decimal.proofs.Laying.{one-byte}
 

@@ -11,7 +11,7 @@ use Rattle.draw.specs.Drawing.{DrawingAnswer, notDrawn, drawnChain, drawnClash,
 use Rattle.draw_theory.specs.Demand3.{IsAccepted, NoneDisagree, chainLength, ListShort}
 use Rattle.draw_theory.proofs.Openings.{some-none}
 use Rattle.draw_theory.proofs.Demand3.{chain-exactly, clash-exactly, refused-exactly, refused-untouched}
-use Rattle.demands.specs.Rows.{Row, IsFirst, behind, foundIn, fileOpenings, aFile, drawingChain}
+use Rattle.demands.specs.Rows.{Row, IsFirst, foundIn, fileOpenings, aFile, drawingChain}
 use Rattle.demands.specs.Demand1.{drawingNumber, DrawingChain}
 use Rattle.demands.proofs.Files.{a-file}
 

@@ -1,5 +1,5 @@
 -- The number at a place, for any number of groups: 10 and 11 just when their conditions on the bytes hold.
-use mathlib.Core.Path.{_≡_, refl, sym, subst, _∙_}
+use mathlib.Core.Path.{_≡_, refl}
 use mathlib.Core.Bool.{Bool, true, false}
 use mathlib.Core.Logic.{_⊎_, inl, inr, ⊎-elim}
 use mathlib.Core.List.{List}
@@ -8,11 +8,10 @@ use native.Mathlib.Nat.{pow-le-pow-right, zero-add}
 use native.Mathlib.Numerals.{add-one}
 use native.Mathlib.Omega.{arith}
 use borrow.Author.Tests.{lt-ltb, le-ltb, eq-eqb, ne-eqb, le-leb, lt-leb}
-use lib.Dec.{ltb, leb, eqb}
-use lib.ListN.{length, getD}
-use Rattle.base.specs.Choice.{pick, both}
-use Rattle.base.specs.Row.{either}
-use Rattle.groups.specs.Reading.{Answer, value, refused, ended, readFrom, readAt}
+use lib.Dec.{ltb, eqb}
+use lib.ListN.{length}
+use Rattle.base.specs.Choice.{both}
+use Rattle.groups.specs.Reading.{ended, readFrom, readAt}
 use Rattle.demands.specs.Rows.{IsFirst, byteAt, GoOn, NumberEnds, NotLast, NotShortest, readingNumber}
 use Rattle.demands.specs.Demand1.{answerNumber, ReadingNumber}
 use Rattle.groups.proofs.Steps.{read-none, read-end, read-last, read-more, small, added-below}

@@ -25,7 +25,7 @@ use Rattle.sha256.proofs.Digests.{digest-length}
 use Rattle.labelling.proofs.OneStep.{next-level}
 use Rattle.opening.specs.Rows.{nodesAnew, reopenRow}
 use Rattle.opening_places.specs.Places.{labelIn, ancestor, beside, placed, copied, copiedAll, front}
-use Rattle.opening.specs.Steps.{Open, stepped, steps, labelsIn, advanced, openingMachine}
+use Rattle.opening.specs.Steps.{Open, stepped, steps, openingMachine}
 use Rattle.opening.specs.Names.{openingOf, openOf}
 use Rattle.opening.proofs.StepLaws.{anew-few, next-below}
 use Rattle.run_theory.specs.Openings.{Openable}

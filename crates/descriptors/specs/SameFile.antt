@@ -1,5 +1,5 @@
 -- When two answers of the system are of one file.
-use mathlib.Core.Bool.{Bool, true, false}
+use mathlib.Core.Bool.{Bool, false}
 use lib.Dec.{eqb}
 use lib.IntN.{ℤ, pos, negsuc}
 use Rattle.base.specs.Choice.{both}

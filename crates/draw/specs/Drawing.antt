@@ -4,7 +4,7 @@ use mathlib.Core.List.{List, [], _∷_}
 use lib.Dec.{ltb}
 use lib.ListN.{length, drop}
 use Rattle.base.specs.Choice.{pick}
-use Rattle.base.specs.Bytes.{zeros, written}
+use Rattle.base.specs.Bytes.{written}
 use Rattle.base.specs.Limits as limits
 use Rattle.base.specs.Number.{numberOf}
 use Rattle.base.specs.Row.{isDone}

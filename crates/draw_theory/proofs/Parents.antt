@@ -12,7 +12,7 @@ use borrow.Author.Tests.{ltb-true, ltb-false, eq-eqb}
 use Rattle.base.specs.Choice.{odd}
 use Rattle.base.specs.Lists.{EachOf}
 use Rattle.base.proofs.ChoiceLaws.{odd-true, odd-false}
-use Rattle.tree.specs.Nodes.{Node, node, above, leftChild, rightChild, onWay, parents}
+use Rattle.tree.specs.Nodes.{Node, leftChild, rightChild, onWay, parents}
 use Rattle.tree.specs.Labels.{Label, Rule}
 use Rattle.tree.specs.Rules.{Hash32}
 use Rattle.tree.specs.Held.{among}

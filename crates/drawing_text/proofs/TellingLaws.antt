@@ -13,8 +13,8 @@ use Rattle.base.proofs.ChoiceLaws.{both-first, both-second}
 use Rattle.base.specs.declared.refusal.Refusal.{Refusal}
 use Rattle.base.specs.Number.{numberOf}
 use Rattle.decimal.specs.Ascii.{ascii}
-use Rattle.decimal.specs.Text.{decimal, field}
-use Rattle.decimal.proofs.Laying.{decimal-short, field-length}
+use Rattle.decimal.specs.Text.{field}
+use Rattle.decimal.proofs.Laying.{field-length}
 use Rattle.lines.specs.Line.{added, hexOf}
 use Rattle.lines.specs.Texts.{factText, bytesText, threeText, acceptedText, rejectedText, clashText}
 use Rattle.lines.proofs.LineLaws.{added-fits, length-hex}

@@ -1,6 +1,6 @@
 // The check of files over the shared vectors, and over every file that differs from the first of them in one bit; the row of a
 // challenge and that of a file's head at their edges.
-ghost use Prim.Native.Nat.{_<_, _≤_};
+ghost use Prim.Native.Nat.{_<_};
 use base::outcome_number;
 use file_head::challenge;
 use file_head::write_head;

@@ -1,5 +1,5 @@
 -- The next node of a subtree: where it lies, and what one step gives, by its kind.
-use mathlib.Core.Path.{_≡_, refl}
+use mathlib.Core.Path.{_≡_}
 use mathlib.Core.List.{List, [], _++_}
 use Prim.Native.Nat.{ℕ, _+_, _-_, _*_, _/_, _%_, _^_, _≤_, _<_}
 use native.Mathlib.Nat.{mod-lt}
@@ -11,7 +11,7 @@ use lib.ListN.{length, take, drop}
 use lib.Pow.{pow-pos}
 use Rattle.base.specs.Limits.{maxDepth}
 use Rattle.base.specs.Bytes.{zeros, written}
-use Rattle.tree.specs.Nodes.{Node, node}
+use Rattle.tree.specs.Nodes.{node}
 use Rattle.tree.specs.Walk.{nodesIn}
 use Rattle.tree.specs.Labels.{labelBy, inLabels}
 use Rattle.tree.proofs.Order.{Inside, order-at, inside-level, inside-way}

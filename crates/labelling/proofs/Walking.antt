@@ -1,20 +1,19 @@
 -- The walk down to the next node: what holds at each turn, and one turn.
-use mathlib.Core.Path.{_≡_, refl, sym, ap, _∙_}
+use mathlib.Core.Path.{_≡_, refl, sym, _∙_}
 use mathlib.Core.Bool.{Bool, true, false}
 use Prim.Native.Nat.{ℕ, zero, suc, _+_, _-_, _*_, _/_, _%_, _^_, _≤_, _<_}
-use native.Mathlib.Nat.{mod-eq-of-lt, one-mul}
 use native.Mathlib.Numerals.{add-one}
 use native.Mathlib.Omega.{arith}
 use borrow.Author.Tests.{ltb-true, ltb-false}
 use lib.Dec.{ltb}
 use lib.ListN.{getD}
-use lib.Pow.{pow-pos, pow-mono, pow-lt}
+use lib.Pow.{pow-pos, pow-mono}
 use Rattle.base.specs.Limits.{maxDepth}
 use Rattle.base.proofs.Powers.{shifted-one}
 use Rattle.base.specs.Choice.{pick}
-use Rattle.tree.specs.Nodes.{Node, node, root, orderBelow}
+use Rattle.tree.specs.Nodes.{node, root, orderBelow}
 use Rattle.tree.specs.Walk.{nodesIn, nodeAt}
-use Rattle.tree.proofs.Order.{nodesIn-suc, nodesIn-step, nodeAt-left, nodeAt-right, nodeAt-last, nodeAt-order}
+use Rattle.tree.proofs.Order.{nodesIn-suc, nodeAt-left, nodeAt-right, nodeAt-last, nodeAt-order}
 
 -- the node sought is `left` places into the order of the subtree of height h at (l, p)
 pub record Walking (height level position made h l p left half : ℕ) : Type 0 where

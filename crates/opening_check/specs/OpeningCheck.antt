@@ -1,6 +1,6 @@
 -- Document 01's row 'One opening checked': 'An opening is right if its leaf label is the hash of its left siblings there, and
 -- hashing upward gives the root.'
-use Prim.Native.Nat.{ℕ, _+_, _*_, _^_}
+use Prim.Native.Nat.{ℕ, _*_, _^_}
 use mathlib.Core.Bool.{Bool, not}
 use mathlib.Core.List.{List, [], _∷_}
 use lib.Dec.{ltb, leb}

@@ -1,7 +1,6 @@
 -- Document 01, the planning program: what it prints, in bytes.
-use Prim.Native.Nat.{ℕ, zero, suc, _+_, _*_, _/_, _%_}
+use Prim.Native.Nat.{ℕ, _+_, _*_}
 use mathlib.Core.List.{List, [], _∷_, _++_, map}
-use lib.Dec.{ltb}
 use lib.ListN.{length, getD, drop}
 use Rattle.base.specs.Limits.{maxChain}
 use Rattle.base.specs.Choice.{pick}

@@ -1,11 +1,10 @@
 -- What is known of a run that may be started or continued, and of a row that begins with a start's checks.
 use mathlib.Core.Path.{_≡_, refl, sym, _∙_}
-use mathlib.Core.Bool.{Bool, true, false, not}
+use mathlib.Core.Bool.{Bool, false}
 use mathlib.Core.List.{List, _++_}
-use Prim.Native.Nat.{ℕ, _-_, _≤_, _<_, min}
-use native.Mathlib.Omega.{arith}
-use borrow.Author.Tests.{ltb-true, ltb-false, leb-true, leb-false, lt-ltb, le-ltb, le-leb, lt-leb, not-false}
-use lib.Dec.{ltb, leb, lit≤}
+use Prim.Native.Nat.{ℕ, _-_, _≤_, min}
+use borrow.Author.Tests.{ltb-false}
+use lib.Dec.{ltb, lit≤}
 use lib.ListN.{length}
 use Rattle.base.specs.Limits.{maxDepth, maxMemory, IsDepth}
 use Rattle.base.specs.declared.refusal.Refusal.{Refusal}
@@ -14,7 +13,7 @@ use Rattle.base.specs.declared.refusal.Outcome.the-variants.{Refused}
 use Rattle.base.specs.Number.{numberOf, outcomeNumber}
 use Rattle.base.specs.Row.{firstOf, outside, either, isDone, memoryOver}
 use Rattle.base.proofs.Ranges.{range-of, depth-inside, memory-inside, neither}
-use Rattle.base.proofs.RowLaws.{NoneHolds, passed, none-holds, row-refused, row-passed, not-done, refused-number}
+use Rattle.base.proofs.RowLaws.{passed, none-holds, row-refused, row-passed, not-done, refused-number}
 use Rattle.machine.proofs.StepLaws as machines
 use Rattle.machine.proofs.StepLaws.{done-some, done-refused}
 use Rattle.tree.specs.Walk.{nodesIn}

@@ -4,7 +4,6 @@ ghost use Prim.Native.Nat.{_≤_};
 ghost use lib.Dec.{ltb};
 ghost use Rattle.base.specs.Limits.{maxDepth, maxMemory};
 ghost use Rattle.base.specs.Number.{outcomeNumber};
-ghost use Rattle.base.specs.Row.{outside, memoryOver};
 ghost use Rattle.tree.specs.Walk.{nodesIn};
 ghost use Rattle.tree.specs.Store.{storeSize};
 ghost use Rattle.run.specs.Rows.{impossible, startRow, continueRow};

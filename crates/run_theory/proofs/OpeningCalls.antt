@@ -4,24 +4,24 @@ use Prim.Native.Nat.{ℕ, _-_, _^_, _≤_, _<_, min}
 use native.Mathlib.Nat.{sub-self}
 use native.Mathlib.Omega.{arith}
 use mathlib.Core.Bool.{Bool, true}
-use mathlib.Core.List.{List, [], _∷_, _++_}
-use lib.Dec.{ltb, leb}
+use mathlib.Core.List.{List, _++_}
+use lib.Dec.{leb}
 use lib.ListN.{length, drop}
 use borrow.Author.Tests.{ltb-false, leb-true, leb-false, not-false, le-ltb, le-leb, lt-leb}
 use Rattle.base.specs.Choice.{both}
 use Rattle.base.specs.Limits.{edition, maxDepth, maxMemory}
 use Rattle.base.proofs.ChoiceLaws.{both-first, both-second}
 use Rattle.base.proofs.RowLaws.{NoneHolds, none-holds}
-use Rattle.base.specs.Row.{outside, memoryOver}
 use Rattle.machine.specs.Machines.{Goes}
 use Rattle.machine.specs.Calls.{total, afterCalls}
 use Rattle.machine.proofs.CallLaws.{calls-state}
 use Rattle.tree.specs.Store.{storeSize}
 use Rattle.tree.specs.Openings.{openingNodes, openingSize}
 use Rattle.opening.specs.declared.Opening.{Opening}
-use Rattle.opening.specs.Rows.{nodesAnew, openRow, reopenRow}
+use Rattle.run.specs.Rows.{startChecks}
+use Rattle.opening.specs.Rows.{nodesAnew, leafChecks, openRow, reopenRow}
 use Rattle.opening_places.specs.Places.{copiedAll}
-use Rattle.opening.specs.Steps.{newOpening, started, startedOut, Open, steps, labelsIn, advanced, openingMachine}
+use Rattle.opening.specs.Steps.{newOpening, started, startedOut, Open, steps, advanced, openingMachine}
 use Rattle.run_theory.specs.Reached.{labelsOf}
 use Rattle.run_theory.specs.Openings.{HoldsLabels, Openable, openingAfter, outAfter, newOpen, openAfter}
 use Rattle.run_theory.proofs.OpeningRun.{opening-start, opening-reached, length-after, opening-done}
@@ -43,13 +43,7 @@ module _ (n m leaf store out : ℕ) where
   pub fits-open : openRow n m leaf store out ≡ 0 → Openable n m leaf store out
   unfolding openRow
   fits-open e =
-      let row : List (Bool × ℕ) =
-      (outside 1 maxDepth n, 1)
-      ∷ (memoryOver n m, 2)
-      ∷ (ltb store (storeSize m), 3)
-      ∷ (leb (2 ^ n) leaf, 6)
-      ∷ (ltb out (openingSize n), 7)
-      ∷ [] in
+      let row : List (Bool × ℕ) = startChecks n m store ++ leafChecks n leaf out in
       let none : NoneHolds row = none-holds row refl e in
       let depth : both (leb 1 n) (leb n maxDepth) ≡ true = not-false (both (leb 1 n) (leb n maxDepth)) (none .0) in
       record {

@@ -1,18 +1,17 @@
 -- Document 01's rows of a run: a start is done just when its numbers are in their bounds, and then each of its calls is.
 use mathlib.Core.Path.{_≡_, refl, ap}
 use Prim.Native.Nat.{ℕ, _≤_, min}
-use mathlib.Core.Bool.{Bool}
-use mathlib.Core.List.{List, [], _∷_}
-use lib.Dec.{ltb, leb}
+use mathlib.Core.List.{List}
+use lib.Dec.{leb}
 use borrow.Author.Tests.{leb-true, le-leb, ltb-false, le-ltb, not-false}
 use Rattle.base.specs.Limits.{maxDepth, maxMemory}
 use Rattle.base.specs.Choice.{pick}
 use Rattle.base.proofs.ChoiceLaws.{both-first, both-second}
-use Rattle.base.specs.Row.{outside, isDone, memoryOver}
+use Rattle.base.specs.Row.{isDone}
 use Rattle.base.proofs.RowLaws.{none-holds, NoneHolds}
 use Rattle.tree.specs.Walk.{nodesIn}
 use Rattle.tree.specs.Store.{storeSize}
-use Rattle.run.specs.Rows.{startRow, continueRow}
+use Rattle.run.specs.Rows.{startChecks, startRow, continueRow}
 use Rattle.run.specs.Steps.{newRun, noRun, started}
 use Rattle.run_theory.specs.Reached.{runAfter}
 use Rattle.run_theory.specs.Runs.{Startable}
@@ -27,8 +26,7 @@ module _ (n m size : ℕ) where
   pub start-bounds : startRow n m size ≡ 0 → Startable n m size
   unfolding startRow
   start-bounds e =
-      let row : List (Bool × ℕ) = (outside 1 maxDepth n, 1) ∷ (memoryOver n m, 2) ∷ (ltb size (storeSize m), 3) ∷ [] in
-      let none : NoneHolds row = none-holds row refl e in
+      let none : NoneHolds (startChecks n m size) = none-holds (startChecks n m size) refl e in
       record {
         positive = leb-true 1 n (both-first (leb 1 n) (leb n maxDepth) (not-false _ (none .0)));
         shallow = leb-true n maxDepth (both-second (leb 1 n) (leb n maxDepth) (not-false _ (none .0)));

@@ -12,13 +12,12 @@ use Rattle.base.specs.Limits.{maxDepth, heldSize}
 use Rattle.base.specs.Bytes.{zeros, joined, written}
 use Rattle.base.specs.Choice.{pick}
 use Rattle.base.specs.Lists.{EachOf}
-use Rattle.base.proofs.BytesLaws.{length-bigEndian, length-joined, joined-append}
+use Rattle.base.proofs.BytesLaws.{length-joined, joined-append}
 use Rattle.base.proofs.WrittenLaws.{written-over, written-two}
 use Rattle.base.proofs.Zeros.{zeros-split}
 use Rattle.tree.specs.Nodes.{Node, leftChild, rightChild, leftSiblings, parents}
 use Rattle.tree.specs.Walk.{nodesIn, leftSiblingsBelow}
 use Rattle.tree.specs.Labels.{Label, labelBy, inLabels, labelBelow, label}
-use Rattle.tree.specs.Rules.{Hash32}
 use Rattle.tree.specs.Held.{heldBelow}
 use Rattle.tree.proofs.Order.{Inside, order-at, inside-level}
 use Rattle.tree.proofs.Parents.{leftSiblingsBelow-count, parents-of-inner}
@@ -26,7 +25,6 @@ use Rattle.tree.proofs.Cut.{labels-back}
 use Rattle.tree.proofs.Labelling.{label-parents}
 use Rattle.tree.proofs.HeldLaws.{heldBelow-before, heldBelow-after, heldBelow-few, held-start, held-all, leaf-parents, inner-parents}
 use Rattle.sha256.proofs.Digests.{digest-length}
-use Rattle.labelling.proofs.RuleLaws.{stamp-hash}
 use Rattle.labelling.specs.Rule.{stampRule}
 use Rattle.labelling.specs.Step.{nextNode, placeOf, isLeaf, hashedLabels, nextLabel, heldWith}
 use Rattle.run_theory.specs.Reached.{labelOf, labelsOf, heldBytes}

@@ -1,11 +1,11 @@
 -- What an opening and its output hold when k labels are made from a start.
 use mathlib.Core.Path.{_≡_}
-use Prim.Native.Nat.{ℕ, zero, suc, _-_, _/_, _^_, _≤_, _<_, min}
+use Prim.Native.Nat.{ℕ, zero, suc, _-_, _/_, _^_, _≤_, _<_}
 use mathlib.Core.List.{List, [], _∷_, _++_}
 use lib.Dec.{eqb}
 use lib.ListN.{take}
 use Rattle.base.specs.Choice.{pick}
-use Rattle.base.specs.Limits.{maxDepth, maxMemory, IsDepth, IsMemory}
+use Rattle.base.specs.Limits.{IsDepth, IsMemory}
 use Rattle.tree.specs.Nodes.{Node, node, InTree, orderBelow}
 use Rattle.tree.specs.Openings.{sibling, openingSize}
 use Rattle.tree.specs.Store.{storeSize}

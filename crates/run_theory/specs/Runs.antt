@@ -1,7 +1,7 @@
 -- A run that is not refused at its start, the state that k labels give, and calls with budgets.
-use Prim.Native.Nat.{ℕ, _≤_, min}
+use Prim.Native.Nat.{ℕ, _≤_}
 use mathlib.Core.List.{List}
-use Rattle.base.specs.Limits.{maxDepth, maxMemory, IsMemory}
+use Rattle.base.specs.Limits.{maxDepth, IsMemory}
 use Rattle.machine.specs.Calls.{afterCalls, labelsOver}
 use Rattle.tree.specs.Store.{storeSize}
 use Rattle.run.specs.Steps.{newRun, Stamped, labelsIn, advanced}

@@ -7,7 +7,6 @@ mod push; // push.rt: bytes pushed into a state
 ghost use Prim.Native.Nat.{_+_};
 ghost use mathlib.Core.Path.{_≡_};
 ghost use lib.Dec.{leb};
-ghost use lib.ListN.{length};
 ghost use Rattle.compression.specs.Constants.{initial};
 ghost use Rattle.sha256.specs.Padding.{blocks};
 ghost use Rattle.sha256.specs.Digest.{hashAfter, digestOf};

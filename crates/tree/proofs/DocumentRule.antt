@@ -1,5 +1,5 @@
 -- Document 01's hash input: its length, and that the parents' labels stand in it whole and can be read back.
-use mathlib.Core.Path.{_≡_, _∙_}
+use mathlib.Core.Path.{_≡_}
 use Prim.Native.Nat.{ℕ, _+_, _*_, _<_}
 use native.Mathlib.Omega.{arith}
 use mathlib.Core.List.{List, [], _++_, append-cancel-left}

@@ -1,5 +1,4 @@
 -- Document 01, 'The tree', and section 4 of Cohen and Pietrzak: nodes, labelling order, ways to the root, parents.
-use mathlib.Core.Path.{_≡_}
 use Prim.Native.Nat.{ℕ, zero, suc, _+_, _-_, _*_, _/_, _^_, _≤_, _<_}
 use mathlib.Core.Bool.{Bool}
 use mathlib.Core.List.{List, [], _∷_, _++_}

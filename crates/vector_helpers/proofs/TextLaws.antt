@@ -6,7 +6,7 @@ use native.Mathlib.Nat.{add-zero, zero-add}
 use native.Mathlib.Numerals.{add-one}
 use native.Mathlib.Omega.{arith}
 use borrow.Author.Tests.{eq-eqb, ne-eqb}
-use lib.ListN.{length, getD, take, drop, set, length-append, drop-of-length-le}
+use lib.ListN.{length, getD, drop, set, length-append, drop-of-length-le}
 use lib.Seq.{drop-cons, set-at, append-snoc}
 use Rattle.base.specs.Bytes.{written}
 use Rattle.vector_helpers.specs.Text.{beforeMark, endFrom, fieldStart, digitValue, spelled, decimalFrom}

@@ -1,14 +1,15 @@
 -- What is known of a writing that may be started or continued, and what a call gives by its answer.
 use mathlib.Core.Path.{_≡_, refl, sym}
 use mathlib.Core.Bool.{Bool, true, false}
-use mathlib.Core.List.{List}
+use mathlib.Core.List.{List, _++_}
 use Prim.Native.Nat.{ℕ, _^_, _≤_, _<_, min}
 use borrow.Author.Tests.{ltb-false, leb-false}
 use lib.Dec.{ltb, leb}
 use lib.ListN.{length}
 use Rattle.base.specs.Limits.{maxDepth, maxMemory, maxChallenges, IsDepth, IsCount}
 use Rattle.base.specs.Row.{outside, either, isDone, memoryOver}
-use Rattle.run.specs.Rows.{impossible}
+use Rattle.base.proofs.RowLaws.{NoneHolds, none-holds}
+use Rattle.run.specs.Rows.{startChecks, startRow, impossible}
 use Rattle.base.proofs.Ranges.{neither}
 use Rattle.machine.proofs.StepLaws as machines
 use Rattle.machine.proofs.StepLaws.{done-some, done-refused}
@@ -16,9 +17,18 @@ use Rattle.opening.specs.declared.Opening.{Opening}
 use Rattle.opening.specs.Rows.{nodesAnew}
 use Rattle.base.proofs.Ranges.{range-of}
 use Rattle.writing.specs.declared.Writing.{Writing}
-use Rattle.writing.specs.Rows.{writeRow, rewriteRow}
+use Rattle.file_head.specs.Layout.{headRow}
+use Rattle.writing.specs.Rows.{fileChecks, writeRow, rewriteRow}
 use Rattle.writing.specs.Possible.{stateOutside, writtenOf}
 use Rattle.writing.specs.Steps.{mayFollow, newWriting, noWriting, started, remaining, writingMachine, steps, labelsIn, advanced}
+
+-- a start's row is that of a run's start and that of the head
+pub both-done : (n m t store file : ℕ) → writeRow n m t store file ≡ 0 → (startRow n m store ≡ 0) × (headRow n t file ≡ 0)
+unfolding writeRow startRow headRow
+both-done n m t store file e =
+    let row : List (Bool × ℕ) = startChecks n m store ++ fileChecks n t file in
+    let none : NoneHolds row = none-holds row refl e in
+    (rw (none .0, none .1 .0, none .1 .1 .0), rw (none .0, none .1 .1 .1 .0, none .1 .1 .1 .1 .0))
 
 -- what the first condition of continuing leaves
 pub record Bounded (w : Writing) : Type 0 where

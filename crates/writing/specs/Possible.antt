@@ -1,10 +1,10 @@
 -- What a call that is not refused knows of a writing, and short names for the contracts of the functions inside.
 use mathlib.Core.Path.{_≡_}
-use Prim.Native.Nat.{ℕ, _+_, _^_, _≤_, _<_, min}
+use Prim.Native.Nat.{ℕ, _+_, _^_, _≤_, _<_}
 use mathlib.Core.Bool.{Bool, false}
 use mathlib.Core.List.{List}
 use lib.Dec.{leb}
-use Rattle.base.specs.Limits.{maxDepth, maxMemory, maxChallenges, IsDepth, IsMemory}
+use Rattle.base.specs.Limits.{maxChallenges, IsDepth, IsMemory}
 use Rattle.base.specs.Row.{outside, either}
 use Rattle.tree.specs.Store.{storeSize}
 use Rattle.run.specs.Rows.{impossible}

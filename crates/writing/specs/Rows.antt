@@ -1,7 +1,8 @@
 -- The checks of writing a whole file by budgets. Document 01 has no row of its own for it: starting takes the row 'Starting an
 -- opening' (1, 2, 3) and then that of the head (8, 7); continuing takes the row 'Continuing an opening'.
 use Prim.Native.Nat.{ℕ, _^_}
-use mathlib.Core.List.{[], _∷_, _++_}
+use mathlib.Core.Bool.{Bool}
+use mathlib.Core.List.{List, [], _∷_, _++_}
 use lib.Dec.{ltb, leb, eqb}
 use Rattle.base.specs.Choice.{both}
 use Rattle.base.specs.Limits.{maxChallenges}
@@ -13,10 +14,13 @@ use Rattle.opening.specs.Rows.{nodesAnew}
 use Rattle.file_head.specs.Layout.{fileSize}
 use Rattle.writing.specs.declared.Writing.{Writing}
 
--- 1, 2, 3; 8: t not 1..200; 7: less than the whole file fits
+-- 8: t not 1..200; 7: less than the whole file fits
+abbrev pub fileChecks : ℕ → ℕ → ℕ → List (Bool × ℕ)
+fileChecks n t file = (outside 1 maxChallenges t, 8) ∷ (ltb file (fileSize n t), 7) ∷ []
+
+-- 1, 2, 3; 8; 7
 unfoldable pub writeRow : ℕ → ℕ → ℕ → ℕ → ℕ → ℕ
-writeRow n m t store file =
-    firstOf (startChecks n m store ++ (outside 1 maxChallenges t, 8) ∷ (ltb file (fileSize n t), 7) ∷ [])
+writeRow n m t store file = firstOf (startChecks n m store ++ fileChecks n t file)
 
 -- 4 (also a leaf of 2^n or more, a count not 1..200, an opening's number not 1..t, or an opening done that is not the last,
 -- which no start or call leaves); 3; 7

@@ -6,7 +6,7 @@ use lib.ListN.{take, drop}
 use Rattle.base.specs.Choice.{pick}
 use Rattle.base.specs.Bytes.{joined}
 use Rattle.base.specs.Limits as limits
-use Rattle.base.specs.Limits.{maxMemory, IsDepth, IsMemory, IsCount}
+use Rattle.base.specs.Limits.{IsDepth, IsMemory, IsCount}
 use Rattle.machine.specs.Calls.{afterCalls}
 use Rattle.tree.specs.Store.{storeSize}
 use Rattle.tree.specs.Openings.{openingSize}

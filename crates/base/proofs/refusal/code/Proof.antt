@@ -1,6 +1,6 @@
 -- `base::refusal::code` meets its contract: no refusal's number is above 17, so the sum fits.
 use borrow.Author.Needs.{needs}
-use mathlib.Core.Path.{sym, ap, _∙_}
+use mathlib.Core.Path.{sym, ap}
 use native.Mathlib.Omega.{arith}
 use Rattle.base.specs.Number.{codeOf}
 use Rattle.base.proofs.Bounds.{number-le}

@@ -1,4 +1,4 @@
-use mathlib.Core.Path.{ap, _∙_}
+use mathlib.Core.Path.{_∙_}
 use Rattle.capi.proofs.Numbers.{same-pair}
 use borrow.Author.Needs.{needs}
 use Rattle.capi.proofs.chains.mastdock_compare.Statement.{statement}

@@ -1,7 +1,8 @@
 -- `compare::pairs::first_pair` meets its contract. The invariant: the openings from i on give the answer. The measure is what
 -- is left of them.
 use mathlib.Core.Path.{_≡_, sym, _∙_}
-use Prim.Native.Nat.{_+_, _-_, _≤_}
+use mathlib.Core.Bool.{Bool}
+use Prim.Native.Nat.{ℕ, _+_, _-_, _≤_}
 use lib.ListN.{length}
 use Rattle.compare.specs.FirstPair.{firstPair, firstsFrom}
 use Rattle.compare.specs.Table.{tableDisagreement}
@@ -19,31 +20,27 @@ Inv-loop n leaves table t i₀ i =
 abbrev μ-loop : tie.MeasureT-loop
 μ-loop n leaves table t i₀ i = length leaves + 1 - i
 
+-- the test of the table, and the number of openings
+abbrev differs : tie.Start Inv-loop μ-loop → ℕ → ℕ → ℕ → Bool
+differs s = tableDisagreement (s .args .n) (s .args .leaves .now) (s .args .table .now)
+
+abbrev count : tie.Start Inv-loop μ-loop → ℕ
+count s = length (s .args .leaves .now)
+
 loop-holds : tie.Need-loop-holds Inv-loop μ-loop
 loop-holds c =
     let s = c .before .before in
-    let a = s .args in
-    let n = a .n in
-    let leaves = a .leaves .now in
-    let table = a .table .now in
-    let t = length leaves in
-    (omega arith, omega arith, firsts-all (tableDisagreement n leaves table) n t)
+    (omega arith, omega arith, firsts-all (differs s) (s .args .n) (count s))
 
 first-second-requires : tie.Need-first-second-requires Inv-loop μ-loop
 first-second-requires c κs = (c .before .before .before .before .pre, c .before .loop .inv .0, c .loop-test .taken)
 
 returns : tie.Need-returns Inv-loop μ-loop
 returns c =
-    let loop = c .before .before .before .before .before .loop in
-    let s = c .before .before .before .before .before .before .before .before in
-    let a = s .args in
-    let n = a .n in
-    let leaves = a .leaves .now in
-    let table = a .table .now in
-    let t = length leaves in
-    sym (loop .inv .2 ∙ first-found (tableDisagreement n leaves table) n t
-    (loop .i) _ (c .before .before .before .before .loop-test .taken)
-    (sym (c .before .before .before .first-second .ensures) ∙ c .before .found .given .1))
+    let loop = c .before .before .before .before .before in
+    let s = loop .before .before .before in
+    sym (loop .loop .inv .2 ∙ first-found (differs s) (s .args .n) (count s) (loop .loop .i) _
+    (c .before .before .before .before .loop-test .taken) (sym (c .before .before .before .first-second .ensures) ∙ c .before .found .given .1))
 
 add-i : tie.Need-add-i Inv-loop μ-loop
 add-i c =
@@ -58,31 +55,20 @@ loop-less c = omega (arith, c .before .before .before .loop-test .taken)
 
 loop-again : tie.Need-loop-again Inv-loop μ-loop
 loop-again c =
-    let loop = c .before .before .before .before .loop in
-    let loop-test = c .before .before .before .loop-test in
-    let s = c .before .before .before .before .before .before .before in
-    let a = s .args in
-    let n = a .n in
-    let leaves = a .leaves .now in
-    let table = a .table .now in
-    let t = length leaves in (
+    let loop = c .before .before .before .before in
+    let s = loop .before .before .before in (
       omega arith,
-      omega (arith, loop-test .taken),
-      loop .inv .2 ∙
-          first-found (tableDisagreement n leaves table) n t (loop .i) _
-          (loop-test .taken) (sym (c .before .before .first-second .ensures) ∙ c .enum-told .given .1),
+      omega (arith, c .before .before .before .loop-test .taken),
+      loop .loop .inv .2
+          ∙ first-found (differs s) (s .args .n) (count s) (loop .loop .i) _
+          (c .before .before .before .loop-test .taken) (sym (c .before .before .first-second .ensures) ∙ c .enum-told .given .1),
     )
 
 returns-2 : tie.Need-returns-2 Inv-loop μ-loop
 returns-2 c =
-    let s = c .before .before .before .before in
-    let a = s .args in
-    let n = a .n in
-    let leaves = a .leaves .now in
-    let table = a .table .now in
-    let t = length leaves in
-    sym (c .before .loop .inv .2 ∙ firsts-ended (tableDisagreement n leaves table) n t (c .before .loop .i)
-    (c .loop-test .left))
+    let loop = c .before in
+    let s = loop .before .before .before in
+    sym (loop .loop .inv .2 ∙ firsts-ended (differs s) (s .args .n) (count s) (loop .loop .i) (c .loop-test .left))
 
 pub first-pair-spec : {M : Type 1} → statement M
 first-pair-spec =

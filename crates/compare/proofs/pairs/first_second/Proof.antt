@@ -1,7 +1,8 @@
 -- `compare::pairs::first_second` meets its contract. The invariant: the openings from j on give the answer. The measure is what
 -- is left of them.
 use mathlib.Core.Path.{_≡_, sym, _∙_}
-use Prim.Native.Nat.{_+_, _-_, _≤_, _<_}
+use mathlib.Core.Bool.{Bool}
+use Prim.Native.Nat.{ℕ, _+_, _-_, _≤_, _<_}
 use lib.ListN.{length}
 use Rattle.compare.specs.FirstPair.{secondsFrom}
 use Rattle.compare.specs.Table.{tableDisagreement}
@@ -18,6 +19,13 @@ Inv-loop n leaves table i t j₀ j =
 
 abbrev μ-loop : tie.MeasureT-loop
 μ-loop n leaves table i t j₀ j = length leaves + 1 - j
+
+-- the test of the table, and the number of openings
+abbrev differs : tie.Start Inv-loop μ-loop → ℕ → ℕ → ℕ → Bool
+differs s = tableDisagreement (s .args .n) (s .args .leaves .now) (s .args .table .now)
+
+abbrev count : tie.Start Inv-loop μ-loop → ℕ
+count s = length (s .args .leaves .now)
 
 add-j : tie.Need-add-j Inv-loop μ-loop
 add-j c = omega (arith, c .before .before .pre)
@@ -39,16 +47,10 @@ first-level-requires c κs =
 
 returns : tie.Need-returns Inv-loop μ-loop
 returns c =
-    let loop = c .before .before .before .before .before .loop in
-    let s = c .before .before .before .before .before .before .before .before in
-    let a = s .args in
-    let n = a .n in
-    let leaves = a .leaves .now in
-    let table = a .table .now in
-    let t = length leaves in
-    sym (loop .inv .2 ∙ second-found (tableDisagreement n leaves table) n (a .i) t
-    (loop .j) _ (c .before .before .before .before .loop-test .taken)
-    (sym (c .before .before .before .first-level .ensures) ∙ c .before .found .given .1))
+    let loop = c .before .before .before .before .before in
+    let s = loop .before .before .before in
+    sym (loop .loop .inv .2 ∙ second-found (differs s) (s .args .n) (s .args .i) (count s) (loop .loop .j) _
+    (c .before .before .before .before .loop-test .taken) (sym (c .before .before .before .first-level .ensures) ∙ c .before .found .given .1))
 
 add-j-2 : tie.Need-add-j-2 Inv-loop μ-loop
 add-j-2 c = omega (arith, c .before .before .before .before .before .before .before .pre)
@@ -58,30 +60,20 @@ loop-less c = omega (arith, c .before .before .before .loop-test .taken)
 
 loop-again : tie.Need-loop-again Inv-loop μ-loop
 loop-again c =
-    let loop = c .before .before .before .before .loop in
-    let s = c .before .before .before .before .before .before .before in
-    let a = s .args in
-    let n = a .n in
-    let leaves = a .leaves .now in
-    let table = a .table .now in
-    let t = length leaves in (
+    let loop = c .before .before .before .before in
+    let s = loop .before .before .before in (
       omega arith,
       omega arith,
-      loop .inv .2 ∙ second-found
-          (tableDisagreement n leaves table) n (a .i) t (loop .j) _
+      loop .loop .inv .2
+          ∙ second-found (differs s) (s .args .n) (s .args .i) (count s) (loop .loop .j) _
           (c .before .before .before .loop-test .taken) (sym (c .before .before .first-level .ensures) ∙ c .enum-told .given .1),
     )
 
 returns-2 : tie.Need-returns-2 Inv-loop μ-loop
 returns-2 c =
-    let s = c .before .before .before .before in
-    let a = s .args in
-    let n = a .n in
-    let leaves = a .leaves .now in
-    let table = a .table .now in
-    let t = length leaves in
-    sym (c .before .loop .inv .2 ∙ seconds-ended (tableDisagreement n leaves table) n (a .i) t (c .before .loop .j)
-    (c .loop-test .left))
+    let loop = c .before in
+    let s = loop .before .before .before in
+    sym (loop .loop .inv .2 ∙ seconds-ended (differs s) (s .args .n) (s .args .i) (count s) (loop .loop .j) (c .loop-test .left))
 
 pub first-second-spec : {M : Type 1} → statement M
 first-second-spec =

@@ -1,6 +1,6 @@
 -- `compare::table::fill_table` meets its contract. The invariant: the rows before i are filled. The measure is what is left.
 use mathlib.Core.Path.{_≡_, refl, ap, _∙_}
-use Prim.Native.Nat.{_+_, _-_, _*_, _≤_}
+use Prim.Native.Nat.{_-_, _*_, _≤_}
 use lib.ListN.{length}
 use Rattle.base.proofs.Parts.{part-size, part-length}
 use Rattle.tree.specs.Openings.{openingSize}

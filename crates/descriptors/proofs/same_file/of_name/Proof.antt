@@ -54,7 +54,7 @@ use Rattle.libc.proofs.lstat.Symbol.{name as #libc·lstat}
 use Rattle.libc.proofs.lstat.Met as lstat-thm
 use Rattle.descriptors.proofs.same_file.Known as T
 use Rattle.descriptors.proofs.same_file.Known.Laws as T′
-use Rattle.descriptors.proofs.Room.{mach, bits, known, mach-known, made, lies-in, lies-out}
+use Rattle.descriptors.proofs.Room.{mach, known, mach-known, made, lies-in, lies-out}
 use Rattle.descriptors.proofs.same_file.of_name.Key.{name as #same-file·of-name}
 use Rattle.descriptors.proofs.same_file.of_name as of-name
 use Rattle.descriptors.proofs.same_file.of_name.Statement as stated

@@ -1,6 +1,5 @@
 -- `files::folder::after_slash` meets its contract.
 use borrow.Author.Tests.{eq-eqb, ne-eqb}
-use borrow.Author.Needs.{needs}
 use Rattle.files.proofs.folder.after_slash.Statement.{statement}
 use Rattle.files.proofs.folder.after_slash.Tie as tie
 

@@ -1,6 +1,5 @@
 -- `files::report::is_all` meets its contract.
 use borrow.Author.Tests.{eq-eqb, ne-eqb}
-use borrow.Author.Needs.{needs}
 use Rattle.files.proofs.report.is_all.Statement.{statement}
 use Rattle.files.proofs.report.is_all.Tie as tie
 

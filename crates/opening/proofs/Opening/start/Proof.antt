@@ -1,16 +1,16 @@
 -- `opening::Opening::start` meets its contract, by the answer.
-use mathlib.Core.Path.{_≡_, _∙_}
-use Prim.Native.Nat.{ℕ, _^_}
+use mathlib.Core.Path.{_≡_, refl, _∙_}
+use mathlib.Core.Bool.{Bool}
+use mathlib.Core.List.{List, _++_}
+use Prim.Native.Nat.{ℕ}
 use borrow.Author.Tests.{ltb-false}
 use borrow.Author.Needs.{needs}
-use lib.Dec.{ltb, leb, lit≤}
 use lib.ListN.{length}
-use Rattle.base.specs.Limits.{maxDepth}
-use Rattle.base.specs.Row.{outside, memoryOver}
 use Rattle.tree.specs.Store.{storeSize}
-use Rattle.base.proofs.RowLaws.{passed, is-done, is-refused}
+use Rattle.base.proofs.RowLaws.{NoneHolds, none-holds, is-done, is-refused}
 use Rattle.tree.specs.Openings.{openingSize}
-use Rattle.opening.specs.Rows.{openRow}
+use Rattle.run.specs.Rows.{startChecks}
+use Rattle.opening.specs.Rows.{leafChecks, openRow}
 use Rattle.opening.proofs.RowLaws.{Ready, possible, start-done, start-refused}
 use Rattle.opening.proofs.Opening.start.Statement.{statement}
 use Rattle.opening.proofs.Opening.start.Tie as tie
@@ -19,12 +19,13 @@ use Rattle.opening.proofs.Opening.start.Tie as tie
 start-ready : (n m leaf store out : ℕ) → openRow n m leaf store out ≡ 0 → Ready n m leaf store out
 unfolding openRow
 start-ready n m leaf store out e =
-    let (d, e₁) = passed (outside 1 maxDepth n) 1 _ (lit≤ tt) e in
-    let (o, e₂) = passed (memoryOver n m) 2 _ (lit≤ tt) e₁ in
-    let (s, e₃) = passed (ltb store (storeSize m)) 3 _ (lit≤ tt) e₂ in
-    let (l, e₄) = passed (leb (2 ^ n) leaf) 6 _ (lit≤ tt) e₃ in
-    let (p, e₅) = passed (ltb out (openingSize n)) 7 0 (lit≤ tt) e₄ in
-    record { possible = possible n m leaf d o l; room = ltb-false store (storeSize m) s; outRoom = ltb-false out (openingSize n) p }
+    let row : List (Bool × ℕ) = startChecks n m store ++ leafChecks n leaf out in
+    let none : NoneHolds row = none-holds row refl e in
+    record {
+      possible = possible n m leaf (none .0) (none .1 .0) (none .1 .1 .1 .0);
+      room = ltb-false store (storeSize m) (none .1 .1 .0);
+      outRoom = ltb-false out (openingSize n) (none .1 .1 .1 .1 .0);
+    }
 
 -- the row's answer, and that the opening may be started
 abbrev row : tie.Start → ℕ

@@ -1,6 +1,5 @@
 -- `opening_check::check_opening` meets its contract: one law for each return.
 use mathlib.Core.Path.{sym, _∙_}
-use Prim.Native.Nat.{_≤_}
 use native.Mathlib.Omega.{arith}
 use borrow.Author.Needs.{needs}
 use Rattle.base.specs.Limits.{edition, maxDepth, IsDepth}

@@ -1,7 +1,6 @@
 -- `sealing::portions::portion_of` meets its contract.
 use native.Mathlib.Omega.{arith}
 use Rattle.sealing.specs.Portions.{portionOf}
-use borrow.Author.Needs.{needs}
 use Rattle.sealing.proofs.portions.portion_of.Statement.{statement}
 use Rattle.sealing.proofs.portions.portion_of.Tie as tie
 

@@ -1,6 +1,6 @@
 use mathlib.Core.Path.{_≡_}
 use Prim.Native.Nat.{_<_, _-_}
-use lib.ListN.{length, length-set}
+use lib.ListN.{length}
 use borrow.Author.Needs.{needs}
 use Rattle.unit_vectors.proofs.digests.fill.Statement.{statement}
 use Rattle.unit_vectors.proofs.digests.fill.Tie as tie

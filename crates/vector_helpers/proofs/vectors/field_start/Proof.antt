@@ -3,7 +3,7 @@ use mathlib.Core.Path.{_≡_, refl, sym, _∙_}
 use native.Mathlib.Omega.{arith}
 use Rattle.vector_helpers.specs.Text.{fieldStart}
 use Rattle.vector_helpers.proofs.TextLaws.{field-none, field-later, field-here}
-use Prim.Native.Nat.{_≤_, _-_}
+use Prim.Native.Nat.{_≤_}
 use lib.ListN.{length}
 use borrow.Author.Needs.{needs}
 use Rattle.vector_helpers.proofs.vectors.field_start.Statement.{statement}

@@ -1,46 +1,35 @@
 -- `writing::Writing::start` meets its contract, by the answer.
-use mathlib.Core.Bool.{Bool}
-use mathlib.Core.List.{List, [], _∷_}
-use Prim.Native.Nat.{ℕ, _≤_, min}
+use Prim.Native.Nat.{ℕ, _≤_}
 use native.Mathlib.Omega.{arith}
-use borrow.Author.Tests.{ltb-false}
-use lib.Dec.{ltb}
-use Rattle.base.specs.Limits.{maxDepth, maxMemory, maxChallenges, IsCount}
-use Rattle.base.specs.Row.{outside, memoryOver}
-use Rattle.base.proofs.RowLaws.{NoneHolds, none-holds, is-done, is-refused}
-use Rattle.tree.specs.Store.{storeSize}
+use Rattle.base.specs.Limits.{IsDepth, IsCount}
+use Rattle.base.proofs.RowLaws.{is-done, is-refused}
+use Rattle.run_theory.specs.Runs.{Startable}
+use Rattle.run_theory.proofs.StartLaws.{start-bounds}
 use Rattle.file_head.specs.Layout.{fileSize}
-use Rattle.base.proofs.Ranges.{range-of}
+use Rattle.file_head.proofs.RowLaws.{done-head}
 use Rattle.writing.specs.Possible.{Room}
 use borrow.Author.Needs.{needs}
-use mathlib.Core.Path.{_≡_, refl, ap, _∙_}
+use mathlib.Core.Path.{_≡_, ap, _∙_}
 use lib.ListN.{length}
 use Rattle.writing.specs.Rows.{writeRow}
 use Rattle.writing.specs.Steps.{Written}
-use Rattle.writing.proofs.RowLaws.{start-done, start-refused}
+use Rattle.writing.proofs.RowLaws.{both-done, start-done, start-refused}
 use Rattle.writing.proofs.Writing.start.Statement.{statement}
 use Rattle.writing.proofs.Writing.start.Tie as tie
 
 -- a start that is done has room for its first opening
 write-room : (n m t store file : ℕ) → writeRow n m t store file ≡ 0 → Room n m t 1 store file
-unfolding writeRow
 write-room n m t store file e =
-    let row : List (Bool × ℕ) =
-    (outside 1 maxDepth n, 1)
-    ∷ (memoryOver n m, 2)
-    ∷ (ltb store (storeSize m), 3)
-    ∷ (outside 1 maxChallenges t, 8)
-    ∷ (ltb file (fileSize n t), 7)
-    ∷ [] in
-    let none : NoneHolds row = none-holds row refl e in
-    let count : IsCount t = range-of 1 maxChallenges t (none .1 .1 .1 .0) in
+    let (begun, headed) = both-done n m t store file e in
+    let run : Startable n m store = start-bounds n m store begun in
+    let head : IsDepth n × IsCount t × (fileSize n t ≤ file) = done-head n t file headed in
     record {
-      depth = range-of 1 maxDepth n (none .0);
-      memory = ltb-false (min n maxMemory) m (none .1 .0);
-      storeFits = ltb-false store (storeSize m) (none .1 .1 .0);
-      number = (omega arith, count .0);
-      count = count .1;
-      fileFits = ltb-false file (fileSize n t) (none .1 .1 .1 .1 .0);
+      depth = head .0;
+      memory = run .memory;
+      storeFits = run .enough;
+      number = (omega arith, head .1 .0);
+      count = head .1 .1;
+      fileFits = head .2;
     }
 
 -- the row's answer

@@ -1,22 +1,21 @@
 -- `writing::checks::may_start` meets its contract: refused as a run's start would be, or left to the head's row, whose depth is known by then.
 use mathlib.Core.Path.{_≡_, _∙_}
 use mathlib.Core.Bool.{Bool}
-use mathlib.Core.List.{List, [], _∷_}
+use mathlib.Core.List.{List}
 use Prim.Native.Nat.{ℕ}
-use lib.Dec.{ltb}
 use borrow.Author.Needs.{needs}
-use Rattle.base.specs.Limits.{maxDepth, maxChallenges, IsDepth}
-use Rattle.base.specs.Row.{firstOf, outside}
+use Rattle.base.specs.Limits.{maxDepth, IsDepth}
+use Rattle.base.specs.Row.{firstOf}
 use Rattle.base.proofs.Ranges.{within}
 use Rattle.base.proofs.RowLaws.{is-done}
 use Rattle.run.proofs.RowLaws.{start-depth, start-refuses, start-passes}
-use Rattle.file_head.specs.Layout.{fileSize, headRow}
-use Rattle.writing.specs.Rows.{writeRow}
+use Rattle.file_head.specs.Layout.{headRow}
+use Rattle.writing.specs.Rows.{fileChecks, writeRow}
 use Rattle.writing.proofs.checks.may_start.Statement.{statement}
 use Rattle.writing.proofs.checks.may_start.Tie as tie
 
 abbrev rest : tie.Start → List (Bool × ℕ)
-rest s = (outside 1 maxChallenges (s .args .count), 8) ∷ (ltb (s .args .file) (fileSize (s .args .depth) (s .args .count)), 7) ∷ []
+rest s = fileChecks (s .args .depth) (s .args .count) (s .args .file)
 
 head-rest : (s : tie.Start) → IsDepth (s .args .depth) → headRow (s .args .depth) (s .args .count) (s .args .file) ≡ firstOf (rest s)
 unfolding headRow
