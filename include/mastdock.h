@@ -35,7 +35,7 @@ enum mastdock_refusal {
     MASTDOCK_TOO_MANY_BYTES = 5,  /* over 2^61 - 1 bytes to hash in all */
     MASTDOCK_LEAF_POSITION = 6,   /* a leaf's position 2^n or more */
     MASTDOCK_SHORT_OUTPUT = 7,    /* output short */
-    MASTDOCK_COUNT = 8,           /* a challenge, or a count of them or of leaves, not 1..200 */
+    MASTDOCK_COUNT = 8,           /* a challenge, or a count of them or of leaves compared, not 1..200; over 200 leaves planned */
     MASTDOCK_NOT_WANTED = 9,      /* statement, depth or count not those wanted */
     MASTDOCK_BYTES_END = 10,      /* bytes end, or are too few */
     MASTDOCK_NOT_SHORTEST = 11,   /* a number of the file not in its shortest form, or too long */
@@ -261,7 +261,8 @@ typedef struct mastdock_planned {
 } mastdock_planned;
 
 /* Writes the nodes on the leaves' ways to the root, in labelling order, each once, as 2^level + position, and gives their count.
- * Leaves may stand in any order and repeat. Refusals: 1, 8, 6, 16. */
+ * Leaves may stand in any order and repeat. With no leaf (leaves may be null, leaves_len is 0) the count is 0 and nothing is written.
+ * Refusals: 1, 8 (only over 200 leaves), 6, 16. */
 mastdock_planned mastdock_plan(uint64_t depth, const uint64_t *leaves, size_t leaves_len, uint64_t *list, size_t list_len);
 
 /* Two openings that disagree: the first pair i < j, from 1, the smallest level, and both hash inputs there. All zero where no pair
@@ -282,7 +283,7 @@ typedef struct mastdock_compared {
 
 /* Compares openings of leaves, given one after the other in one piece; they need not be right. Two disagree at a shared inner node
  * if their child labels there, computed or given, differ. Holds a table of 512,000 bytes on the stack: its thread wants 0.6 MB.
- * Refusals: 1, 8, 6, 10, 13. */
+ * Refusals: 1, 8 (not 1..200 leaves), 6, 10, 13. */
 mastdock_compared mastdock_compare(const uint8_t statement[32], uint64_t depth, const uint64_t *leaves, size_t leaves_len,
                                    const uint8_t *openings, size_t openings_len);
 

@@ -65,15 +65,20 @@ static void null_states(void) {
 /* A file, an opening, leaves and a list of no elements. */
 static void null_files(void) {
     const uint64_t leaf = 0;
-    uint64_t list[2];
+    uint64_t list[2] = {7, 7};
     mastdock_place place = mastdock_opening_place(NULL, 0, 1);
     EXPECT(place.offset + place.length, 0);
     EXPECT(mastdock_write_head(ZERO, ZERO, 1, 1, NULL, 0), MASTDOCK_SHORT_OUTPUT);
     EXPECT(mastdock_read_head(NULL, 0).refusal, MASTDOCK_BYTES_END);
     EXPECT(mastdock_check_opening(ZERO, ZERO, 1, 0, NULL, 0), MASTDOCK_BYTES_END);
     EXPECT(mastdock_check_file(NULL, 0, ZERO, 1, 1), 256 * MASTDOCK_BYTES_END);
-    EXPECT(mastdock_plan(1, NULL, 0, list, 2).refusal, MASTDOCK_COUNT);
-    EXPECT(mastdock_plan(1, NULL, 0, NULL, 0).refusal, MASTDOCK_COUNT);
+    mastdock_planned planned = mastdock_plan(1, NULL, 0, list, 2);
+    EXPECT(planned.refusal + planned.count, 0);
+    EXPECT(list[0], 7);
+    EXPECT(list[1], 7);
+    planned = mastdock_plan(40, NULL, 0, NULL, 0);
+    EXPECT(planned.refusal + planned.count, 0);
+    EXPECT(mastdock_plan(41, NULL, 0, NULL, 0).refusal, MASTDOCK_DEPTH);
     EXPECT(mastdock_plan(1, &leaf, 1, NULL, 0).refusal, MASTDOCK_SHORT_LIST);
     EXPECT(mastdock_compare(ZERO, 1, NULL, 0, NULL, 0).refusal, MASTDOCK_COUNT);
     EXPECT(mastdock_compare(ZERO, 1, &leaf, 1, NULL, 0).refusal, MASTDOCK_BYTES_END);

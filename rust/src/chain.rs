@@ -3,8 +3,8 @@ use crate::ffi;
 use crate::refusal::{answered, checked, Refusal, Rejected};
 
 /// Writes the nodes on the leaves' ways to the root over the front of the list, in labelling order, each once, as
-/// 2^level + position, and gives their count. Leaves may stand in any order and repeat. Refused with 1, 8, 6, 16, which changes
-/// nothing.
+/// 2^level + position, and gives their count. Leaves may stand in any order and repeat; with none the count is 0 and nothing is
+/// written. Refused with 1, 8 (only over 200 leaves), 6, 16, which changes nothing.
 pub fn plan(depth: u64, leaves: &[u64], list: &mut [u64]) -> Result<usize, Refusal> {
     // SAFETY: pointers and lengths are those of slices; the list is borrowed alone.
     let planned = unsafe { ffi::mastdock_plan(depth, leaves.as_ptr(), leaves.len(), list.as_mut_ptr(), list.len()) };
@@ -32,7 +32,7 @@ fn found(clash: ffi::Clash) -> Option<Clash> {
 }
 
 /// Compares openings of leaves, given one after the other in one piece; they need not be right. Holds a table of 512,000 bytes on
-/// the stack: its thread wants 0.6 MB. Refused with 1, 8, 6, 10, 13.
+/// the stack: its thread wants 0.6 MB. Refused with 1, 8 (not 1 to 200 leaves), 6, 10, 13.
 pub fn compare(statement: &[u8; 32], depth: u64, leaves: &[u64], openings: &[u8]) -> Result<Option<Clash>, Refusal> {
     // SAFETY: pointers and lengths are those of a reference and slices.
     let compared = unsafe {

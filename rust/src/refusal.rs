@@ -20,7 +20,7 @@ pub enum Refusal {
     LeafPosition = 6,
     /// Output short.
     ShortOutput = 7,
-    /// A challenge, or a count of them or of leaves, not 1..200.
+    /// A challenge, or a count of them or of leaves compared, not 1..200; over 200 leaves planned.
     Count = 8,
     /// Statement, depth or count not those wanted.
     NotWanted = 9,
@@ -83,7 +83,7 @@ impl Refusal {
             Refusal::TooManyBytes => "over 2^61 - 1 bytes to hash",
             Refusal::LeafPosition => "leaf position not of this depth",
             Refusal::ShortOutput => "output short",
-            Refusal::Count => "number not 1 to 200",
+            Refusal::Count => "challenge or count out of range, at most 200",
             Refusal::NotWanted => "statement, depth or count not those wanted",
             Refusal::BytesEnd => "bytes too few",
             Refusal::NotShortest => "number not in its shortest form",

@@ -446,8 +446,9 @@ def chain(n, leaves):
 
 
 def plan_row(n, leaves, places=None):
+    """W-203: 'Planning refuses with 8 only above 200 leaves'."""
     refusal = row(
-        (1, lambda: bad_depth(n)), (8, lambda: bad_count(len(leaves))), (6, lambda: any(leaf >= 2**n for leaf in leaves))
+        (1, lambda: bad_depth(n)), (8, lambda: len(leaves) > 200), (6, lambda: any(leaf >= 2**n for leaf in leaves))
     )
     if refusal or places is None:
         return refusal
@@ -477,8 +478,8 @@ def first_clash(statement, n, leaves, openings):
 
 
 def compare(statement, n, leaves, data):
-    """The refusal, and the clash or None."""
-    refusal = plan_row(n, leaves)
+    """The refusal, and the clash or None. Unlike planning it takes at least one leaf."""
+    refusal = plan_row(n, leaves) or row((8, lambda: not leaves))
     size = opening_size(n) if not refusal else 0
     refusal = refusal or row((10, lambda: len(data) < len(leaves) * size), (13, lambda: len(data) > len(leaves) * size))
     if refusal:

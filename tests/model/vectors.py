@@ -20,11 +20,11 @@ def agree():
         assert tree(sha(report(field)), int(n)).file(int(t)).hex() == file, (field, n, t)
     for file, statement, n, t, code in lines("checks.txt"):
         assert md.check_code(report(file), bytes.fromhex(statement), int(n), int(t)) == int(code), file
-    for data, printed in lines("plans.txt"):
+    for data, printed in lines("plans.txt") + lines("plans-none.txt"):
         assert md.planning(report(data)).encode().hex() == printed, data
     for field, n, t, size, digest, count, nodes in lines("chains.txt"):
         labels = tree(sha(report(field)), int(n))
         file = labels.file(int(t))
         found = md.chain(int(n), md.challenge_leaves(int(n), labels.statement, labels.root, int(t)))
         assert (len(file), sha(file).hex(), len(found), places_digest(found)) == (int(size), digest, int(count), nodes), field
-    return sum(len(lines(f"{name}.txt")) for name in ("sha256", "roots", "files", "checks", "plans", "chains"))
+    return sum(len(lines(f"{name}.txt")) for name in ("sha256", "roots", "files", "checks", "plans", "plans-none", "chains"))

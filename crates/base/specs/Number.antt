@@ -23,7 +23,7 @@ numberOf TooManyBytes = 5
 numberOf LeafPosition = 6
 -- output short
 numberOf ShortOutput = 7
--- a challenge, or a count of them or of leaves, not 1..200
+-- a challenge, or a count of them or of leaves compared, not 1..200; over 200 leaves planned (W-203)
 numberOf Count = 8
 -- statement, n or t not those wanted
 numberOf NotWanted = 9

@@ -3,7 +3,7 @@ use mathlib.Core.Path.{_≡_, refl, sym, _∙_}
 use Prim.Native.Nat.{ℕ, _≤_, _<_}
 use native.Mathlib.Omega.{arith}
 use mathlib.Core.Bool.{true, false}
-use mathlib.Core.List.{List, [], _∷_}
+use mathlib.Core.List.{List, [], _∷_, _++_}
 use lib.Dec.{ltb}
 use lib.ListN.{length}
 use borrow.Author.Tests.{lt-ltb, le-ltb, not-false}
@@ -25,44 +25,52 @@ use Rattle.chain.specs.PlanRow.{planRow, plannedCount, plannedList}
 use Rattle.chain.specs.Leaves.{Leaves, leavesChecks, leavesRow}
 
 -- each exit of the first three checks
-module _ (n : ℕ) (leaves : List ℕ) where
-  pub row-depth : outside 1 maxDepth n ≡ true → 1 ≡ leavesRow n leaves
+module _ (least n : ℕ) (leaves : List ℕ) where
+  pub row-depth : outside 1 maxDepth n ≡ true → 1 ≡ leavesRow least n leaves
   unfolding leavesRow
   row-depth a = rw a
 
-  pub row-count : outside 1 maxDepth n ≡ false → outside 1 maxChallenges (length leaves) ≡ true → 8 ≡ leavesRow n leaves
+  pub row-count : outside 1 maxDepth n ≡ false → outside least maxChallenges (length leaves) ≡ true → 8 ≡ leavesRow least n leaves
   unfolding leavesRow
   row-count a b = rw (a, b)
 
-  pub row-leaf : outside 1 maxDepth n ≡ false → outside 1 maxChallenges (length leaves) ≡ false → every (isLeaf n) leaves ≡ false
-      → 6 ≡ leavesRow n leaves
+  pub row-leaf : outside 1 maxDepth n ≡ false → outside least maxChallenges (length leaves) ≡ false → every (isLeaf n) leaves ≡ false
+      → 6 ≡ leavesRow least n leaves
   unfolding leavesRow
   row-leaf a b d = rw (a, b, d)
 
-  pub row-done : outside 1 maxDepth n ≡ false → outside 1 maxChallenges (length leaves) ≡ false → every (isLeaf n) leaves ≡ true
-      → 0 ≡ leavesRow n leaves
+  pub row-done : outside 1 maxDepth n ≡ false → outside least maxChallenges (length leaves) ≡ false → every (isLeaf n) leaves ≡ true
+      → 0 ≡ leavesRow least n leaves
   unfolding leavesRow
   row-done a b d = rw (a, b, d)
 
-module _ (n : ℕ) (leaves : List ℕ) (done : leavesRow n leaves ≡ 0) where
-  pub passed : NoneHolds (leavesChecks n leaves)
-  unfolding leavesRow
-  passed = none-holds (leavesChecks n leaves) refl done
+pub passed : (least n : ℕ) (leaves : List ℕ) → leavesRow least n leaves ≡ 0 → NoneHolds (leavesChecks least n leaves)
+unfolding leavesRow
+passed least n leaves done = none-holds (leavesChecks least n leaves) refl done
+
+pub plan-passed :
+    (n : ℕ) (leaves : List ℕ) (list : ℕ) → planRow n leaves list ≡ 0
+    → NoneHolds (leavesChecks 0 n leaves ++ (ltb list (length (chain n leaves)), 16) ∷ [])
+unfolding planRow
+plan-passed n leaves list done = none-holds (leavesChecks 0 n leaves ++ (ltb list (length (chain n leaves)), 16) ∷ []) refl done
+
+-- what planning goes on from
+module _ (n : ℕ) (leaves : List ℕ) (done : leavesRow 0 n leaves ≡ 0) where
+  checked : NoneHolds (leavesChecks 0 n leaves)
+  checked = passed 0 n leaves done
 
   pub leaves-known : Leaves n leaves
   leaves-known =
       record {
-        depth =
-            range-of 1 maxDepth n (passed .0) .1;
-        few = range-of 1 maxChallenges (length leaves) (passed .1 .0) .1;
-        inside = not-false _
-            (passed .1 .1 .0);
+        depth = range-of 1 maxDepth n (checked .0) .1;
+        few = range-of 0 maxChallenges (length leaves) (checked .1 .0) .1;
+        inside = not-false _ (checked .1 .1 .0);
       }
 
   -- the list is the last check
   pub list-check : (list : ℕ) → planRow n leaves list ≡ pick (ltb list (length (chain n leaves))) 16 0
   unfolding planRow
-  list-check list = row-passed (leavesChecks n leaves) ((ltb list (length (chain n leaves)), 16) ∷ []) passed
+  list-check list = row-passed (leavesChecks 0 n leaves) ((ltb list (length (chain n leaves)), 16) ∷ []) checked
 
   pub sorted-known : (xs : List ℕ) → xs ≡ sorted leaves → Leaves n xs
   sorted-known xs e =
@@ -82,13 +90,13 @@ refused : (n : ℕ) (leaves list : List ℕ) (r : Refusal) → numberOf r ≡ pl
 unfolding plannedCount plannedList
 refused n leaves list r e = let no = not-done r (planRow n leaves (length list)) e in (e, (rw no, rw no))
 
-pub leaves-refused : (n : ℕ) (leaves list : List ℕ) (r : Refusal) → numberOf r ≡ leavesRow n leaves → Answers n leaves list (numberOf r) 0 list
+pub leaves-refused : (n : ℕ) (leaves list : List ℕ) (r : Refusal) → numberOf r ≡ leavesRow 0 n leaves → Answers n leaves list (numberOf r) 0 list
 unfolding planRow leavesRow
 leaves-refused n leaves list r e =
     refused n leaves list r
-    (e ∙ sym (row-refused (leavesChecks n leaves) ((ltb (length list) (length (chain n leaves)), 16) ∷ []) (not-done r (leavesRow n leaves) e)))
+    (e ∙ sym (row-refused (leavesChecks 0 n leaves) ((ltb (length list) (length (chain n leaves)), 16) ∷ []) (not-done r (leavesRow 0 n leaves) e)))
 
-module _ (n : ℕ) (leaves xs list : List ℕ) (count : ℕ) (done : leavesRow n leaves ≡ 0) (e : xs ≡ sorted leaves)
+module _ (n : ℕ) (leaves xs list : List ℕ) (count : ℕ) (done : leavesRow 0 n leaves ≡ 0) (e : xs ≡ sorted leaves)
     (k : count ≡ length (planFrom n xs)) where
   chain-count : count ≡ length (chain n leaves)
   unfolding plan

@@ -15,10 +15,10 @@ pub record Leaves (n : ℕ) (leaves : List ℕ) : Type 0 where
   pub few : length leaves ≤ maxChallenges
   pub inside : every (isLeaf n) leaves ≡ true
 
--- 1; 8: not 1..200 leaves; 6. Planning and comparing begin with these.
-abbrev pub leavesChecks : ℕ → List ℕ → List (Bool × ℕ)
-leavesChecks n leaves =
-    (outside 1 maxDepth n, 1) ∷ (outside 1 maxChallenges (length leaves), 8) ∷ (not (every (isLeaf n) leaves), 6) ∷ []
+-- 1; 8: not least..200 leaves; 6. Planning takes no leaves too (W-203), so its least is 0; comparing takes at least 1.
+abbrev pub leavesChecks : ℕ → ℕ → List ℕ → List (Bool × ℕ)
+leavesChecks least n leaves =
+    (outside 1 maxDepth n, 1) ∷ (outside least maxChallenges (length leaves), 8) ∷ (not (every (isLeaf n) leaves), 6) ∷ []
 
-unfoldable pub leavesRow : ℕ → List ℕ → ℕ
-leavesRow n leaves = firstOf (leavesChecks n leaves)
+unfoldable pub leavesRow : ℕ → ℕ → List ℕ → ℕ
+leavesRow least n leaves = firstOf (leavesChecks least n leaves)

@@ -1,4 +1,4 @@
--- Document 01's row 'Planning a chain', and what planning writes.
+-- Document 01's row 'Planning a chain' as W-203 amends it, and what planning writes.
 use Prim.Native.Nat.{ℕ}
 use mathlib.Core.List.{List, [], _∷_, _++_}
 use lib.Dec.{ltb}
@@ -9,9 +9,9 @@ use Rattle.base.specs.Row.{firstOf, isDone}
 use Rattle.chain_theory.specs.Ways.{chain, chainCodes}
 use Rattle.chain.specs.Leaves.{leavesChecks}
 
--- 1; 8; 6; 16: list short
+-- 1; 8: over 200 leaves; 6; 16: list short
 unfoldable pub planRow : ℕ → List ℕ → ℕ → ℕ
-planRow n leaves list = firstOf (leavesChecks n leaves ++ (ltb list (length (chain n leaves)), 16) ∷ [])
+planRow n leaves list = firstOf (leavesChecks 0 n leaves ++ (ltb list (length (chain n leaves)), 16) ∷ [])
 
 -- the count answered: 0 where it is refused
 unfoldable pub plannedCount : ℕ → List ℕ → ℕ → ℕ

@@ -43,17 +43,18 @@ fn are_leaves(depth: u64, leaves: &[u64]) -> bool
     true
 }
 
-// The checks of depth and leaves.
-pub fn check_leaves(depth: u64, leaves: &[u64]) -> Outcome
-    ensures { λ r. ⌜ outcomeNumber r ≡ leavesRow depth (now (leaves .entry)) ⌝ }
+// The checks of depth and leaves, of which there are to be `least` to 200.
+pub fn check_leaves(least: usize, depth: u64, leaves: &[u64]) -> Outcome
+    ensures { λ r. ⌜ outcomeNumber r ≡ leavesRow least depth (now (leaves .entry)) ⌝ }
 {
     if beyond(MAX_DEPTH, depth) {
         return Outcome::Refused(Refusal::Depth);
     }
-    if leaves.len() < 1 {
+    let count = leaves.len();
+    if count < least {
         return Outcome::Refused(Refusal::Count);
     }
-    if MAX_LEAVES < leaves.len() {
+    if MAX_LEAVES < count {
         return Outcome::Refused(Refusal::Count);
     }
     if !are_leaves(depth, leaves) {
@@ -64,7 +65,7 @@ pub fn check_leaves(depth: u64, leaves: &[u64]) -> Outcome
 
 // The plan of leaves that passed the checks: counted before anything is written.
 fn plan_leaves(depth: u64, leaves: &[u64], list: &mut [u64]) -> Planned
-    requires { ⌜ leavesRow depth (now leaves) ≡ 0 ⌝ }
+    requires { ⌜ leavesRow 0 depth (now leaves) ≡ 0 ⌝ }
     ensures { λ r. ⌜ outcomeNumber (r .outcome) ≡ planRow depth (now (leaves .entry)) (length (now (list .entry))) ⌝ }
     ensures { λ r. ⌜ r .count ≡ plannedCount depth (now (leaves .entry)) (length (now (list .entry))) ⌝ }
     ensures { λ _. ⌜ now (list .exit) ≡ plannedList depth (now (leaves .entry)) (now (list .entry)) ⌝ }
@@ -86,13 +87,14 @@ fn plan_leaves(depth: u64, leaves: &[u64], list: &mut [u64]) -> Planned
     }
 }
 
-// Plans the chain of leaves in any order, with repeats: its codes from the list's first place on, and their count.
+// Plans the chain of leaves in any order, with repeats: its codes from the list's first place on, and their count. With no leaf it is
+// empty (W-203).
 pub fn plan(depth: u64, leaves: &[u64], list: &mut [u64]) -> Planned
     ensures { λ r. ⌜ outcomeNumber (r .outcome) ≡ planRow depth (now (leaves .entry)) (length (now (list .entry))) ⌝ }
     ensures { λ r. ⌜ r .count ≡ plannedCount depth (now (leaves .entry)) (length (now (list .entry))) ⌝ }
     ensures { λ _. ⌜ now (list .exit) ≡ plannedList depth (now (leaves .entry)) (now (list .entry)) ⌝ }
 {
-    let checked = check_leaves(depth, leaves);
+    let checked = check_leaves(0, depth, leaves);
     match checked {
         Outcome::Refused(why) => Planned {
             outcome: Outcome::Refused(why),

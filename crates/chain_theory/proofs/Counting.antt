@@ -1,19 +1,19 @@
 -- The chain's number of nodes: with k different leaves and c largest empty subtrees, 2k − 1 + c.
-use mathlib.Core.Path.{_≡_, refl, ap, _∙_, fun-ext}
+use mathlib.Core.Path.{_≡_, refl, ap, ap₂, _∙_, fun-ext}
 use Prim.Native.Nat.{ℕ, zero, suc, _+_, _-_, _*_, _/_, _≤_}
 use native.Mathlib.Omega.{arith}
 use mathlib.Core.Bool.{Bool, true, false, not}
 use mathlib.Core.List.{List, [], _∷_}
 use lib.ListN.{length, length-append}
 use Rattle.base.specs.Choice.{pick, both, passing, every}
-use Rattle.tree.specs.Nodes.{Node, node, orderBelow, labellingOrder}
+use Rattle.tree.specs.Nodes.{Node, node, root, InTree, orderBelow, labellingOrder}
 use Rattle.chain_theory.specs.Ways.{onSomeWay, chain}
-use Rattle.chain_theory.specs.Counts.{leavesOpened, holdsNone, insideEmpty, isLargestEmpty, largestEmpty}
+use Rattle.chain_theory.specs.Counts.{different, leavesOpened, holdsNone, insideEmpty, isLargestEmpty, largestEmpty}
 use Rattle.chain_theory.specs.Planning.{isLeaf, sorted}
-use Rattle.chain_theory.proofs.Lists.{both-false, pick-true, length-pick, passing-one, passing-append, passing-passing, passing-every}
+use Rattle.chain_theory.proofs.Lists.{clash, both-false, pick-true, length-pick, passing-one, passing-append, passing-passing, passing-every}
 use Rattle.chain_theory.proofs.Subtrees.{LeavesOf, left-leaves, right-leaves, under, leftLeaves, rightLeaves, under-half, nonEmpty, single}
 use Rattle.chain_theory.proofs.Subtrees.{someWay-under, leaves-halves, leaves-under}
-use Rattle.chain_theory.proofs.ChainBelow.{chainBelow, chain-chainBelow}
+use Rattle.chain_theory.proofs.ChainBelow.{chainBelow, chainBelow-none, chain-chainBelow}
 use Rattle.chain_theory.proofs.OrderLaws.{order-zero, order-suc}
 use Rattle.chain_theory.proofs.Sorting.{increasing-sorted, every-sorted, onSomeWay-sorted, chain-sorted, length-sorted}
 
@@ -148,3 +148,27 @@ chain-count n leaves h =
 pub chain-count-k : (n : ℕ) (leaves : List ℕ) → every (isLeaf n) leaves ≡ true → 1 ≤ leavesOpened leaves
     → length (chain n leaves) ≡ 2 * leavesOpened leaves - 1 + largestEmpty n leaves
 chain-count-k n leaves h k = omega (arith, chain-count n leaves h)
+
+-- ---- no leaf (W-203): the chain is empty, and the whole tree is the single largest subtree that holds no opened leaf
+pub chain-none : (n : ℕ) → chain n [] ≡ []
+unfolding every
+chain-none n = chain-chainBelow n [] refl ∙ chainBelow-none n 0 0
+
+pub largest-none : (n : ℕ) → largestEmpty n [] ≡ 1
+unfolding every different
+largest-none n = omega (arith, chain-count n [] refl, ap length (chain-none n))
+
+pub root-largest : (n : ℕ) → isLargestEmpty n [] root ≡ true
+unfolding onSomeWay insideEmpty
+root-largest n = refl
+
+largest-level : (n l p : ℕ) → isLargestEmpty n [] (node l p) ≡ true → l ≡ 0
+unfolding onSomeWay insideEmpty
+largest-level n zero p e = refl
+largest-level n (suc l) p e = absurd (clash e refl)
+
+pub largest-root-only : (n : ℕ) (v : Node) → InTree n v → isLargestEmpty n [] v ≡ true → v ≡ root
+largest-root-only n v inside e =
+    let top = largest-level n (v .level) (v .position) e in
+    let first : v .position ≡ 0 = omega (arith, rw top at (inside .1)) in
+    ap₂ node top first

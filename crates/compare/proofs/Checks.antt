@@ -21,16 +21,16 @@ use Rattle.compare.specs.declared.Pair.the-variants.{Agree}
 use Rattle.compare.specs.Table.{Sized}
 
 module _ (n : ℕ) (leaves : List ℕ) (size : ℕ) where
-  pub leaves-refused : (r : Refusal) → numberOf r ≡ leavesRow n leaves → numberOf r ≡ compareRow n leaves size
+  pub leaves-refused : (r : Refusal) → numberOf r ≡ leavesRow 1 n leaves → numberOf r ≡ compareRow n leaves size
   unfolding leavesRow compareRow
-  leaves-refused r e = e ∙ sym (row-refused (leavesChecks n leaves) (sizeChecks n leaves size) (not-done r (leavesRow n leaves) e))
+  leaves-refused r e = e ∙ sym (row-refused (leavesChecks 1 n leaves) (sizeChecks n leaves size) (not-done r (leavesRow 1 n leaves) e))
 
-  module _ (done : leavesRow n leaves ≡ 0) where
+  module _ (done : leavesRow 1 n leaves ≡ 0) where
     pub depth-known : IsDepth n
-    depth-known = range-of 1 maxDepth n (passed n leaves done .0)
+    depth-known = range-of 1 maxDepth n (passed 1 n leaves done .0)
 
     pub count-known : IsCount (length leaves)
-    count-known = range-of 1 maxChallenges (length leaves) (passed n leaves done .1 .0)
+    count-known = range-of 1 maxChallenges (length leaves) (passed 1 n leaves done .1 .0)
 
     -- the size of all openings
     pub all-fit : length leaves * openingSize n ≤ maxOpenings
@@ -38,7 +38,7 @@ module _ (n : ℕ) (leaves : List ℕ) (size : ℕ) where
 
     size-check : compareRow n leaves size ≡ firstOf (sizeChecks n leaves size)
     unfolding compareRow
-    size-check = row-passed (leavesChecks n leaves) (sizeChecks n leaves size) (passed n leaves done)
+    size-check = row-passed (leavesChecks 1 n leaves) (sizeChecks n leaves size) (passed 1 n leaves done)
 
     pub size-short : size < length leaves * openingSize n → 10 ≡ compareRow n leaves size
     size-short h = sym (size-check ∙ rw (lt-ltb size (length leaves * openingSize n) h))
@@ -52,9 +52,9 @@ module _ (n : ℕ) (leaves : List ℕ) (size : ℕ) where
 
 -- what is left when none refuses
 module _ (n : ℕ) (leaves openings : List ℕ) (done : compareRow n leaves (length openings) ≡ 0) where
-  all-passed : NoneHolds (leavesChecks n leaves ++ sizeChecks n leaves (length openings))
+  all-passed : NoneHolds (leavesChecks 1 n leaves ++ sizeChecks n leaves (length openings))
   unfolding compareRow
-  all-passed = none-holds (leavesChecks n leaves ++ sizeChecks n leaves (length openings)) refl done
+  all-passed = none-holds (leavesChecks 1 n leaves ++ sizeChecks n leaves (length openings)) refl done
 
   pub sized : Sized n leaves openings
   sized =

@@ -49,9 +49,9 @@ secondInput edition statement n leaves openings (Disagree i j l) = inputOf editi
 abbrev pub sizeChecks : ℕ → List ℕ → ℕ → List (Bool × ℕ)
 sizeChecks n leaves size = (ltb size (length leaves * openingSize n), 10) ∷ (ltb (length leaves * openingSize n) size, 13) ∷ []
 
--- The comparison's checks, of which document 01 has no row: those of planning (1; 8; 6), then 10; 13.
+-- The comparison's checks, of which document 01 has no row: 1; 8: not 1..200 leaves; 6; 10; 13.
 unfoldable pub compareRow : ℕ → List ℕ → ℕ → ℕ
-compareRow n leaves size = firstOf (leavesChecks n leaves ++ sizeChecks n leaves size)
+compareRow n leaves size = firstOf (leavesChecks 1 n leaves ++ sizeChecks n leaves size)
 
 -- what is answered: no pair where it is refused
 unfoldable pub compared : ℕ → List ℕ → ℕ → List ℕ → List ℕ → Pair

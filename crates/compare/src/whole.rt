@@ -17,11 +17,11 @@ use base::Outcome;
 use base::Refusal;
 use chain::check_leaves;
 
-// The checks: those of planning, then the size.
+// The checks: those of planning, but at least one leaf; then the size.
 fn check(depth: u64, leaves: &[u64], size: usize) -> Outcome
     ensures { λ r. ⌜ outcomeNumber r ≡ compareRow depth (now (leaves .entry)) size ⌝ }
 {
-    let checked = check_leaves(depth, leaves);
+    let checked = check_leaves(1, depth, leaves);
     match checked {
         Outcome::Refused(why) => return Outcome::Refused(why),
         Outcome::Done => {}

@@ -45,7 +45,7 @@ use Rattle.run_theory.proofs.Idle.{run-none, run-same, opening-none, opening-sa
 use Rattle.demands.specs.Demand1.{HashingPortion, HashingEnd, HashingWhole, StartingRun, ContinuingRun, StartingOpening, ContinuingOpening}
 use Rattle.demands.specs.Demand1.{AChallenge, WritingHead, OneOpening, PlanningChain, StartingFile, ContinuingFile}
 use Rattle.demands.proofs.Decisions.{Decides, decides-outside, decides-lt, decides-le, decides-eq, decides-differ, decides-both}
-use Rattle.demands.proofs.Decisions.{decides-either, decides-some, decides-under, Decided, is-first}
+use Rattle.demands.proofs.Decisions.{decides-over, decides-either, decides-some, decides-under, Decided, is-first}
 
 -- ---- conditions that stand in several rows
 abbrev pub depth : ℕ → Decided
@@ -259,12 +259,15 @@ someLeaf n leaves =
       number = 6;
     }
 
+abbrev tooManyLeaves : ℕ → Decided
+tooManyLeaves k = record { test = outside 0 200 k; condition = 200 < k; decides = decides-over 200 k; number = 8 }
+
 pub planning-row : (n : ℕ) (leaves : List ℕ) (list : ℕ) → IsFirst (planningChain n leaves list) (planRow n leaves list)
 unfolding planRow
 planning-row n leaves list =
     is-first
     (depth n
-    ∷ count (length leaves)
+    ∷ tooManyLeaves (length leaves)
     ∷ someLeaf n leaves
     ∷ record {
       test = ltb list (length (chain n leaves));

@@ -10,7 +10,7 @@ use lib.ListN.{length, getD}
 use borrow.Author.Tests.{ltb-true, ltb-false, leb-true, leb-false, eqb-true, eqb-false, not-true, not-false}
 use Rattle.base.specs.Choice.{pick, both, every}
 use Rattle.base.specs.Lists.{sameBytes}
-use Rattle.base.proofs.ChoiceLaws.{both-first, both-second, true-false}
+use Rattle.base.proofs.ChoiceLaws.{both-first, both-second, true-false, lt-or-le}
 use Rattle.base.proofs.ListsLaws.{tells-bytes, test-false}
 use Rattle.base.specs.Row.{firstOf, outside, either}
 use Rattle.base.proofs.RowLaws.{NoneHolds, numbered, none-holds, row-passed}
@@ -86,6 +86,15 @@ decides-not {t} d = record { yes = λ e. d .no (not-true t e); no = λ e none. n
 
 pub decides-outside : (low high x : ℕ) → Decides (outside low high x) (Outside low high x)
 decides-outside low high x = decides-not (decides-between low high x)
+
+-- no number is below 0
+pub decides-over : (high x : ℕ) → Decides (outside 0 high x) (high < x)
+decides-over high x =
+    let d = decides-outside 0 high x in
+    record {
+      yes = λ e. ⊎-elim (λ over. over) (λ (within : x ≤ high). absurd (d .yes e (omega arith, within))) (lt-or-le high x);
+      no = λ e over. d .no e (λ within. omega (arith, within));
+    }
 
 pub decides-differ : (x y : List ℕ) → Decides (not (sameBytes x y)) (x ≡ y → ⊥)
 decides-differ x y = decides-not (decides-same x y)

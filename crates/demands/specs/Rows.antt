@@ -164,11 +164,11 @@ aFile bytes statement n t =
     ++ foundIn 0 (fileRest bytes statement n t n′ t′ (numbersEnd bytes))
     ++ fileOpenings bytes n′ (numbersEnd bytes) 1 t′
 
--- | Planning a chain | 1; 8: not 1..200 leaves; 6; 16: list short |
+-- | Planning a chain | 1; 8: not 1..200 leaves; 6; 16: list short |. W-203: 'Planning refuses with 8 only above 200 leaves'.
 abbrev pub planningChain : ℕ → List ℕ → ℕ → Row
 planningChain n leaves list =
     (Outside 1 40 n, 1)
-    ∷ (Outside 1 200 (length leaves), 8)
+    ∷ (200 < length leaves, 8)
     ∷ ((i : ℕ) × (i < length leaves) × (2 ^ n ≤ getD leaves i 0), 6)
     ∷ (list < length (chain n leaves), 16)
     ∷ []
@@ -195,7 +195,7 @@ abbrev pub planningProgram : List ℕ → Row
 planningProgram bytes = (Unreadable bytes, 17) ∷ planningChain (getD (numbers bytes) 0 0) (drop 1 (numbers bytes)) 6855
 
 -- ---- Calls for which document 01 has no row
--- openings compared, so many bytes of them: 1; 8; 6; 10: bytes too few; 13: too many
+-- openings compared, so many bytes of them: 1; 8: not 1..200 leaves; 6; 10: bytes too few; 13: too many
 abbrev pub comparing : ℕ → List ℕ → ℕ → Row
 comparing n leaves size =
     (Outside 1 40 n, 1)

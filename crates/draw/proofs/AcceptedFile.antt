@@ -1,6 +1,6 @@
 -- A file that is accepted: where its parts lie, its leaves and openings pass the comparison's checks, and what is drawn.
 use mathlib.Core.Path.{_≡_, refl, sym, ap, _∙_}
-use Prim.Native.Nat.{ℕ, _+_, _-_, _*_, _<_}
+use Prim.Native.Nat.{ℕ, _+_, _-_, _*_, _≤_, _<_}
 use native.Mathlib.Omega.{arith}
 use mathlib.Core.Bool.{true, false}
 use mathlib.Core.List.{List}
@@ -92,14 +92,15 @@ module _ (bytes statement : List ℕ) (n t : ℕ) (small : (j : ℕ) → getD by
   unfolding leavesOf proofEdition
   all-leaves = leaves-inside edition n statement (rootAt bytes (numbersEnd (headOf bytes))) (depth-known .1) 1 t
 
-  leaves-row : leavesRow n (leavesOf bytes statement n t) ≡ 0
-  leaves-row =
+  -- for comparing and for planning
+  leaves-row : (least : ℕ) → least ≤ 1 → leavesRow least n (leavesOf bytes statement n t) ≡ 0
+  leaves-row least some =
       sym
-      (row-done n (leavesOf bytes statement n t) (in-range 1 maxDepth n (depth-known .0) (depth-known .1))
-      (rw leaves-count (in-range 1 maxChallenges t (count-known .0) (count-known .1))) all-leaves)
+      (row-done least n (leavesOf bytes statement n t) (in-range 1 maxDepth n (depth-known .0) (depth-known .1))
+      (rw leaves-count (in-range least maxChallenges t (omega (arith, count-known .0)) (count-known .1))) all-leaves)
 
-  pub leaves-done : (leaves : List ℕ) → leaves ≡ leavesOf bytes statement n t → leavesRow n leaves ≡ 0
-  leaves-done leaves e = rw e leaves-row
+  pub leaves-done : (leaves : List ℕ) → leaves ≡ leavesOf bytes statement n t → leavesRow 0 n leaves ≡ 0
+  leaves-done leaves e = rw e (leaves-row 0 (omega arith))
 
   openings-length : length (openingsOf bytes) ≡ length (leavesOf bytes statement n t) * openingSize n
   unfolding openingsOf
@@ -112,7 +113,7 @@ module _ (bytes statement : List ℕ) (n t : ℕ) (small : (j : ℕ) → getD by
   pair-known =
       compared-done edition statement n (leavesOf bytes statement n t) (openingsOf bytes)
       (sym
-      (size-right n (leavesOf bytes statement n t) (length (openingsOf bytes)) leaves-row (omega (arith, openings-length))
+      (size-right n (leavesOf bytes statement n t) (length (openingsOf bytes)) (leaves-row 1 (omega arith)) (omega (arith, openings-length))
       (omega (arith, openings-length))))
 
   drawing-by :

@@ -27,7 +27,7 @@ abbrev pub DrawnFrom : Pair → ℕ → List ℕ → List ℕ → DrawingAnswer 
 DrawnFrom pair n leaves list drawing after =
     (drawing ≡ drawnFrom pair (length (chain n leaves)) (length list)) × (after ≡ listAfter drawing (chainCodes n leaves) list)
 
-module _ (n : ℕ) (leaves list after : List ℕ) (count : ℕ) (done : leavesRow n leaves ≡ 0) (k : count ≡ plannedCount n leaves (length list))
+module _ (n : ℕ) (leaves list after : List ℕ) (count : ℕ) (done : leavesRow 0 n leaves ≡ 0) (k : count ≡ plannedCount n leaves (length list))
     (e : after ≡ plannedList n leaves list) where
   refused-by : (short : Bool) → ltb (length list) (length (chain n leaves)) ≡ short → (r : Refusal) → numberOf r ≡ planRow n leaves (length list)
       → DrawnFrom Agree n leaves list (notDrawn (foundIn 0 (numberOf r))) after

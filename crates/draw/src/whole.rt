@@ -20,7 +20,7 @@ use proof_file::check_file;
 
 // The chain of leaves, where no pair disagrees. Its callers know that they are leaves.
 fn draw_chain(depth: u64, leaves: &[u64], list: &mut [u64]) -> Drawing
-    requires { ⌜ leavesRow depth (now leaves) ≡ 0 ⌝ }
+    requires { ⌜ leavesRow 0 depth (now leaves) ≡ 0 ⌝ }
     ensures { λ r. ⌜ drawingAnswer r ≡ drawnFrom Agree (length (chain depth (now (leaves .entry)))) (length (now (list .entry))) ⌝ }
     ensures { λ r. ⌜ now (list .exit) ≡ listAfter (drawingAnswer r) (chainCodes depth (now (leaves .entry))) (now (list .entry)) ⌝ }
 {
@@ -34,7 +34,7 @@ fn draw_chain(depth: u64, leaves: &[u64], list: &mut [u64]) -> Drawing
 
 // The clash of the first pair that disagrees, or the chain.
 fn draw_pair(pair: Pair, depth: u64, leaves: &[u64], list: &mut [u64]) -> Drawing
-    requires { ⌜ leavesRow depth (now leaves) ≡ 0 ⌝ }
+    requires { ⌜ leavesRow 0 depth (now leaves) ≡ 0 ⌝ }
     ensures { λ r. ⌜ drawingAnswer r ≡ drawnFrom pair (length (chain depth (now (leaves .entry)))) (length (now (list .entry))) ⌝ }
     ensures { λ r. ⌜ now (list .exit) ≡ listAfter (drawingAnswer r) (chainCodes depth (now (leaves .entry))) (now (list .entry)) ⌝ }
 {

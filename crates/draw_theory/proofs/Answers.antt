@@ -15,7 +15,8 @@ use Rattle.base.proofs.ChoiceLaws.{lt-or-le}
 use Rattle.chain.specs.PlanRow.{planRow, plannedCount, plannedList}
 use Rattle.proof_file.specs.FileCheck.{foundIn, fileCheck}
 use Rattle.check_theory.specs.IsProof.{IsProof}
-use Rattle.base.proofs.Ranges.{within}
+use Rattle.base.specs.Row.{outside}
+use Rattle.base.proofs.Ranges.{in-range, within}
 use Rattle.compare.specs.declared.Pair.{Pair}
 use Rattle.compare.specs.declared.Pair.the-variants.{Agree, Disagree}
 use Rattle.draw.specs.Drawing.{proofEdition, notDrawn, drawnChain, drawnClash, leavesOf, pairOf, drawnFrom, drawnIf, drawingOf, drawnList}
@@ -131,20 +132,15 @@ module _ (bytes statement : List ℕ) (n t : ℕ) where
 
   -- ---- planning from the leaves
   module _ (p : IsProof (proofEdition bytes) bytes statement n t) where
-    leaves-count : (1 ≤ length (leavesOf bytes statement n t)) × (length (leavesOf bytes statement n t) ≤ maxChallenges)
-    leaves-count = rw (leaves-length bytes statement n t) (p .count)
+    few-leaves : outside 0 maxChallenges (length (leavesOf bytes statement n t)) ≡ false
+    few-leaves = rw (leaves-length bytes statement n t) (in-range 0 maxChallenges t (omega arith) (p .count .1))
 
     row-of :
         (list : ℕ) →
         planRow n (leavesOf bytes statement n t) list ≡
         pick (ltb list (length (drawnNodes bytes statement n t))) 16 0
     unfolding planRow
-    row-of list =
-        simp (
-          within 1 maxDepth n (p .depth),
-          within 1 maxChallenges (length (leavesOf bytes statement n t)) leaves-count,
-          all-inside bytes statement n t p,
-        )
+    row-of list = simp (within 1 maxDepth n (p .depth), few-leaves, all-inside bytes statement n t p)
 
     module _ (a : fileCheck bytes statement n t ≡ 0) (b : pairOf bytes statement n t ≡ Agree) (list : List ℕ) where
       planned-short : length list < length (drawnNodes bytes statement n t) → AsPlanned bytes statement n t list

@@ -2,28 +2,27 @@
 use mathlib.Core.Path.{_≡_, refl, sym, ap, _∙_}
 use Prim.Native.Nat.{ℕ, zero, suc, _+_, _*_, _^_, _≤_, _<_}
 use native.Mathlib.Omega.{arith}
-use mathlib.Core.Bool.{Bool}
 use mathlib.Core.List.{List, [], _∷_, _++_, append-assoc, map}
-use lib.Dec.{ltb, leb}
+use lib.Dec.{leb}
 use lib.Pow.{pow-pos}
 use lib.ListN.{length, getD, take, drop, length-map, length-append}
 use lib.Seq.{take-at}
-use borrow.Author.Tests.{ltb-false, leb-true, le-leb, not-false}
+use borrow.Author.Tests.{ltb-false, le-leb}
 use Rattle.base.specs.Choice.{pick}
 use Rattle.base.specs.Bytes.{written}
 use Rattle.base.specs.Limits.{maxChallenges, maxChain}
-use Rattle.base.proofs.ChoiceLaws.{both-second}
+use Rattle.base.proofs.Ranges.{range-of}
 use Rattle.base.specs.declared.refusal.Refusal.{Refusal}
 use Rattle.base.specs.declared.refusal.Outcome.{Outcome}
 use Rattle.base.specs.declared.refusal.Outcome.the-variants.{Done, Refused}
 use Rattle.base.specs.Number.{numberOf, outcomeNumber}
-use Rattle.base.proofs.RowLaws.{NoneHolds, none-holds, is-done, refused-number, not-done}
+use Rattle.base.proofs.RowLaws.{is-done, refused-number, not-done}
 use Rattle.tree.specs.Nodes.{Node, node, root}
 use Rattle.chain_theory.specs.Ways.{chain, code, chainCodes}
 use Rattle.chain_theory.specs.Counts.{leavesOpened}
 use Rattle.chain_theory.proofs.Once.{chain-at, same-code}
 use Rattle.chain.specs.PlanRow.{planRow, plannedCount, plannedList}
-use Rattle.chain.specs.Leaves.{leavesChecks}
+use Rattle.chain.proofs.Rows.{plan-passed}
 use Rattle.base.proofs.WrittenLaws.{written-none, written-append}
 use Rattle.planning.specs.Output.{places, refusedText, headText, nodeText, nodesText, answerText, planText}
 use Rattle.decimal.specs.Steps.{Wrote}
@@ -31,24 +30,15 @@ use Rattle.decimal.proofs.Laying.{then}
 use Rattle.planning.proofs.Laying.{nodes-turn, nodes-end, nodes-short, head-short}
 
 module _ (n : ℕ) (leaves codes : List ℕ) (done : planRow n leaves places ≡ 0) (are : codes ≡ chainCodes n leaves) where
-  abbrev checks : List (Bool × ℕ)
-  checks = leavesChecks n leaves ++ (ltb places (length (chain n leaves)), 16) ∷ []
-
-  all-passed : NoneHolds checks
-  unfolding planRow
-  all-passed = none-holds checks refl done
-
   pub few-leaves : length leaves ≤ maxChallenges
-  few-leaves =
-      leb-true (length leaves) maxChallenges
-      (both-second (leb 1 (length leaves)) (leb (length leaves) maxChallenges) (not-false _ (all-passed .1 .0)))
+  few-leaves = range-of 0 maxChallenges (length leaves) (plan-passed n leaves places done .1 .0) .1
 
   pub codes-count : length codes ≡ length (chain n leaves)
   unfolding chainCodes
   codes-count = rw are (length-map (chain n leaves) code)
 
   pub few-codes : length codes ≤ maxChain
-  few-codes = omega (arith, codes-count, ltb-false places (length (chain n leaves)) (all-passed .1 .1 .1 .0))
+  few-codes = omega (arith, codes-count, ltb-false places (length (chain n leaves)) (plan-passed n leaves places done .1 .1 .1 .0))
 
   pub different-count : (k : ℕ) → k ≡ pick (leb (length leaves) maxChallenges) (leavesOpened leaves) 0 → k ≡ leavesOpened leaves
   different-count k e = e ∙ rw (le-leb (length leaves) maxChallenges few-leaves)

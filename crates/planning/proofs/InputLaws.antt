@@ -60,7 +60,7 @@ module _ (bytes : List ℕ) where
 -- more than 200 leaves are refused whichever they are
 too-many : (n : ℕ) (zs : List ℕ) → maxChallenges < length zs → planText n zs ≡ pick (outside 1 maxDepth n) (refusedText 1) (refusedText 8)
 unfolding planText planRow
-too-many n zs h = rw (above-range 1 maxChallenges (length zs) h) (go (outside 1 maxDepth n))
+too-many n zs h = rw (above-range 0 maxChallenges (length zs) h) (go (outside 1 maxDepth n))
   where
     go : (d : Bool) → answerText n zs (pick d 1 8) ≡ pick d (refusedText 1) (refusedText 8)
     go true = refl

@@ -1,15 +1,16 @@
 -- The list that the program lends is long enough for every input: it never prints the refusal 16.
 use mathlib.Core.Path.{_≡_, refl}
-use Prim.Native.Nat.{ℕ, _≤_}
+use Prim.Native.Nat.{ℕ}
 use native.Mathlib.Omega.{arith}
 use mathlib.Core.Bool.{Bool, true, false, not}
 use mathlib.Core.List.{List, [], _∷_}
-use lib.Dec.{ltb, leb}
+use lib.Dec.{ltb}
 use lib.ListN.{length}
-use borrow.Author.Tests.{le-ltb, leb-true, not-false}
+use borrow.Author.Tests.{le-ltb, not-false}
 use Rattle.base.specs.Choice.{every}
 use Rattle.base.specs.Limits.{maxDepth, maxChallenges}
-use Rattle.base.proofs.ChoiceLaws.{both-second, true-false}
+use Rattle.base.proofs.ChoiceLaws.{true-false}
+use Rattle.base.proofs.Ranges.{range-of, depth-inside}
 use Rattle.base.specs.Row.{firstOf, outside}
 use Rattle.chain_theory.specs.Ways.{chain}
 use Rattle.chain_theory.specs.Planning.{isLeaf}
@@ -27,19 +28,16 @@ not-last false false true s h e = omega arith
 not-last false false false true h e = true-false true refl (h refl refl refl)
 not-last false false false false h e = omega arith
 
-at-most : (high x : ℕ) → outside 1 high x ≡ false → x ≤ high
-at-most high x e = leb-true x high (both-second (leb 1 x) (leb x high) (not-false _ e))
-
 pub never-short : (n : ℕ) (leaves : List ℕ) → planRow n leaves places ≡ 16 → ⊥
 unfolding planRow
 never-short n leaves =
     not-last
     (outside 1 maxDepth n)
-    (outside 1 maxChallenges (length leaves))
+    (outside 0 maxChallenges (length leaves))
     (not (every (isLeaf n) leaves))
     (ltb places (length (chain n leaves)))
     (λ a b d.
     le-ltb
     places
     (length (chain n leaves))
-    (chain-bound n leaves (not-false _ d) (at-most maxDepth n a) (omega (arith, leavesOpened-le leaves, at-most maxChallenges (length leaves) b))))
+    (chain-bound n leaves (not-false _ d) (depth-inside n a) (omega (arith, leavesOpened-le leaves, range-of 0 maxChallenges (length leaves) b))))

@@ -87,6 +87,19 @@ fn planned(bytes: &[u8]) {
     os::unlink(b"input");
 }
 
+// W-203: a depth alone.
+fn no_leaves() {
+    answered(b"1");
+    answered(b"40\n");
+    answered(b"0");
+    answered(b"41");
+    answered(b"2 ");
+    answered(b"3 8");
+    answered(b"2\n");
+    answered(b" 2 ");
+    planned(b"2");
+}
+
 // The program reads one byte more than an input may have, and no plan is printed of what it did not read whole.
 fn read_edges() {
     let mut most = blanks_65536();
@@ -114,6 +127,7 @@ pub fn plans() {
     part_1();
     part_2();
     part_3();
+    no_leaves();
     longest();
     too_long();
     read_edges();

@@ -5,13 +5,14 @@ use crate::model::file::{groups, inputs};
 use crate::model::run::slot;
 use crate::model::sha256;
 use crate::model::tree::{input, parents, Node};
-use mastdock::{challenge, check_file, file_size, plan, write_head, Opening, Refusal, Rejected, Run, Writing};
+use mastdock::{challenge, check_file, draw, file_size, plan, write_head, Opening, Refusal, Rejected, Run, Writing};
 
 pub fn run() {
     labels();
     sizes();
     numbers();
     chains();
+    no_leaves();
     limits();
     writings();
     clashes();
@@ -75,7 +76,32 @@ fn chains() {
     assert_eq!(count(40, &left.chain(right).collect::<Vec<u64>>()), 6855);
 }
 
-/// 'n 0 and 41 refused, 1 and 40 accepted; n = 3 with m = 3 opens with no new label, m = 4 refused; t 0 and 201 refused'.
+/// W-203: with no leaf the count is 0 and nothing is written, at every depth and in a list of any length; 'a proof of 0 challenges is
+/// still refused', and so are 0 openings compared. Row order: 1; 8; 6.
+fn no_leaves() {
+    for n in 1..=40 {
+        assert_eq!(plan(n, &[], &mut []), Ok(0));
+        let mut list = [7; 3];
+        assert_eq!((plan(n, &[], &mut list), list), (Ok(0), [7; 3]));
+        assert_eq!(mastdock::compare(&[0; 32], n, &[], &[]), Err(Refusal::Count));
+    }
+    assert_eq!((plan(0, &[], &mut []), plan(41, &[], &mut [])), (Err(Refusal::Depth), Err(Refusal::Depth)));
+    let mut many = [0; 201];
+    many[200] = 2;
+    assert_eq!(plan(1, &many, &mut [0; 3]), Err(Refusal::Count));
+    assert_eq!(plan(1, &many[1..], &mut [0; 3]), Err(Refusal::LeafPosition));
+    assert_eq!(Writing::start(&[0; 32], &[0; 32], 1, 0, 0, &[0; 32], &mut [0; 131]), Err(Refusal::Count));
+    let (mut file, mut list) = ([0; 131], [7; 3]);
+    write_head(&[0; 32], &[0; 32], 1, 1, &mut file).unwrap();
+    assert_eq!(file[2], 1);
+    file[2] = 0;
+    assert_eq!(check_file(&file, &[0; 32], 1, 0), rejected(Refusal::Count));
+    assert_eq!(draw(&file, &[0; 32], 1, 0, &mut list), Err(Rejected { refusal: Refusal::Count, opening: 0 }));
+    assert_eq!(list, [7; 3]);
+}
+
+/// 'n 0 and 41 refused, 1 and 40 accepted; n = 3 with m = 3 opens with no new label, m = 4 refused; t 0 and 201 refused';
+/// planning refuses only 201 (W-203).
 fn limits() {
     let store = [7; 480];
     for (n, refused) in [(0, true), (41, true), (1, false), (40, false)] {
@@ -92,7 +118,7 @@ fn limits() {
     for (t, refused) in [(0, true), (201, true), (1, false), (200, false)] {
         assert_eq!(challenge(&[0; 32], &[0; 32], 1, t) == Err(Refusal::Count), refused);
         assert_eq!(write_head(&[0; 32], &[0; 32], 1, t, &mut [0; 13000]) == Err(Refusal::Count), refused);
-        assert_eq!(plan(1, &vec![0; t as usize], &mut [0; 3]) == Err(Refusal::Count), refused);
+        assert_eq!(plan(1, &vec![0; t as usize], &mut [0; 3]) == Err(Refusal::Count), t == 201);
     }
 }
 

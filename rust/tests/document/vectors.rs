@@ -180,13 +180,14 @@ fn planning(text: &[u8], plan: impl Fn(u64, &[u64], &mut [u64]) -> Result<u64, u
     }
 }
 
-/// `standard input in hex (- if empty), what the planning program prints in hex`: through the library's plan and the model's.
+/// `standard input in hex (- if empty), what the planning program prints in hex`: through the library's plan and the model's. Those of
+/// plans-none.txt are with W-203.
 fn plans() -> usize {
     let library = |n: u64, leaves: &[u64], list: &mut [u64]| {
         mastdock::plan(n, leaves, list).map(|count| count as u64).map_err(|refusal| refusal.number())
     };
     let mut count = 0;
-    for words in lines(include_str!("../vectors/plans.txt")) {
+    for words in lines(include_str!("../vectors/plans.txt")).chain(lines(include_str!("../vectors/plans-none.txt"))) {
         let (text, expected) = (hex(words[0]), String::from_utf8(hex(words[1])).unwrap());
         assert_eq!(planning(&text, library), expected);
         assert_eq!(planning(&text, plan), expected);

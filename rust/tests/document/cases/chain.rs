@@ -5,7 +5,7 @@ use crate::model::chain::{chain, compare, draw, leaves_opened, plan, Clash, Draw
 use crate::model::opening::opening_size;
 use crate::model::tree::Labels;
 use crate::random::Random;
-use mastdock::{ffi, Drawing, Rejected};
+use mastdock::{ffi, Drawing, Refusal, Rejected};
 
 /// Leaves of a depth, some of them equal or beside one another.
 fn leaves(random: &mut Random, n: u64) -> Vec<u64> {
@@ -18,8 +18,8 @@ fn leaves(random: &mut Random, n: u64) -> Vec<u64> {
         let at = random.below(count) as usize;
         leaves[at] = random.pick(&[1 << n, (1 << n) - 1, u64::MAX]);
     }
-    if random.once_in(20) {
-        let count = random.pick(&[0, 199, 200, 201, 210]);
+    if random.once_in(10) {
+        let count = random.pick(&[0, 0, 199, 200, 201, 210]);
         leaves.resize(count, from);
     }
     leaves
@@ -35,6 +35,9 @@ pub fn plans(random: &mut Random) -> u64 {
     let mut list = random.words(len);
     let (mut lent_leaves, mut lent_list) = (Lent::words(random, &leaves), Lent::words(random, &list));
     let answer = mastdock::plan(n, lent_leaves.get(), lent_list.get()).map(|count| count as u64);
+    if leaves.is_empty() {
+        see("plan: no leaves", answer.map_or_else(Refusal::number, |count| count));
+    }
     assert_eq!(numbered("plan", answer), plan(n, &leaves, &mut list));
     lent_leaves.is_now(&leaves);
     lent_list.is_now(&list);

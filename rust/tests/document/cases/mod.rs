@@ -61,6 +61,7 @@ const ROWS: &[(&str, &[u64])] = &[
     ("writing start", &[0, 1, 2, 3, 8, 7]),
     ("writing advance", &[0, 4, 3, 7]),
     ("plan", &[0, 1, 8, 6, 16]),
+    ("plan: no leaves", &[0, 1]),
     ("compare", &[0, 1, 8, 6, 10, 13]),
     ("compare: clash", &[0, 1]),
     ("draw", &[0, 10, 11, 12, 1, 8, 13, 9, 14, 15, 16]),

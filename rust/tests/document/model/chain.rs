@@ -26,11 +26,11 @@ fn visit(n: u64, v: Node, leaves: &[u64], codes: &mut Vec<u64>) {
     codes.push((1 << v.level) + v.position);
 }
 
-/// Row 'Planning a chain'. 'later places keep what they had.'
+/// Row 'Planning a chain'. 'later places keep what they had.' W-203: 'Planning refuses with 8 only above 200 leaves'.
 pub fn plan(n: u64, leaves: &[u64], list: &mut [u64]) -> Result<u64, u64> {
     row(&[
         (1, &|| depth_refused(n)),
-        (8, &|| count_refused(leaves.len() as u64)),
+        (8, &|| leaves.len() > 200),
         (6, &|| leaves.iter().any(|leaf| *leaf >= 1 << n)),
     ])?;
     let codes = chain(n, leaves);
@@ -73,7 +73,8 @@ pub fn first_clash(statement: &Label, n: u64, openings: &[(u64, &[u8])]) -> Opti
     None
 }
 
-/// The comparison by itself, of openings one after the other. Document 01 has no row for it: those of planning, then 10 and 13.
+/// The comparison by itself, of openings one after the other. Document 01 has no row for it: those of planning, but none to
+/// compare is 8 too; then 10 and 13.
 pub fn compare(statement: &Label, n: u64, leaves: &[u64], bytes: &[u8]) -> Result<Option<Clash>, u64> {
     let size = || leaves.len() * opening_size(n);
     row(&[

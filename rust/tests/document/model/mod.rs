@@ -17,7 +17,7 @@ pub fn depth_refused(n: u64) -> bool {
     !(1..=40).contains(&n)
 }
 
-/// 'i not 1..200', 't not 1..200', 'not 1..200 leaves'.
+/// 'i not 1..200', 't not 1..200'; and not 1..200 leaves compared.
 pub fn count_refused(x: u64) -> bool {
     !(1..=200).contains(&x)
 }

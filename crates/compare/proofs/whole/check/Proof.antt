@@ -18,7 +18,7 @@ returns c =
 
 -- the first checks refused nothing
 passed : (c : tie.After-enum-told)
-    → leavesRow (c .before .before .before .before .args .depth) (c .before .before .before .before .args .leaves .now) ≡ 0
+    → leavesRow 1 (c .before .before .before .before .args .depth) (c .before .before .before .before .args .leaves .now) ≡ 0
 passed c = is-done _ _ (c .before .before .check-leaves .ensures) (c .enum-told .given .1)
 
 add-all : tie.Need-add-all
