@@ -76,8 +76,8 @@ fn chains() {
     assert_eq!(count(40, &left.chain(right).collect::<Vec<u64>>()), 6855);
 }
 
-/// W-203: with no leaf the count is 0 and nothing is written, at every depth and in a list of any length; 'a proof of 0 challenges is
-/// still refused', and so are 0 openings compared. Row order: 1; 8; 6.
+/// W-203: with no leaf the count is 0 and nothing is written, at every depth, in a list of no places and of some; 'a proof of
+/// 0 challenges is still refused', and so are 0 openings compared. Row order: 1; 8; 6.
 fn no_leaves() {
     for n in 1..=40 {
         assert_eq!(plan(n, &[], &mut []), Ok(0));
