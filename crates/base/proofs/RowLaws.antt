@@ -7,7 +7,7 @@ use native.Mathlib.Omega.{arith}
 use lib.Dec.{leb}
 use borrow.Author.Tests.{leb-true}
 use Rattle.base.specs.Choice.{pick, both}
-use Rattle.base.proofs.ChoiceLaws.{both-first, both-second}
+use Rattle.base.proofs.ChoiceLaws.{both-first, both-second, true-false}
 use Rattle.base.specs.declared.refusal.Refusal.{Refusal}
 use Rattle.base.specs.declared.refusal.Outcome.{Outcome}
 use Rattle.base.specs.declared.refusal.Outcome.the-variants.{Done, Refused}
@@ -53,6 +53,21 @@ row-passed [] more none = refl
 row-passed (check ∷ row) more none = rw (none .0) (row-passed row more (none .1))
 
 -- an outcome is told by its number
+-- a number is not answered if each check that has it fails where it is reached
+abbrev pub NeverGives : List (Bool × ℕ) → ℕ → Type 0
+NeverGives [] number = Unit
+NeverGives (check ∷ row) number = (check .1 ≡ number → check .0 ≡ false) × (check .0 ≡ false → NeverGives row number)
+
+never-by :
+    (t : Bool) (here number rest : ℕ) → (here ≡ number → t ≡ false) → (t ≡ false → rest ≡ number → ⊥) → pick t here rest ≡ number → ⊥
+never-by true here number rest fails later e = true-false true refl (fails e)
+never-by false here number rest fails later e = later refl e
+
+pub never-gives : (row : List (Bool × ℕ)) (number : ℕ) → 1 ≤ number → NeverGives row number → firstOf row ≡ number → ⊥
+never-gives [] number some never e = omega arith
+never-gives (check ∷ row) number some never e =
+    never-by (check .0) (check .1) number (firstOf row) (never .0) (λ f. never-gives row number some (never .1 f)) e
+
 pub is-done : (o : Outcome) (row : ℕ) → outcomeNumber o ≡ row → o ≡ Done → row ≡ 0
 is-done o row e d = rw d at (sym e)
 

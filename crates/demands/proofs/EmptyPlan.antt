@@ -1,22 +1,24 @@
 -- W-203, each sentence with its proof.
 use mathlib.Core.Path.{_≡_, refl, _∙_}
-use mathlib.Core.Logic.{inr}
+use mathlib.Core.Logic.{inr, ⊎-elim}
 use Prim.Native.Nat.{ℕ, _≤_, _<_}
 use native.Mathlib.Omega.{arith}
-use mathlib.Core.Bool.{Bool, true, false, not}
-use mathlib.Core.List.{List, [], _∷_, append-nil}
+use mathlib.Core.Bool.{true}
+use mathlib.Core.List.{List, [], _∷_, _++_, append-nil}
 use lib.Dec.{ltb}
 use lib.ListN.{length, getD, drop}
 use borrow.Author.Tests.{le-ltb, not-false}
 use Rattle.base.specs.Choice.{every}
 use Rattle.base.specs.Bytes.{joined}
-use Rattle.base.specs.Row.{firstOf, outside}
-use Rattle.base.proofs.Ranges.{within, above-range}
+use Rattle.base.proofs.ChoiceLaws.{lt-or-le}
+use Rattle.base.proofs.Ranges.{in-range, within, above-range}
+use Rattle.base.proofs.RowLaws.{never-gives}
 use Rattle.base.proofs.WrittenLaws.{written-none}
 use Rattle.chain_theory.specs.Ways.{chain, chainCodes}
 use Rattle.chain_theory.specs.Planning.{isLeaf}
 use Rattle.chain_theory.specs.Counts.{different}
 use Rattle.chain_theory.proofs.Counting.{chain-count, chain-none, largest-none, root-largest, largest-root-only}
+use Rattle.chain.specs.Leaves.{leavesChecks}
 use Rattle.chain.specs.PlanRow.{planRow, plannedCount, plannedList}
 use Rattle.chain.proofs.Rows.{plan-passed}
 use Rattle.decimal.specs.Ascii.{ascii}
@@ -38,7 +40,7 @@ use Rattle.draw_theory.proofs.Demand3.{chain-exactly}
 use Rattle.demands.specs.Rows.{IsFirst, Unreadable, planningProgram}
 use Rattle.demands.specs.Demand1.{PlanningProgram}
 use Rattle.demands.specs.EmptyPlan.{PlannedEmpty, WholeTree, NoProof, EmptyPlan}
-use Rattle.demands.proofs.Decisions.{decides-over, one-answer}
+use Rattle.demands.proofs.Decisions.{one-answer}
 use Rattle.demands.proofs.Checks.{planning-row}
 use Rattle.demands.proofs.Programs.{planning-program}
 
@@ -101,18 +103,20 @@ module _ (n : ℕ) (leaves : List ℕ) (list : ℕ) (done : planRow n leaves lis
   all-leaves = not-false _ (plan-passed n leaves list done .1 .1 .0)
 
 -- ---- above 200 leaves
-second-only : (a b d s : Bool) → firstOf ((a, 1) ∷ (b, 8) ∷ (d, 6) ∷ (s, 16) ∷ []) ≡ 8 → b ≡ true
-second-only true b d s e = absurd (omega arith)
-second-only false true d s e = refl
-second-only false false true s e = absurd (omega arith)
-second-only false false false true e = absurd (omega arith)
-second-only false false false false e = absurd (omega arith)
+not-within : (n : ℕ) (leaves : List ℕ) (list : ℕ) → length leaves ≤ 200 → planRow n leaves list ≡ 8 → ⊥
+unfolding planRow
+not-within n leaves list few =
+    never-gives (leavesChecks 0 n leaves ++ (ltb list (length (chain n leaves)), 16) ∷ []) 8 (omega arith) (
+      λ one. absurd (omega arith),
+      λ _. (
+        λ _. in-range 0 200 (length leaves) (omega arith) few,
+        λ _. (λ six. absurd (omega arith), λ _. (λ sixteen. absurd (omega arith), λ _. tt)),
+      ),
+    )
 
 over-only : (n : ℕ) (leaves : List ℕ) (list : ℕ) → planRow n leaves list ≡ 8 → 200 < length leaves
-unfolding planRow
 over-only n leaves list e =
-    decides-over 200 (length leaves) .yes
-    (second-only (outside 1 40 n) (outside 0 200 (length leaves)) (not (every (isLeaf n) leaves)) (ltb list (length (chain n leaves))) e)
+    ⊎-elim (λ over. over) (λ (few : length leaves ≤ 200). absurd (not-within n leaves list few e)) (lt-or-le 200 (length leaves))
 
 over-refused : (n : ℕ) (leaves : List ℕ) (list : ℕ) → (1 ≤ n) × (n ≤ 40) → 200 < length leaves → planRow n leaves list ≡ 8
 unfolding planRow
