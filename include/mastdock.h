@@ -28,9 +28,9 @@ extern "C" {
 /* Refusals, with document 01's numbers. */
 enum mastdock_refusal {
     MASTDOCK_DEPTH = 1,           /* depth n not 1..40 */
-    MASTDOCK_MEMORY_LEVEL = 2,    /* memory level m over min(n, 20) */
+    MASTDOCK_MEMORY_LEVEL = 2,    /* memory level m over min(n, 14) */
     MASTDOCK_SHORT_STORE = 3,     /* store short */
-    MASTDOCK_STATE = 4,           /* a state that cannot be continued: n not 1..40, m over min(n, 20), a leaf of 2^n or more, or more
+    MASTDOCK_STATE = 4,           /* a state that cannot be continued: n not 1..40, m over min(n, 14), a leaf of 2^n or more, or more
                                      labels made than there are to make */
     MASTDOCK_TOO_MANY_BYTES = 5,  /* over 2^61 - 1 bytes to hash in all */
     MASTDOCK_LEAF_POSITION = 6,   /* a leaf's position 2^n or more */
@@ -48,7 +48,7 @@ enum mastdock_refusal {
 };
 
 /* Limits and sizes. A state's size is its sizeof. The sizes are constant where their arguments are; n is 1..40, m at most
- * min(n, 20), t 1..200. */
+ * min(n, 14), t 1..200. */
 #ifdef __cplusplus
 #define MASTDOCK_SIZE(x) static_cast<size_t>(x)
 #define MASTDOCK_NUMBER(x) static_cast<uint64_t>(x)
@@ -57,10 +57,11 @@ enum mastdock_refusal {
 #define MASTDOCK_NUMBER(x) ((uint64_t)(x))
 #endif
 #define MASTDOCK_MAX_DEPTH 40
-#define MASTDOCK_MAX_MEMORY 20
+#define MASTDOCK_MAX_MEMORY 14
 #define MASTDOCK_MAX_COUNT 200
 #define MASTDOCK_HELD_SIZE 1312                                             /* 41 places of 32 bytes */
 #define MASTDOCK_STORE_SIZE(m) (32 * ((MASTDOCK_SIZE(2) << (m)) - 1))       /* bytes of a store of levels 0 to m */
+#define MASTDOCK_MAX_STORE MASTDOCK_STORE_SIZE(MASTDOCK_MAX_MEMORY)         /* 1,048,544 bytes: no call asks for more */
 #define MASTDOCK_OPENING_SIZE(n) (32 * (MASTDOCK_SIZE(n) + 1))              /* bytes of an opening */
 #define MASTDOCK_HEAD_SIZE(t) MASTDOCK_SIZE((t) < 128 ? 67 : 68)            /* bytes before the openings */
 #define MASTDOCK_FILE_SIZE(n, t) (MASTDOCK_HEAD_SIZE(t) + MASTDOCK_SIZE(t) * MASTDOCK_OPENING_SIZE(n))
@@ -108,7 +109,11 @@ mastdock_hash_finished mastdock_hash_finish(mastdock_hash hash);
 /* The digest of a whole message. A report's is its statement. Refusals: 5. */
 mastdock_digested mastdock_digest(const uint8_t *message, size_t message_len);
 
-/* ---- Runs in lent memory ---- */
+/* ---- Runs in lent memory ----
+ *
+ * Units in the field: until W-209 the greatest memory level was 20. A run of level 15 to 20 is refused with 4, so one that is not
+ * finished cannot be carried on. The store of a finished one is opened, and its file written, at level 14 over the same bytes, since a
+ * label's slot does not depend on the level. Files do not carry the level: all old ones are good. */
 
 /* A run: statement, n, m, the labels made, and the held labels. When all labels are made, the root is in held[0..31]. */
 typedef struct mastdock_run {
@@ -161,7 +166,7 @@ typedef struct mastdock_opening_advanced {
 } mastdock_opening_advanced;
 
 /* A new opening of a leaf: copies what the store holds of it to the MASTDOCK_OPENING_SIZE(depth) bytes of the output. The store is
- * a finished run's of the same statement, depth and memory level. Refusals: 1, 2, 3, 6, 7. */
+ * a finished run's of the same statement and depth, and of this memory level or a higher one. Refusals: 1, 2, 3, 6, 7. */
 mastdock_opening_started mastdock_opening_start(const uint8_t statement[32], uint64_t depth, uint64_t memory, uint64_t leaf,
                                                 const uint8_t *store, size_t store_len, uint8_t *out, size_t out_len);
 
@@ -239,8 +244,8 @@ typedef struct mastdock_writing_advanced {
 } mastdock_writing_advanced;
 
 /* Begins a file of so many openings: writes its head and what the store holds of the first opening, and of the next ones where
- * nothing is to be labelled anew. The store is a finished run's of the same statement, depth and memory level, and the root its
- * root. Refusals: 1, 2, 3, 8, 7 (the whole file must fit). */
+ * nothing is to be labelled anew. The store is a finished run's of the same statement and depth, and of this memory level or a higher
+ * one, and the root its root. Refusals: 1, 2, 3, 8, 7 (the whole file must fit). */
 mastdock_writing_started mastdock_writing_start(const uint8_t statement[32], const uint8_t root[32], uint64_t depth,
                                                 uint64_t memory, uint64_t count, const uint8_t *store, size_t store_len,
                                                 uint8_t *file, size_t file_len);

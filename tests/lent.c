@@ -1,5 +1,6 @@
 /* What include/mastdock.h says of lent memory and of answers: a null pointer where the number is 0, for every call that takes a
-   pointer with a number, and answers without padding. The refusals are document 01's for memory of no bytes. Prints nothing. */
+   pointer with a number, and answers without padding; and of the memory level's limit. The refusals are document 01's for memory of no
+   bytes. Prints nothing. */
 #include "mastdock.h"
 #include <stdio.h>
 #include <stdlib.h>
@@ -62,6 +63,38 @@ static void null_states(void) {
     EXPECT(mastdock_writing_advance(writing.writing, 1, store, sizeof store, NULL, 0).refusal, MASTDOCK_SHORT_OUTPUT);
 }
 
+/* Starting and continuing a run, an opening and a file: refused with these numbers. */
+static void at_level(uint64_t depth, uint64_t memory, uint8_t *store, size_t len, uint64_t start, uint64_t go_on) {
+    uint8_t out[MASTDOCK_OPENING_SIZE(40)] = {0}, file[MASTDOCK_FILE_SIZE(40, 1)] = {0};
+    mastdock_run run = {.depth = depth, .memory = memory};
+    mastdock_opening opening = {.depth = depth, .memory = memory};
+    mastdock_writing writing = {.count = 1, .number = 1, .opening = opening};
+    EXPECT(mastdock_run_start(ZERO, depth, memory, store, len).refusal, start);
+    EXPECT(mastdock_opening_start(ZERO, depth, memory, 0, store, len, out, sizeof out).refusal, start);
+    EXPECT(mastdock_writing_start(ZERO, ZERO, depth, memory, 1, store, len, file, sizeof file).refusal, start);
+    EXPECT(mastdock_run_advance(run, 1, store, len).refusal, go_on);
+    EXPECT(mastdock_opening_advance(opening, 1, store, len, out, sizeof out).refusal, go_on);
+    EXPECT(mastdock_writing_advance(writing, 1, store, len, file, sizeof file).refusal, go_on);
+}
+
+/* W-209: level 14 is the most, and a store of MASTDOCK_MAX_STORE bytes is never short. */
+static void levels(void) {
+    static uint8_t store[MASTDOCK_MAX_STORE];
+    const uint64_t depths[] = {13, 14, 15, 40}, memories[] = {13, 14, 15, 20, 21};
+    EXPECT(sizeof store, 1048544);
+    for (size_t i = 0; i < sizeof depths / sizeof *depths; i++)
+        for (size_t j = 0; j < sizeof memories / sizeof *memories; j++) {
+            uint64_t n = depths[i], m = memories[j];
+            if (m > n || m > 14) {
+                at_level(n, m, store, sizeof store, MASTDOCK_MEMORY_LEVEL, MASTDOCK_STATE);
+                at_level(n, m, NULL, 0, MASTDOCK_MEMORY_LEVEL, MASTDOCK_STATE);
+            } else {
+                at_level(n, m, store, sizeof store, 0, 0);
+                at_level(n, m, store, MASTDOCK_STORE_SIZE(m) - 1, MASTDOCK_SHORT_STORE, MASTDOCK_SHORT_STORE);
+            }
+        }
+}
+
 /* A file, an opening, leaves and a list of no elements. */
 static void null_files(void) {
     const uint64_t leaf = 0;
@@ -116,6 +149,7 @@ static void answers(void) {
 int main(void) {
     null_hashes();
     null_states();
+    levels();
     null_files();
     answers();
     return 0;

@@ -57,6 +57,6 @@ pub use refusal::{Refusal, Rejected};
 pub use run::Run;
 pub use sizes::{
     file_size, head_size, labels, labels_anew, opening_size, store_size, HELD_SIZE, MAX_CHAIN, MAX_COUNT, MAX_DEPTH,
-    MAX_MEMORY,
+    MAX_MEMORY, MAX_STORE,
 };
 pub use writing::Writing;

@@ -21,7 +21,8 @@ pub struct Opening {
 
 impl Opening {
     /// A new opening of a leaf: copies what the store holds of it to the first [`opening_size`](crate::opening_size) bytes of the
-    /// output. The store is a finished run's of the same statement, depth and memory level. Refused with 1, 2, 3, 6, 7.
+    /// output. The store is a finished run's of the same statement and depth, and of this memory level or a higher one, also of 15 to
+    /// 20 from before W-209. Refused with 1, 2, 3, 6, 7.
     pub fn start(
         statement: &[u8; 32],
         depth: u64,

@@ -8,7 +8,7 @@ use std::fmt;
 pub enum Refusal {
     /// Depth n not 1..40.
     Depth = 1,
-    /// Memory level m over min(n, 20).
+    /// Memory level m over min(n, 14).
     MemoryLevel = 2,
     /// Store short.
     ShortStore = 3,
@@ -77,7 +77,7 @@ impl Refusal {
     fn text(self) -> &'static str {
         match self {
             Refusal::Depth => "depth not 1 to 40",
-            Refusal::MemoryLevel => "memory level over the depth or 20",
+            Refusal::MemoryLevel => "memory level over the depth or 14",
             Refusal::ShortStore => "store short",
             Refusal::State => "state that cannot be continued",
             Refusal::TooManyBytes => "over 2^61 - 1 bytes to hash",

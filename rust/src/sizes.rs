@@ -3,9 +3,11 @@
 /// The largest depth.
 pub const MAX_DEPTH: u64 = 40;
 /// The largest memory level.
-pub const MAX_MEMORY: u64 = 20;
+pub const MAX_MEMORY: u64 = 14;
 /// The most challenges, openings or leaves.
 pub const MAX_COUNT: u64 = 200;
+/// The bytes of a store of the largest memory level: no call asks for more.
+pub const MAX_STORE: usize = 1048544;
 /// The bytes of 41 held labels.
 pub const HELD_SIZE: usize = 1312;
 /// The most nodes of a chain.
@@ -68,6 +70,7 @@ pub const fn labels_anew(depth: u64, memory: u64) -> Option<u64> {
     }
 }
 
-// Document 01's table: T5, T8 and T9.
+// Document 01's table: T5, T8 and T9; W-209.
 const _: () = assert!(matches!(store_size(0), Some(32)) && matches!(store_size(10), Some(65504)));
+const _: () = assert!(matches!(store_size(MAX_MEMORY), Some(MAX_STORE)) && store_size(MAX_MEMORY + 1).is_none());
 const _: () = assert!(matches!(file_size(1, 1), Some(131)) && matches!(file_size(40, 200), Some(262468)));

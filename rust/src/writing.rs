@@ -19,8 +19,8 @@ pub struct Writing {
 
 impl Writing {
     /// Begins a file of `count` openings over the front of `file`: writes its head and what the store holds of the first opening,
-    /// and of the next ones where nothing is to be labelled anew. The store is a finished run's of the same statement, depth and
-    /// memory level, and the root its root. Refused with 1, 2, 3, 8, 7 (the whole file must fit), which changes nothing.
+    /// and of the next ones where nothing is to be labelled anew. The store is a finished run's as for an
+    /// [`Opening`], and the root its root. Refused with 1, 2, 3, 8, 7 (the whole file must fit), which changes nothing.
     pub fn start(
         statement: &[u8; 32],
         root: &[u8; 32],

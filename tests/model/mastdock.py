@@ -2,7 +2,7 @@
 hashlib's. Nothing of it comes from the proved code; it is slow and simple."""
 import hashlib
 
-MAX_DEPTH, MAX_MEMORY, MAX_COUNT, PLACES = 40, 20, 200, 41
+MAX_DEPTH, MAX_MEMORY, MAX_COUNT, PLACES = 40, 14, 200, 41
 ZERO = bytes(32)
 
 

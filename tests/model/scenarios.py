@@ -48,7 +48,7 @@ def progress(parts):
 
 def seal(folder, report, proof, depth, challenges="150", memory=None):
     n, t = number(depth, 1, md.MAX_DEPTH), number(challenges, 1, md.MAX_COUNT)
-    m = n and (min(n, 14) if memory is None else number(memory, 0, min(n, 14)))
+    m = n and (min(n, md.MAX_MEMORY) if memory is None else number(memory, 0, min(n, md.MAX_MEMORY)))
     text = folder.read(report)
     if None in (n, t, m, text) or not folder.may_make(proof):
         return "", ""

@@ -35,7 +35,7 @@ depth-some n e = range-of 1 maxDepth n e .0
 pub depth-inside : (n : ℕ) → outside 1 maxDepth n ≡ false → n ≤ maxDepth
 depth-inside n e = range-of 1 maxDepth n e .1
 
--- m over min(n, 20)
+-- m over min(n, maxMemory)
 pub over-depth : (n m : ℕ) → n < m → true ≡ memoryOver n m
 over-depth n m h = sym (lt-ltb (min n maxMemory) m (omega arith))
 

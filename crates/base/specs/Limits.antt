@@ -5,9 +5,9 @@ use Prim.Native.Nat.{ℕ, _+_, _-_, _*_, _^_, _≤_, min}
 abbrev pub maxDepth : ℕ
 maxDepth = 40
 
--- the greatest memory level m; a run's is also at most its depth
+-- the greatest memory level m, 20 before W-209; a run's is also at most its depth
 abbrev pub maxMemory : ℕ
-maxMemory = 20
+maxMemory = 14
 
 -- the most challenges of a file, and leaves of a plan
 abbrev pub maxChallenges : ℕ
@@ -29,6 +29,10 @@ maxInput = 65536
 abbrev pub heldSize : ℕ
 heldSize = 32 * (maxDepth + 1)
 
+-- 'so that no run needs a store over 1,048,544 bytes' (W-209)
+abbrev pub maxStore : ℕ
+maxStore = 32 * (2 ^ (maxMemory + 1) - 1)
+
 -- the longest input of a label: 41 bytes and the labels of as many parents as there are levels, 1,321 bytes
 abbrev pub maxLabelInput : ℕ
 maxLabelInput = 41 + 32 * maxDepth
@@ -44,19 +48,12 @@ maxFile = 68 + maxOpenings
 abbrev pub maxChain : ℕ
 maxChain = 6855
 
--- the greatest memory level that the program's own store holds, and its bytes
-abbrev pub ownLevel : ℕ
-ownLevel = 14
-
-abbrev pub ownStore : ℕ
-ownStore = 32 * (2 ^ (ownLevel + 1) - 1)
-
 -- ---- within the limits
 -- n from 1 to 40
 abbrev pub IsDepth : ℕ → Type 0
 IsDepth n = (1 ≤ n) × (n ≤ maxDepth)
 
--- m at most min(n, 20)
+-- m at most min(n, maxMemory)
 abbrev pub IsMemory : ℕ → ℕ → Type 0
 IsMemory n m = m ≤ min n maxMemory
 

@@ -11,7 +11,7 @@ use Rattle.base.specs.declared.refusal.Check.the-variants.{Accepted, Rej
 abbrev pub numberOf : Refusal → ℕ
 -- n not 1..40
 numberOf Depth = 1
--- m over min(n, 20)
+-- m over min(n, maxMemory)
 numberOf MemoryLevel = 2
 -- store short
 numberOf ShortStore = 3

@@ -16,7 +16,7 @@ firstOf (check ∷ row) = pick (check .0) (check .1) (firstOf row)
 abbrev pub outside : ℕ → ℕ → ℕ → Bool
 outside low high x = not (both (leb low x) (leb x high))
 
--- 2: m over min(n, 20)
+-- 2: m over min(n, maxMemory)
 abbrev pub memoryOver : ℕ → ℕ → Bool
 memoryOver n m = ltb (min n maxMemory) m
 

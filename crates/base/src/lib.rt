@@ -18,7 +18,7 @@ pub use refusal::outcome_number;
 // Document 01's limits and the sizes that follow from them: specs/Limits.antt says what each one is.
 pub const MAX_DEPTH: u64 = 40;
 
-pub const MAX_MEMORY: u64 = 20;
+pub const MAX_MEMORY: u64 = 14;
 
 pub const MAX_CHALLENGES: u64 = 200;
 
@@ -30,13 +30,11 @@ pub const MAX_INPUT: usize = 65536;
 
 pub const HELD_SIZE: usize = 32 * (MAX_DEPTH as usize + 1);
 
+pub const MAX_STORE: usize = 32 * (2 * (1 << MAX_MEMORY) - 1);
+
 pub const MAX_FILE: usize = 68 + MAX_LEAVES * HELD_SIZE;
 
 pub const MAX_CHAIN: usize = 6855;
-
-pub const OWN_LEVEL: u64 = 14;
-
-pub const OWN_STORE: usize = 32 * (2 * (1 << OWN_LEVEL) - 1);
 
 // Writes src over dst from `at` on. Its callers know that it fits.
 pub fn put(dst: &mut [u8], at: usize, src: &[u8])

@@ -26,11 +26,10 @@ pub fn advise(problem: Problem, err: i32) {
         ),
         Problem::Depth => complain(err, b"DEPTH", b"must be a number from 1 to 40"),
         Problem::Challenges => complain(err, b"CHALLENGES", b"must be a number from 1 to 200"),
-        Problem::Memory => complain(err, b"MEMORY", b"must be a number from 0 to DEPTH"),
-        Problem::Store => complain(
+        Problem::Memory => complain(
             err,
             b"MEMORY",
-            b"at most 14: the program's own store holds levels 0 to 14",
+            b"must be a number from 0 to 14, at most DEPTH",
         ),
     }
 }

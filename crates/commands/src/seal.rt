@@ -3,7 +3,7 @@ ghost use mathlib.Core.Path.{_≡_};
 ghost use Rattle.words.specs.declared.Words.the-variants.{Right};
 ghost use Rattle.words.specs.Orders.{sealRow};
 use crate::advice::note_empty;
-use base::OWN_STORE;
+use base::MAX_STORE;
 use files::Part;
 use files::empty_file;
 use files::is_free;
@@ -18,9 +18,9 @@ use lines::say;
 use sealing::all_labels;
 use sealing::make_proof;
 
-// The store of memory level 14.
-fn empty_store() -> [u8; OWN_STORE] {
-    [0u8; OWN_STORE]
+// A store for every memory level.
+fn empty_store() -> [u8; MAX_STORE] {
+    [0u8; MAX_STORE]
 }
 
 // The last fact, and a complaint if it could not be written.

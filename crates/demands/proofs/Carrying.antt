@@ -1,8 +1,10 @@
 -- Calls that are carried to an end: one law for labelling, opening and writing, which are machines.
 use mathlib.Core.Path.{_≡_, sym, subst}
 use Prim.Native.Nat.{ℕ}
+use native.Mathlib.Omega.{arith}
 use mathlib.Core.List.{List}
 use lib.ListN.{length}
+use Rattle.base.specs.Limits.{IsMemory}
 use Rattle.machine.specs.Machines as machines
 use Rattle.machine.specs.Machines.{Machine, Goes}
 use Rattle.machine.proofs.CallLaws.{calls-report, calls-done, calls-next}
@@ -25,9 +27,12 @@ carried-out machine start all goes =
     }
 
 -- ---- labelling
+pub allowed : (n m store : ℕ) → InBounds n m store → IsMemory n m
+allowed n m store bounds = omega (arith, bounds .memory)
+
 pub startable : (n m store : ℕ) → InBounds n m store → Startable n m store
 startable n m store bounds =
-    record { positive = bounds .depth .0; shallow = bounds .depth .1; memory = bounds .memory; enough = bounds .room }
+    record { positive = bounds .depth .0; shallow = bounds .depth .1; memory = allowed n m store bounds; enough = bounds .room }
 
 pub run-started :
     (statement : List ℕ) (n m : ℕ) (store : List ℕ) → InBounds n m (length store)

@@ -7,10 +7,10 @@ use mathlib.Core.Bool.{Bool, true, false, not}
 use mathlib.Core.List.{List, [], _∷_}
 use lib.Dec.{ltb, leb, eqb}
 use lib.ListN.{length, getD}
-use borrow.Author.Tests.{leb-true, leb-false}
+use borrow.Author.Tests.{ltb-true, ltb-false, leb-true, leb-false}
 use Rattle.base.specs.Choice.{pick, both, every}
 use Rattle.base.specs.Bytes.{zeros}
-use Rattle.base.specs.Limits.{maxHashed, edition}
+use Rattle.base.specs.Limits.{maxMemory, maxHashed, edition}
 use Rattle.base.specs.Row.{outside, either, memoryOver}
 use Rattle.base.proofs.RowLaws.{some-refused}
 use Rattle.sha256.specs.declared.Hash.{Hash}
@@ -40,7 +40,7 @@ use Rattle.writing.specs.declared.Writing.{Writing}
 use Rattle.writing.specs.Rows.{writeRow, rewriteRow}
 use Rattle.writing.specs.Steps as writings
 use Rattle.writing.specs.Steps.{writingMachine}
-use Rattle.demands.specs.Rows.{IsFirst, Outside, Impossible, planningChain, ImpossibleFile}
+use Rattle.demands.specs.Rows.{IsFirst, Outside, MemoryOver, Impossible, planningChain, ImpossibleFile}
 use Rattle.run_theory.proofs.Idle.{run-none, run-same, opening-none, opening-same}
 use Rattle.demands.specs.Demand1.{HashingPortion, HashingEnd, HashingWhole, StartingRun, ContinuingRun, StartingOpening, ContinuingOpening}
 use Rattle.demands.specs.Demand1.{AChallenge, WritingHead, OneOpening, PlanningChain, StartingFile, ContinuingFile}
@@ -51,8 +51,12 @@ use Rattle.demands.proofs.Decisions.{decides-over, decides-either, deci
 abbrev pub depth : ℕ → Decided
 depth n = record { test = outside 1 40 n; condition = Outside 1 40 n; decides = decides-outside 1 40 n; number = 1 }
 
+decides-memory : (n m : ℕ) → Decides (memoryOver n m) (MemoryOver n m)
+decides-memory n m =
+    record { yes = λ e. omega (arith, ltb-true (min n maxMemory) m e); no = λ e over. omega (arith, ltb-false (min n maxMemory) m e) }
+
 abbrev memory : ℕ → ℕ → Decided
-memory n m = record { test = memoryOver n m; condition = min n 20 < m; decides = decides-lt (min n 20) m; number = 2 }
+memory n m = record { test = memoryOver n m; condition = MemoryOver n m; decides = decides-memory n m; number = 2 }
 
 abbrev room : ℕ → ℕ → Decided
 room m store =
@@ -79,7 +83,7 @@ count t = record { test = outside 1 200 t; condition = Outside 1 200 t; decides 
 
 decides-impossible : (n m made all : ℕ) → Decides (impossible n m made all) (Impossible n m made all)
 decides-impossible n m made all =
-    decides-either (decides-outside 1 40 n) (decides-either (decides-lt (min n 20) m) (decides-lt all made))
+    decides-either (decides-outside 1 40 n) (decides-either (decides-memory n m) (decides-lt all made))
 
 -- ---- runs
 pub starting-run : (statement : List ℕ) (n m store : ℕ) → StartingRun statement n m store

@@ -21,11 +21,12 @@ use Rattle.opening.specs.Steps as openings
 use Rattle.file_head.specs.Challenge.{challengeInput, challengeLeaf, challenged}
 use Rattle.file_head.specs.Layout.{fileSize}
 use Rattle.machine.specs.Calls.{total, afterCalls}
-use Rattle.run_theory.specs.Runs.{atStart, called, reachedAt}
+use Rattle.run_theory.specs.Runs.{LevelsFit, atStart, called, reachedAt}
 use Rattle.run_theory.specs.Openings.{Openable, newOpen}
-use Rattle.run_theory.proofs.RunLaws.{run-reached, called-cut, finished-store}
+use Rattle.run_theory.proofs.StartLaws.{levels-fit}
+use Rattle.run_theory.proofs.RunLaws.{run-reached, called-cut}
 use Rattle.run_theory.proofs.OpeningCalls.{started-fits, startedOut-fits}
-use Rattle.run_theory.proofs.Finished.{finished-length, finished-opening}
+use Rattle.run_theory.proofs.Finished.{finished-length, finished-holds, finished-opening}
 use Rattle.check_theory.specs.TreeFile.{treeFile, openingOf}
 use Rattle.file_head.proofs.Leaves.{challengeLeaf-small}
 use Rattle.file_head.proofs.RowLaws.{challenge-done}
@@ -33,10 +34,11 @@ use Rattle.check_theory.proofs.RowLaws.{opening-done, done-opening}
 use Rattle.check_theory.proofs.TreeFile.{opening-size, opening-right, length-treeFile}
 use Rattle.check_theory.proofs.Accepted.{exactly-proofs}
 use Rattle.writing_theory.specs.Filed.{fileFrom}
-use Rattle.writing_theory.proofs.Finished.{run-to-file, run-to-file-accepted}
+use Rattle.writing_theory.proofs.Laid.{front-accepted}
+use Rattle.writing_theory.proofs.Finished.{run-to-file}
 use Rattle.demands.specs.Demand1.{InBounds, startedOpening}
 use Rattle.demands.specs.Demand2.{StatementIs, LabelsAre, runFrom, RunLabels, ChallengeIs, openingFrom, OpeningIs, filedFrom, FileIs, Demand2}
-use Rattle.demands.proofs.Carrying.{startable, run-started}
+use Rattle.demands.proofs.Carrying.{allowed, startable, run-started}
 
 -- ---- statement
 at-once : (m : List ℕ) → length m ≤ maxHashed → (digestRow m ≡ 0) × (digestAnswer m ≡ digest m)
@@ -58,6 +60,9 @@ labels-are statement n =
       equation = label-labels (stampRule edition n statement) n;
       only = λ labelOf meets. labelling-unique (stampRule edition n statement) n labelOf meets;
     }
+
+fit-bounds : (n m store : ℕ) → InBounds n m store → LevelsFit n m store
+fit-bounds n m store bounds = levels-fit n m store (startable n m store bounds)
 
 module _ (statement : List ℕ) (n m : ℕ) (store : List ℕ) (bounds : InBounds n m (length store)) where
   run-called : (budgets : List ℕ) → runFrom statement n m store budgets ≡ called (atStart statement n m store) budgets
@@ -85,7 +90,7 @@ module _ (statement : List ℕ) (n m : ℕ) (store : List ℕ) (bounds : InBound
         stored = ap (λ (s : Stamped). s .store) (run-at budgets);
         slots =
             λ all v inTree low.
-            rw (run-finished budgets all) (finished-store statement n m store (startable n m (length store) bounds) v inTree low);
+            rw (run-finished budgets all) (finished-holds statement n m store (fit-bounds n m (length store) bounds) m (omega arith) v (low, inTree .1));
       }
 
 -- ---- challenges
@@ -113,56 +118,58 @@ module _ (statement : List ℕ) (n leaf : ℕ) (out : List ℕ) (inside : leaf <
         right = rw front (opening-right edition statement n leaf inside);
       }
 
-  module _ (m : ℕ) (store labelling budgets : List ℕ) (bounds : InBounds n m (length store)) (fits : 32 * (n + 1) ≤ length out) where
-    -- the opening from a finished run's store
-    opening-finished :
-        nodesAnew n m ≤ total budgets
-        → openingFrom (runs.steps (nodesIn n) (atStart statement n m store)) statement n m leaf out budgets
-        ≡ openingOf edition statement n leaf ++ drop (32 * (n + 1)) out
-    opening-finished enough =
-        let s = startable n m (length store) bounds in
-        let after : List ℕ = runs.steps (nodesIn n) (atStart statement n m store) .store in
-        ap (λ (o : openings.Open). afterCalls (openings.advanced after) o budgets .out)
-        (opening-started statement n m leaf after out
-        (record {
-          depth = bounds .depth;
-          memory = bounds .memory;
-          storeFits = omega (arith, bounds .room, finished-length statement n m store s);
-          position = inside;
-          outFits = fits;
-        }))
-        ∙ finished-opening statement n m store s leaf out inside fits budgets enough
+  -- the opening from a finished run's store, at the run's level and at every lower one
+  pub opening-lower :
+      (m lower : ℕ) (store budgets : List ℕ) → LevelsFit n m (length store) → lower ≤ m → InBounds n lower (length store)
+      → 32 * (n + 1) ≤ length out → nodesAnew n lower ≤ total budgets
+      → OpeningIs statement n leaf out (openingFrom (runs.steps (nodesIn n) (atStart statement n m store)) statement n lower leaf out budgets)
+  opening-lower m lower store budgets fit le bounds room enough =
+      let after : List ℕ = runs.steps (nodesIn n) (atStart statement n m store) .store in
+      let fits : Openable n lower leaf (length after) (length out) =
+      record {
+        depth = bounds .depth;
+        memory = allowed n lower (length store) bounds;
+        storeFits = omega (arith, bounds .room, finished-length statement n m store fit);
+        position = inside;
+        outFits = room;
+      } in
+      rw
+      (ap (λ (o : openings.Open). afterCalls (openings.advanced after) o budgets .out) (opening-started statement n lower leaf after out fits)
+      ∙ finished-opening statement n m store fit lower leaf out le fits budgets enough)
+      tree-opening
 
-    opening-is :
-        nodesIn n ≤ total labelling → nodesAnew n m ≤ total budgets
-        → OpeningIs statement n leaf out (openingFrom (runFrom statement n m store labelling) statement n m leaf out budgets)
-    opening-is all enough = rw (run-finished statement n m store bounds labelling all, opening-finished enough) tree-opening
+  opening-is :
+      (m : ℕ) (store labelling budgets : List ℕ) → InBounds n m (length store) → 32 * (n + 1) ≤ length out
+      → nodesIn n ≤ total labelling → nodesAnew n m ≤ total budgets
+      → OpeningIs statement n leaf out (openingFrom (runFrom statement n m store labelling) statement n m leaf out budgets)
+  opening-is m store labelling budgets bounds room all enough =
+      rw (run-finished statement n m store bounds labelling all)
+      (opening-lower m m store budgets (fit-bounds n m (length store) bounds) (omega arith) bounds room enough)
 
 -- ---- the file
+pub tree-file :
+    (statement : List ℕ) (n t : ℕ) (bytes : List ℕ) → length statement ≡ 32 → IsDepth n → IsCount t
+    → FileIs statement n t bytes (treeFile edition statement n t ++ drop (fileSize n t) bytes)
+unfolding treeFile
+tree-file statement n t bytes size depth count =
+    let whole : length (treeFile edition statement n t) ≡ fileSize n t = length-treeFile edition statement n t (omega (arith, depth)) size in
+    record {
+      same = take-at (treeFile edition statement n t) (drop (fileSize n t) bytes) (fileSize n t) whole;
+      behind = drop-at (treeFile edition statement n t) (drop (fileSize n t) bytes) (fileSize n t) whole;
+      accepted = front-accepted statement n t (drop (fileSize n t) bytes) size depth count;
+    }
+
 module _
     (statement : List ℕ) (n m t : ℕ) (store file labelling budgets : List ℕ) (size : length statement ≡ 32)
     (bounds : InBounds n m (length store)) (count : IsCount t) (fits : fileSize n t ≤ length file) (all : nodesIn n ≤ total labelling)
     (enough : t * nodesAnew n m ≤ total budgets) where
-  filed-called :
-      filedFrom statement n m t store file labelling budgets
-      ≡ fileFrom (called (atStart statement n m store) labelling) statement n m t file budgets
-  filed-called = ap (λ (s : Stamped). fileFrom s statement n m t file budgets) (run-called statement n m store bounds labelling)
-
   filed-tree : filedFrom statement n m t store file labelling budgets ≡ treeFile edition statement n t ++ drop (fileSize n t) file
   filed-tree =
-      filed-called ∙ run-to-file statement n m store (startable n m (length store) bounds) t file size count fits labelling budgets all enough
+      ap (λ (s : Stamped). fileFrom s statement n m t file budgets) (run-called statement n m store bounds labelling)
+      ∙ run-to-file statement n m store (startable n m (length store) bounds) t file size count fits labelling budgets all enough
 
   file-is : FileIs statement n t file (filedFrom statement n m t store file labelling budgets)
-  unfolding treeFile
-  file-is =
-      let whole : length (treeFile edition statement n t) ≡ fileSize n t = length-treeFile edition statement n t (omega arith) size in
-      record {
-        same = rw filed-tree (take-at (treeFile edition statement n t) (drop (fileSize n t) file) (fileSize n t) whole);
-        behind = rw filed-tree (drop-at (treeFile edition statement n t) (drop (fileSize n t) file) (fileSize n t) whole);
-        accepted =
-            rw filed-called
-            (run-to-file-accepted statement n m store (startable n m (length store) bounds) t file size count fits labelling budgets all enough);
-      }
+  file-is = rw filed-tree (tree-file statement n t file size (bounds .depth) count)
 
 pub demand2 : Demand2
 unfolding nodesIn

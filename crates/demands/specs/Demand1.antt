@@ -43,7 +43,8 @@ use Rattle.demands.specs.Rows.{IsFirst, hashing, startingRun, continuing
 use Rattle.demands.specs.Rows.{oneOpening, aHead, aFile, planningChain, drawingChain, planningProgram, comparing, readingNumber, writingNumber}
 use Rattle.demands.specs.Rows.{startingFile, continuingFile}
 
--- ---- 'Labelling, opening and writing can be carried to their end for every depth 1..40, memory level 0..min(depth, 20) ..'
+-- ---- 'Labelling, opening and writing can be carried to their end for every depth 1..40, memory level 0..min(depth, 20) ..'.
+-- W-209: 'Make that [14] the limit, in demand 1 too'.
 
 -- Calls with any budgets, one after the other: none is refused, together they make the budgets' sum of labels, up to `all`, and the
 -- next makes the smaller of its budget and what remains.
@@ -66,7 +67,7 @@ startedFile statement root n m t store file = writings.started statement root n 
 -- a depth, with a memory level that it allows and a store for it
 pub record InBounds (n m store : ℕ) : Type 0 where
   pub depth : (1 ≤ n) × (n ≤ 40)
-  pub memory : m ≤ min n 20
+  pub memory : m ≤ min n 14
   pub room : 32 * (2 ^ (m + 1) - 1) ≤ store
 
 -- the run labels all 2^(n+1) − 1 nodes

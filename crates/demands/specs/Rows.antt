@@ -38,15 +38,19 @@ Outside low high x = (low ≤ x) × (x ≤ high) → ⊥
 abbrev pub hashing : ℕ → ℕ → Row
 hashing taken more = (2 ^ 61 - 1 < taken + more, 5) ∷ []
 
--- | Starting a run | 1: n not 1..40; 2: m over min(n, 20); 3: store short |
+-- m over min(n, 20). W-209: 'Number 2 now means over the smaller of depth and 14'.
+abbrev pub MemoryOver : ℕ → ℕ → Type 0
+MemoryOver n m = min n 14 < m
+
+-- | Starting a run | 1: n not 1..40; 2: m over min(n, 20), now 14; 3: store short |
 abbrev pub startingRun : ℕ → ℕ → ℕ → Row
-startingRun n m store = (Outside 1 40 n, 1) ∷ (min n 20 < m, 2) ∷ (store < 32 * (2 ^ (m + 1) - 1), 3) ∷ []
+startingRun n m store = (Outside 1 40 n, 1) ∷ (MemoryOver n m, 2) ∷ (store < 32 * (2 ^ (m + 1) - 1), 3) ∷ []
 
--- n not 1..40, m over min(n, 20), or more labels made than there are to make
+-- n not 1..40, m over its limit, or more labels made than there are to make
 abbrev pub Impossible : ℕ → ℕ → ℕ → ℕ → Type 0
-Impossible n m made all = Outside 1 40 n ⊎ ((min n 20 < m) ⊎ (all < made))
+Impossible n m made all = Outside 1 40 n ⊎ (MemoryOver n m ⊎ (all < made))
 
--- | Continuing a run | 4: n not 1..40, m over min(n, 20), or more labels made than there are to make; 3 |
+-- | Continuing a run | 4: n not 1..40, m over min(n, 20), now 14, or more labels made than there are to make; 3 |
 abbrev pub continuingRun : Run → ℕ → Row
 continuingRun run store =
     (Impossible (run .depth) (run .memory) (run .made) (2 ^ (run .depth + 1) - 1), 4)
@@ -57,7 +61,7 @@ continuingRun run store =
 abbrev pub startingOpening : ℕ → ℕ → ℕ → ℕ → ℕ → Row
 startingOpening n m leaf store out =
     (Outside 1 40 n, 1)
-    ∷ (min n 20 < m, 2)
+    ∷ (MemoryOver n m, 2)
     ∷ (store < 32 * (2 ^ (m + 1) - 1), 3)
     ∷ (2 ^ n ≤ leaf, 6)
     ∷ (out < 32 * (n + 1), 7)
@@ -235,7 +239,7 @@ writingNumber out at x = (length out < at + length (groupsOf x), 7) ∷ []
 abbrev pub startingFile : ℕ → ℕ → ℕ → ℕ → ℕ → Row
 startingFile n m t store file =
     (Outside 1 40 n, 1)
-    ∷ (min n 20 < m, 2)
+    ∷ (MemoryOver n m, 2)
     ∷ (store < 32 * (2 ^ (m + 1) - 1), 3)
     ∷ (Outside 1 200 t, 8)
     ∷ (file < fileSize n t, 7)

@@ -1,10 +1,12 @@
 // Refusals of starting and continuing to write a file, at their edges.
 use base::outcome_number;
 use opening::Opening;
+use vector_helpers::LEVEL_EDGES;
 use vector_helpers::column;
 use vector_helpers::digest_column;
 use vector_helpers::flag_digest;
 use vector_helpers::hash;
+use vector_helpers::level_edge;
 use vector_helpers::named;
 use writing::Writing;
 
@@ -66,25 +68,30 @@ fn whole(writing: Writing) {
     digest_column(&held);
 }
 
+// Room for every memory level.
+fn space() -> [u8; 1048544] {
+    [1u8; 1048544]
+}
+
 fn starts_at(n: u64, m: u64, t: u64, store: usize, file: usize) {
-    let space = [1u8; 4064];
-    let mut output = [2u8; 1024];
-    if 4064 < store {
+    let space = space();
+    let mut output = [2u8; 1379];
+    if 1048544 < store {
         return;
     }
-    if 1024 < file {
+    if 1379 < file {
         return;
     }
     starts(n, m, t, &space[..store], &mut output[..file]);
 }
 
 fn continues_at(writing: Writing, store: usize, file: usize) {
-    let space = [1u8; 4064];
-    let mut output = [2u8; 1024];
-    if 4064 < store {
+    let space = space();
+    let mut output = [2u8; 1379];
+    if 1048544 < store {
         return;
     }
-    if 1024 < file {
+    if 1379 < file {
         return;
     }
     continues(writing, &space[..store], &mut output[..file]);
@@ -140,7 +147,18 @@ fn continuing() {
     edge(3, 1, 2, 1, 7, 18446744073709551615, 96, 323);
 }
 
+// The edges of the memory level's limit.
+fn level_edges() {
+    let mut i: usize = 0;
+    while i < LEVEL_EDGES {
+        let at = level_edge(i);
+        edge(at.depth, at.memory, 1, 1, 0, 0, at.store, 1379);
+        i += 1;
+    }
+}
+
 pub fn edges() {
     starting();
     continuing();
+    level_edges();
 }

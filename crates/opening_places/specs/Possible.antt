@@ -7,7 +7,7 @@ use Rattle.base.specs.Limits.{maxDepth, maxMemory}
 use Rattle.tree.specs.Nodes.{node}
 use Rattle.opening_places.specs.Places.{labelIn}
 
--- n is 1 to 40, m at most min(n, 20), and the leaf one of the tree of depth n
+-- n is 1 to 40, m at most min(n, maxMemory), and the leaf one of the tree of depth n
 pub record Possible (n m leaf : ℕ) : Type 0 where
   pub some : 1 ≤ n
   pub deep : n ≤ maxDepth
@@ -15,7 +15,7 @@ pub record Possible (n m leaf : ℕ) : Type 0 where
   pub kept : m ≤ maxMemory
   pub inside : leaf < 2 ^ n
 
--- the bytes of the left siblings' labels on levels 1 to m, at most: 640
+-- the bytes of the left siblings' labels on levels 1 to m, at most: 448
 abbrev pub frontSize : ℕ
 frontSize = 32 * maxMemory
 

@@ -9,14 +9,14 @@ use Rattle.tree.specs.Walk.{nodesIn}
 use Rattle.tree.specs.Store.{storeSize}
 use Rattle.run.specs.declared.Run.{Run}
 
--- 1: n not 1..40; 2: m over min(n, 20); 3: store short. An opening and a file are started with these and more.
+-- 1: n not 1..40; 2: m over min(n, maxMemory); 3: store short. An opening and a file are started with these and more.
 abbrev pub startChecks : ℕ → ℕ → ℕ → List (Bool × ℕ)
 startChecks n m store = (outside 1 maxDepth n, 1) ∷ (memoryOver n m, 2) ∷ (ltb store (storeSize m), 3) ∷ []
 
 unfoldable pub startRow : ℕ → ℕ → ℕ → ℕ
 startRow n m store = firstOf (startChecks n m store)
 
--- n not 1..40, m over min(n, 20), or more labels made than there are to make
+-- n not 1..40, m over min(n, maxMemory), or more labels made than there are to make
 abbrev pub impossible : ℕ → ℕ → ℕ → ℕ → Bool
 impossible n m made total = either (outside 1 maxDepth n) (either (memoryOver n m) (ltb total made))
 

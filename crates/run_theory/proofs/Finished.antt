@@ -1,6 +1,7 @@
--- From a finished run to an opening: its store holds what the opening reads, so the opening is the tree's.
+-- From a finished run to an opening: its store holds what the opening reads, so the opening is the tree's. Slots do not depend on the
+-- level: a store of level m serves every lower one.
 use mathlib.Core.Path.{_≡_, ap, _∙_}
-use Prim.Native.Nat.{ℕ, _≤_, _<_, _^_}
+use Prim.Native.Nat.{ℕ, _≤_}
 use native.Mathlib.Omega.{arith}
 use mathlib.Core.List.{List, _++_}
 use lib.ListN.{length, drop}
@@ -11,39 +12,35 @@ use Rattle.tree.specs.Openings.{openingNodes, openingSize}
 use Rattle.run.specs.Steps.{Stamped, steps}
 use Rattle.opening.specs.Rows.{nodesAnew}
 use Rattle.opening.specs.Steps as opening
-use Rattle.run_theory.specs.Reached.{labelsOf}
-use Rattle.run_theory.specs.Runs.{Startable, atStart}
-use Rattle.run_theory.specs.Openings.{HoldsLabels, newOpen}
-use Rattle.run_theory.proofs.StoreLaws.{store-length}
-use Rattle.run_theory.proofs.RunLaws.{run-reached, finished-store}
+use Rattle.run_theory.specs.Reached.{labelsOf, storeAfter}
+use Rattle.run_theory.specs.Runs.{LevelsFit, atStart}
+use Rattle.run_theory.specs.Openings.{HoldsLabels, Openable, newOpen}
+use Rattle.run_theory.proofs.StoreLaws.{store-length, store-whole}
+use Rattle.run_theory.proofs.RunLaws.{run-reached}
 use Rattle.run_theory.proofs.OpeningCalls.{opening-carried}
 
-module _ (statement : List ℕ) (n m : ℕ) (store : List ℕ) (startable : Startable n m (length store)) where
+module _ (statement : List ℕ) (n m : ℕ) (store : List ℕ) (fit : LevelsFit n m (length store)) where
   -- the store as a finished run leaves it
   abbrev pub finishedStore : List ℕ
   finishedStore = steps (nodesIn n) (atStart statement n m store) .store
 
-  pub finished-holds : HoldsLabels edition statement n m finishedStore
-  finished-holds u inTree =
-      finished-store statement n m store startable u (omega (arith, startable .memory, inTree .0), inTree .1) (inTree .0)
+  finished-is : finishedStore ≡ storeAfter edition statement n m (nodesIn n) store
+  finished-is = ap (λ (s : Stamped). s .store) (run-reached statement n m store (fit .shallow) (nodesIn n) (omega arith))
 
   pub finished-length : length finishedStore ≡ length store
-  finished-length =
-      ap (λ (s : Stamped). length (s .store)) (run-reached statement n m store (startable .shallow) (nodesIn n) (omega arith))
-      ∙ store-length edition statement n m store (startable .enough) (nodesIn n) (omega arith)
+  finished-length = ap length finished-is ∙ store-length edition statement n m store (fit .enough) (nodesIn n) (omega arith)
+
+  -- each node of levels 0 to m has its label in its slot
+  pub finished-holds : (lower : ℕ) → lower ≤ m → HoldsLabels edition statement n lower finishedStore
+  finished-holds lower le u inTree =
+      rw finished-is
+      (store-whole edition statement n m store (fit .enough) u (omega (arith, fit .below, inTree .0), inTree .1) (omega (arith, inTree .0)))
 
   -- Over that store, untouched, any budgets that suffice write the tree's opening, and no byte behind it.
   pub finished-opening :
-      (leaf : ℕ) (out : List ℕ) → leaf < 2 ^ n → openingSize n ≤ length out → (budgets : List ℕ) → nodesAnew n m ≤ total budgets
-      → afterCalls (opening.advanced finishedStore) (newOpen statement n m leaf finishedStore out) budgets .out
+      (lower leaf : ℕ) (out : List ℕ) → lower ≤ m → Openable n lower leaf (length finishedStore) (length out) → (budgets : List ℕ)
+      → nodesAnew n lower ≤ total budgets
+      → afterCalls (opening.advanced finishedStore) (newOpen statement n lower leaf finishedStore out) budgets .out
       ≡ labelsOf edition statement n (openingNodes n leaf) ++ drop (openingSize n) out
-  finished-opening leaf out inside room budgets enough =
-      opening-carried statement n m leaf finishedStore out
-      (record {
-        depth = (startable .positive, startable .shallow);
-        memory = startable .memory;
-        storeFits = omega (arith, startable .enough, finished-length);
-        position = inside;
-        outFits = room;
-      })
-      finished-holds budgets enough
+  finished-opening lower leaf out le fits budgets enough =
+      opening-carried statement n lower leaf finishedStore out fits (finished-holds lower le) budgets enough

@@ -5,7 +5,7 @@ use Prim.Native.Nat.{ℕ, _+_, _-_, _^_, _≤_, _<_, min}
 use native.Mathlib.Nat.{zero-add}
 use native.Mathlib.Omega.{arith}
 use mathlib.Core.List.{List, [], _++_}
-use lib.ListN.{length, take, drop}
+use lib.ListN.{length}
 use Rattle.base.specs.Limits.{edition, maxDepth, heldSize}
 use Rattle.base.specs.Bytes.{zeros, joined}
 use Rattle.machine.specs.Machines.{Goes}
@@ -13,16 +13,15 @@ use Rattle.machine.specs.Calls.{total}
 use Rattle.machine.proofs.StepLaws.{steps-reach, advanced-idle}
 use Rattle.machine.proofs.CallLaws as machines
 use Rattle.machine.proofs.CallLaws.{done-after, advanced-after, finished-done, calls-state, calls-report}
-use Rattle.tree.specs.Nodes.{Node, root, InTree, leftSiblings}
+use Rattle.tree.specs.Nodes.{root, leftSiblings}
 use Rattle.tree.specs.Walk.{nodesIn}
-use Rattle.tree.specs.Store.{slot}
 use Rattle.labelling.specs.Step.{nextNode, nextLabel}
 use Rattle.run.specs.Rows.{continueRow}
 use Rattle.run.specs.Steps.{Stamped, stepped, runMachine, steps, labelsIn, advanced}
 use Rattle.run_theory.specs.Reached.{labelOf, heldBytes, storeAfter, runAfter}
 use Rattle.run_theory.specs.Runs.{Startable, atStart, reachedAt, called, reported}
 use Rattle.run_theory.proofs.Step.{next-label, next-held, held-none, held-top}
-use Rattle.run_theory.proofs.StoreLaws.{store-step, store-start, store-length, store-whole}
+use Rattle.run_theory.proofs.StoreLaws.{store-step, store-start, store-length}
 use Rattle.run_theory.proofs.StartLaws.{continue-done}
 
 -- a call with budget 0 changes nothing, whatever the run
@@ -110,14 +109,6 @@ module _ (statement : List ℕ) (n m : ℕ) (store : List ℕ) (startable : Star
   pub finished-same :
       (budget : ℕ) → advanced (steps (nodesIn n) (atStart statement n m store)) budget ≡ steps (nodesIn n) (atStart statement n m store)
   finished-same = machines.finished-same runMachine (atStart statement n m store) (nodesIn n) run-goes
-
-  -- and each node of levels 0 to m has its label in its slot
-  pub finished-store :
-      (u : Node) → InTree n u → u .level ≤ m
-      → take 32 (drop (slot u) (steps (nodesIn n) (atStart statement n m store) .store)) ≡ labelOf edition statement n u
-  finished-store u inTree low =
-      rw (run-reached statement n m store (startable .shallow) (nodesIn n) (omega arith))
-      (store-whole edition statement n m store (startable .enough) u inTree low)
 
   -- Budgets cut in any way make as many labels as one call with their sum, and give the same state.
   pub called-cut :

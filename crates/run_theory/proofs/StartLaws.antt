@@ -1,6 +1,7 @@
 -- Document 01's rows of a run: a start is done just when its numbers are in their bounds, and then each of its calls is.
 use mathlib.Core.Path.{_≡_, refl, ap}
 use Prim.Native.Nat.{ℕ, _≤_, min}
+use native.Mathlib.Omega.{arith}
 use mathlib.Core.List.{List}
 use lib.Dec.{leb}
 use borrow.Author.Tests.{leb-true, le-leb, ltb-false, le-ltb, not-false}
@@ -14,7 +15,7 @@ use Rattle.tree.specs.Store.{storeSize}
 use Rattle.run.specs.Rows.{startChecks, startRow, continueRow}
 use Rattle.run.specs.Steps.{newRun, noRun, started}
 use Rattle.run_theory.specs.Reached.{runAfter}
-use Rattle.run_theory.specs.Runs.{Startable}
+use Rattle.run_theory.specs.Runs.{Startable, LevelsFit}
 
 module _ (n m size : ℕ) where
   pub start-done : Startable n m size → startRow n m size ≡ 0
@@ -33,6 +34,9 @@ module _ (n m size : ℕ) where
         memory = ltb-false (min n maxMemory) m (none .1 .0);
         enough = ltb-false size (storeSize m) (none .1 .1 .0);
       }
+
+  pub levels-fit : Startable n m size → LevelsFit n m size
+  levels-fit s = record { shallow = s .shallow; below = omega (arith, s .memory); enough = s .enough }
 
   pub started-done : (statement : List ℕ) → startRow n m size ≡ 0 → started statement n m size ≡ newRun statement n m
   unfolding started

@@ -7,11 +7,17 @@ use Rattle.tree.specs.Store.{storeSize}
 use Rattle.run.specs.Steps.{newRun, Stamped, labelsIn, advanced}
 use Rattle.run_theory.specs.Reached.{runAfter, storeAfter}
 
--- n from 1 to 40, m at most min(n, 20), and a store of so many bytes long enough
+-- n from 1 to 40, m at most min(n, maxMemory), and a store of so many bytes long enough
 pub record Startable (n m size : ℕ) : Type 0 where
   pub positive : 1 ≤ n
   pub shallow : n ≤ maxDepth
   pub memory : IsMemory n m
+  pub enough : storeSize m ≤ size
+
+-- levels 0 to m of a tree of depth n fit a store of so many bytes, whatever the limit of m is or was
+pub record LevelsFit (n m size : ℕ) : Type 0 where
+  pub shallow : n ≤ maxDepth
+  pub below : m ≤ n
   pub enough : storeSize m ≤ size
 
 -- a new run with its store, and what they are to be after k labels

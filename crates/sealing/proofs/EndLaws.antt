@@ -8,8 +8,9 @@ use Rattle.base.specs.Limits.{edition}
 use Rattle.tree.specs.Walk.{nodesIn}
 use Rattle.run.specs.declared.Run.{Run}
 use Rattle.run.specs.Steps.{Stamped, steps}
-use Rattle.run_theory.specs.Runs.{Startable, atStart}
+use Rattle.run_theory.specs.Runs.{Startable, LevelsFit, atStart}
 use Rattle.run_theory.specs.Openings.{HoldsLabels}
+use Rattle.run_theory.proofs.StartLaws.{levels-fit}
 use Rattle.run_theory.proofs.RunLaws.{run-reached}
 use Rattle.run_theory.proofs.Finished.{finished-holds, finished-length}
 use Rattle.check_theory.specs.TreeFile.{rootOf}
@@ -21,20 +22,20 @@ startable n m t store file w =
     record { positive = w .depth .0; shallow = w .depth .1; memory = w .memory; enough = w .storeFits }
 
 module _ (statement : List ℕ) (n m t : ℕ) (store : List ℕ) (file : ℕ) (fits : Writable n m t (length store) file) where
-  begun : Startable n m (length store)
-  begun = startable n m t (length store) file fits
+  fit : LevelsFit n m (length store)
+  fit = levels-fit n m (length store) (startable n m t (length store) file fits)
 
   module _ (here : List ℕ) (is-store : here ≡ steps (nodesIn n) (atStart statement n m store) .store) where
     pub holds-labels : HoldsLabels edition statement n m here
-    holds-labels = subst (HoldsLabels edition statement n m) (sym is-store) (finished-holds statement n m store begun)
+    holds-labels = subst (HoldsLabels edition statement n m) (sym is-store) (finished-holds statement n m store fit m (omega arith))
 
     pub still-fits : Writable n m t (length here) file
     still-fits =
-        subst (λ (s : ℕ). Writable n m t s file) (sym (ap length is-store ∙ finished-length statement n m store begun)) fits
+        subst (λ (s : ℕ). Writable n m t s file) (sym (ap length is-store ∙ finished-length statement n m store fit)) fits
 
   module _ (run : Run) (is-run : run ≡ steps (nodesIn n) (atStart statement n m store) .run) where
     pub the-root : (root : List ℕ) → root ≡ take 32 (drop 0 (run .held)) → root ≡ rootOf edition statement n
-    the-root root e = e ∙ ap (λ (r : Run). take 32 (r .held)) is-run ∙ finished-root statement n m store begun
+    the-root root e = e ∙ ap (λ (r : Run). take 32 (r .held)) is-run ∙ finished-root statement n m store fit
 
     pub all-made : run .made ≡ nodesIn n
     all-made =

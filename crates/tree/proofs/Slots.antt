@@ -1,4 +1,4 @@
--- Document 01, 'The store keeps levels 0 to m': no two labels share a byte, and each lies inside the store.
+-- Document 01, 'The store keeps levels 0 to m': no two labels share a byte, each lies inside the store, and no store is longer than the longest.
 use mathlib.Core.Path.{_≡_, refl}
 use mathlib.Core.Logic.{_⊎_, inl, inr}
 use Prim.Native.Nat.{ℕ, suc, _+_, _^_, _≤_, _<_}
@@ -8,6 +8,7 @@ use mathlib.Core.Bool.{Bool, true, false}
 use lib.Dec.{ltb}
 use lib.Pow.{pow-pos, pow-mono}
 use borrow.Author.Tests.{ltb-true, ltb-false}
+use Rattle.base.specs.Limits.{maxMemory, maxStore}
 use Rattle.tree.specs.Nodes.{Node, node, InTree}
 use Rattle.tree.specs.Store.{slot, storeSize}
 
@@ -51,3 +52,7 @@ pub slot-inside : (m : ℕ) (v : Node) → InTree m v → slot v + 32 ≤ storeS
 slot-inside m v inTree =
     let a : 2 ^ (v .level) ≤ 2 ^ m = pow-mono {i = v .level} {j = m} (inTree .0) in
     rw (add-one m) (omega (arith, pow-pos (v .level), inTree .1))
+
+-- 'no run needs a store over 1,048,544 bytes' (W-209)
+pub store-fits : (m : ℕ) → m ≤ maxMemory → storeSize m ≤ maxStore
+store-fits m low = omega (arith, pow-mono {i = m + 1} {j = maxMemory + 1} (omega arith))

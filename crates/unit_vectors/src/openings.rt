@@ -3,10 +3,12 @@
 use base::outcome_number;
 use opening::Opening;
 use sha256::Hash;
+use vector_helpers::LEVEL_EDGES;
 use vector_helpers::column;
 use vector_helpers::finished;
 use vector_helpers::flag_digest;
 use vector_helpers::hash;
+use vector_helpers::level_edge;
 use vector_helpers::named;
 use vector_helpers::named_hex;
 use vector_helpers::open_to_end;
@@ -117,10 +119,15 @@ fn continues(n: u64, m: u64, leaf: u64, made: u64, store: &[u8], out: &mut [u8])
     flag_digest(before, out);
 }
 
+// Room for every memory level.
+fn space() -> [u8; 1048544] {
+    [1u8; 1048544]
+}
+
 fn starts_at(n: u64, m: u64, leaf: u64, store: usize, out: usize) {
-    let space = [1u8; 4064];
+    let space = space();
     let mut output = [2u8; 1313];
-    if 4064 < store {
+    if 1048544 < store {
         return;
     }
     if 1313 < out {
@@ -130,9 +137,9 @@ fn starts_at(n: u64, m: u64, leaf: u64, store: usize, out: usize) {
 }
 
 fn continues_at(n: u64, m: u64, leaf: u64, made: u64, store: usize, out: usize) {
-    let space = [1u8; 4064];
+    let space = space();
     let mut output = [2u8; 1313];
-    if 4064 < store {
+    if 1048544 < store {
         return;
     }
     if 1313 < out {
@@ -180,6 +187,16 @@ fn edges() {
     );
 }
 
+// The edges of the memory level's limit.
+fn level_edges() {
+    let mut i: usize = 0;
+    while i < LEVEL_EDGES {
+        let at = level_edge(i);
+        edge_at(at.depth, at.memory, 0, 0, at.store, 1312);
+        i += 1;
+    }
+}
+
 pub fn openings() {
     depth(1, 2);
     depth(2, 4);
@@ -188,4 +205,5 @@ pub fn openings() {
     depth(5, 32);
     depth(6, 64);
     edges();
+    level_edges();
 }

@@ -5,8 +5,10 @@ use base::outcome_number;
 use run::Advanced;
 use run::Run;
 use sha256::Hash;
+use vector_helpers::LEVEL_EDGES;
 use vector_helpers::flag;
 use vector_helpers::hash;
+use vector_helpers::level_edge;
 use vector_helpers::named;
 use vector_helpers::named_hex;
 
@@ -107,6 +109,16 @@ fn edge_at(depth: u64, memory: u64, made: u64, len: usize) {
     }
 }
 
+// The edges of the memory level's limit.
+fn level_edges() {
+    let mut i: usize = 0;
+    while i < LEVEL_EDGES {
+        let at = level_edge(i);
+        edge_at(at.depth, at.memory, 0, at.store);
+        i += 1;
+    }
+}
+
 pub fn run_edges() {
     edge_at(0, 0, 0, 32);
     edge_at(1, 0, 0, 32);
@@ -115,10 +127,6 @@ pub fn run_edges() {
     edge_at(18446744073709551615, 0, 0, 32);
     edge_at(3, 3, 0, 480);
     edge_at(3, 4, 0, 992);
-    edge_at(40, 20, 0, 32);
-    edge_at(40, 21, 0, 32);
-    edge_at(14, 14, 0, 1048544);
-    edge_at(14, 14, 0, 1048543);
     edge_at(3, 1, 0, 96);
     edge_at(3, 1, 0, 95);
     edge_at(3, 1, 14, 96);
@@ -128,4 +136,5 @@ pub fn run_edges() {
     edge_at(3, 1, 16, 95);
     edge_at(3, 1, 18446744073709551615, 96);
     edge_at(41, 42, 18446744073709551615, 0);
+    level_edges();
 }

@@ -1,6 +1,7 @@
 // What the vector programs share: a line of vectors read, text and numbers printed, and runs, openings and files carried to their end.
 mod carried; // carried.rt: runs and openings
 mod filled; // filled.rt: files, and the leaves of challenges
+mod levels; // levels.rt: the edges of the memory level's limit
 mod show; // show.rt: text, numbers and bytes printed
 mod vectors; // vectors.rt: the fields of a line of vectors
 
@@ -15,6 +16,9 @@ pub use filled::challenged;
 pub use filled::most;
 pub use filled::places_digest;
 pub use filled::write_file;
+pub use levels::LEVEL_EDGES;
+pub use levels::LevelEdge;
+pub use levels::level_edge;
 pub use show::column;
 pub use show::end;
 pub use show::flag;

@@ -1,20 +1,20 @@
 -- An order to seal has passed its row, which gives the bounds of its numbers.
 use mathlib.Core.Path.{_≡_, refl, sym}
-use Prim.Native.Nat.{ℕ, _≤_}
+use Prim.Native.Nat.{ℕ, min}
 use native.Mathlib.Omega.{arith}
 use mathlib.Core.Bool.{Bool, true, false}
 use mathlib.Core.List.{List, [], _∷_}
-use lib.Dec.{ltb, leb, eqb}
+use lib.Dec.{ltb, eqb}
 use lib.ListN.{length}
-use borrow.Author.Tests.{ltb-false, leb-true, not-false}
-use Rattle.base.specs.Choice.{pick, both}
-use Rattle.base.specs.Limits.{maxDepth, maxChallenges, ownLevel, IsDepth, IsCount}
-use Rattle.base.proofs.ChoiceLaws.{both-first, both-second}
-use Rattle.base.specs.Row.{outside}
+use borrow.Author.Tests.{ltb-false}
+use Rattle.base.specs.Choice.{pick}
+use Rattle.base.specs.Limits.{maxDepth, maxMemory, maxChallenges, IsDepth, IsMemory, IsCount}
+use Rattle.base.specs.Row.{outside, memoryOver}
+use Rattle.base.proofs.Ranges.{range-of}
 use Rattle.words.specs.Parting.{wordAt, wordCount}
 use Rattle.words.specs.Values.{valueOf}
 use Rattle.words.specs.declared.Problem.{Problem}
-use Rattle.words.specs.declared.Problem.the-variants.{Depth, Challenges, Memory, Store}
+use Rattle.words.specs.declared.Problem.the-variants.{Depth, Challenges, Memory}
 use Rattle.words.specs.declared.Words.{Words}
 use Rattle.words.specs.declared.Words.the-variants.{Right, Wrong}
 use Rattle.words.specs.declared.Order.{Order}
@@ -91,22 +91,16 @@ module _ (n t m : ℕ) where
 pub record Sealing (n t m : ℕ) : Type 0 where
   pub depth : IsDepth n
   pub count : IsCount t
-  pub memory : (m ≤ n) × (m ≤ ownLevel)
-
-inside : (low high x : ℕ) → outside low high x ≡ false → (low ≤ x) × (x ≤ high)
-inside low high x e =
-    let b : both (leb low x) (leb x high) ≡ true = not-false _ e in
-    (leb-true low x (both-first (leb low x) (leb x high) b), leb-true x high (both-second (leb low x) (leb x high) b))
+  pub memory : IsMemory n m
 
 pub seal-bounds : (n t m : ℕ) → sealRow n t m ≡ Right → Sealing n t m
 unfolding sealRow
-seal-bounds n t m = go (outside 1 maxDepth n) (outside 1 maxChallenges t) (ltb n m) (ltb ownLevel m) refl refl refl refl
+seal-bounds n t m = go (outside 1 maxDepth n) (outside 1 maxChallenges t) (memoryOver n m) refl refl refl
   where
-    go : (a b c d : Bool) → outside 1 maxDepth n ≡ a → outside 1 maxChallenges t ≡ b → ltb n m ≡ c → ltb ownLevel m ≡ d
-        → firstOf ((a, Depth) ∷ (b, Challenges) ∷ (c, Memory) ∷ (d, Store) ∷ []) ≡ Right → Sealing n t m
-    go true b c d ea eb ec ed e = absurd (wrong-right Depth e)
-    go false true c d ea eb ec ed e = absurd (wrong-right Challenges e)
-    go false false true d ea eb ec ed e = absurd (wrong-right Memory e)
-    go false false false true ea eb ec ed e = absurd (wrong-right Store e)
-    go false false false false ea eb ec ed e =
-        record { depth = inside 1 maxDepth n ea; count = inside 1 maxChallenges t eb; memory = (ltb-false n m ec, ltb-false ownLevel m ed) }
+    go : (a b c : Bool) → outside 1 maxDepth n ≡ a → outside 1 maxChallenges t ≡ b → memoryOver n m ≡ c
+        → firstOf ((a, Depth) ∷ (b, Challenges) ∷ (c, Memory) ∷ []) ≡ Right → Sealing n t m
+    go true b c ea eb ec e = absurd (wrong-right Depth e)
+    go false true c ea eb ec e = absurd (wrong-right Challenges e)
+    go false false true ea eb ec e = absurd (wrong-right Memory e)
+    go false false false ea eb ec e =
+        record { depth = range-of 1 maxDepth n ea; count = range-of 1 maxChallenges t eb; memory = ltb-false (min n maxMemory) m ec }

@@ -6,12 +6,12 @@ use lib.Dec.{ltb, eqb}
 use lib.ListN.{length}
 use Rattle.base.specs.Choice.{pick, both}
 use Rattle.base.specs.Lists.{sameBytes}
-use Rattle.base.specs.Limits.{maxDepth, maxChallenges, ownLevel}
-use Rattle.base.specs.Row.{outside, either}
+use Rattle.base.specs.Limits.{maxDepth, maxMemory, maxChallenges}
+use Rattle.base.specs.Row.{outside, memoryOver, either}
 use Rattle.words.specs.Parting.{wordAt, wordCount}
 use Rattle.words.specs.Values.{valueOf}
 use Rattle.words.specs.declared.Problem.{Problem}
-use Rattle.words.specs.declared.Problem.the-variants.{NoWord, UnknownWord, Missing, Surplus, NoPath, LongPath, Depth, Challenges, Memory, Store}
+use Rattle.words.specs.declared.Problem.the-variants.{NoWord, UnknownWord, Missing, Surplus, NoPath, LongPath, Depth, Challenges, Memory}
 use Rattle.words.specs.declared.Words.{Words}
 use Rattle.words.specs.declared.Words.the-variants.{Right, Wrong}
 use Rattle.words.specs.declared.Order.{Order}
@@ -68,8 +68,7 @@ sealRow n t m =
     firstOf
     ((outside 1 maxDepth n, Depth)
     ∷ (outside 1 maxChallenges t, Challenges)
-    ∷ (ltb n m, Memory)
-    ∷ (ltb ownLevel m, Store)
+    ∷ (memoryOver n m, Memory)
     ∷ []
     )
 
@@ -80,12 +79,12 @@ abbrev pub orderIf : Words → Order → Order
 orderIf Right order = order
 orderIf (Wrong problem) order = Refuse problem
 
--- 'challenges default to 150, the paper's figure, the memory level to the smaller of depth and 14'
+-- 'challenges default to 150, the paper's figure, the memory level to the smaller of depth and 14', its limit (W-209)
 abbrev pub challengesIn : List ℕ → ℕ → ℕ
 challengesIn line all = pick (ltb all 5) 150 (valueOf (wordAt 4 line))
 
 abbrev pub memoryIn : List ℕ → ℕ → ℕ → ℕ
-memoryIn line all n = pick (ltb all 6) (min n ownLevel) (valueOf (wordAt 5 line))
+memoryIn line all n = pick (ltb all 6) (min n maxMemory) (valueOf (wordAt 5 line))
 
 abbrev pub sealed : ℕ → ℕ → ℕ → Order
 sealed n t m = orderIf (sealRow n t m) (Seal n t m)

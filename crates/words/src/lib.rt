@@ -20,7 +20,6 @@ pub enum Problem {
     Depth,
     Challenges,
     Memory,
-    Store,
 }
 
 // The answer of a row of tests.

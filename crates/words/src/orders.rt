@@ -13,8 +13,9 @@ use crate::parting::word_count;
 use crate::values::value;
 use base::MAX_CHALLENGES;
 use base::MAX_DEPTH;
-use base::OWN_LEVEL;
+use base::MAX_MEMORY;
 use base::beyond;
+use base::memory_over;
 
 fn is_word(word: &[u8], name: &[u8]) -> bool
     ensures { λ r. ⌜ r ≡ sameBytes (now (word .entry)) (now (name .entry)) ⌝ }
@@ -119,11 +120,8 @@ fn check_seal(depth: u64, challenges: u64, memory: u64) -> Words
     if beyond(MAX_CHALLENGES, challenges) {
         return Words::Wrong(Problem::Challenges);
     }
-    if depth < memory {
+    if memory_over(depth, memory) {
         return Words::Wrong(Problem::Memory);
-    }
-    if OWN_LEVEL < memory {
-        return Words::Wrong(Problem::Store);
     }
     Words::Right
 }
@@ -153,7 +151,7 @@ fn memory_in(line: &[u8], all: usize, depth: u64) -> u64
     ensures { λ r. ⌜ r ≡ memoryIn (now (line .entry)) all depth ⌝ }
 {
     if all < 6 {
-        return base::smaller(depth, OWN_LEVEL);
+        return base::smaller(depth, MAX_MEMORY);
     }
     value(word(line, 5))
 }

@@ -2,6 +2,7 @@
 -- budgets and at every memory level.
 use mathlib.Core.Path.{_≡_, sym, ap, _∙_}
 use Prim.Native.Nat.{ℕ, _-_, _≤_}
+use native.Mathlib.Omega.{arith}
 use mathlib.Core.List.{List, _++_}
 use lib.ListN.{length, take, drop}
 use lib.Seq.{take-at}
@@ -15,8 +16,9 @@ use Rattle.run.specs.Steps as runs
 use Rattle.run.specs.Steps.{Stamped}
 use Rattle.file_head.specs.Layout.{fileSize}
 use Rattle.proof_file.specs.FileCheck.{fileCheck}
-use Rattle.run_theory.specs.Runs.{Startable, atStart, called}
+use Rattle.run_theory.specs.Runs.{Startable, LevelsFit, atStart, called}
 use Rattle.run_theory.proofs.Step.{label-size}
+use Rattle.run_theory.proofs.StartLaws.{levels-fit}
 use Rattle.run_theory.proofs.RunLaws.{finished-held, run-goes}
 use Rattle.run_theory.proofs.Finished.{finished-holds, finished-length}
 use Rattle.check_theory.specs.TreeFile.{rootOf, treeFile}
@@ -26,54 +28,57 @@ use Rattle.writing_theory.proofs.Laid.{front-accepted}
 use Rattle.writing_theory.proofs.Rows.{started-done}
 use Rattle.writing_theory.proofs.Calls.{file-carried}
 
-module _ (statement : List ℕ) (n m : ℕ) (store : List ℕ) (startable : Startable n m (length store)) where
-  -- ---- a finished run
+-- ---- a finished run, and the file from it at its own level and at every lower one
+module _ (statement : List ℕ) (n m : ℕ) (store : List ℕ) (fit : LevelsFit n m (length store)) where
   pub finished-root : take 32 (runs.steps (nodesIn n) (atStart statement n m store) .run .held) ≡ rootOf edition statement n
   finished-root =
-      rw (finished-held statement n m store (startable .shallow))
+      rw (finished-held statement n m store (fit .shallow))
       (take-at (rootOf edition statement n) (zeros (heldSize - 32)) 32 (label-size edition statement n root))
 
-  -- ---- the file from it
-  module _
-      (t : ℕ) (file : List ℕ) (size : length statement ≡ 32) (count : IsCount t) (fits : fileSize n t ≤ length file) where
-    writable : Writable n m t (length (runs.steps (nodesIn n) (atStart statement n m store) .store)) (length file)
-    writable =
-        record {
-          depth = (startable .positive, startable .shallow);
-          memory = startable .memory;
-          storeFits = rw (finished-length statement n m store startable) (startable .enough);
-          count = count;
-          fileFits = fits;
-        }
+  pub file-finished :
+      (lower t : ℕ) (file : List ℕ) → lower ≤ m → length statement ≡ 32 → Writable n lower t (length store) (length file)
+      → (budgets : List ℕ) → labelsAnew n lower t ≤ total budgets
+      → fileFrom (runs.steps (nodesIn n) (atStart statement n m store)) statement n lower t file budgets
+      ≡ treeFile edition statement n t ++ drop (fileSize n t) file
+  file-finished lower t file le size writable budgets enough =
+      let s : Stamped = runs.steps (nodesIn n) (atStart statement n m store) in
+      let fits : Writable n lower t (length (s .store)) (length file) = rw (finished-length statement n m store fit) writable in
+      let from : Written → List ℕ = λ w. afterCalls (advanced (s .store)) w budgets .file in
+      ap (λ (r : List ℕ). from (started statement r n lower t (s .store) file)) finished-root
+      ∙ ap from (started-done statement (rootOf edition statement n) n lower t (s .store) file fits)
+      ∙ file-carried statement n lower t (s .store) file size (finished-holds statement n m store fit lower le) fits budgets enough
 
-    file-finished :
-        (budgets : List ℕ) → labelsAnew n m t ≤ total budgets
-        → fileFrom (runs.steps (nodesIn n) (atStart statement n m store)) statement n m t file budgets
-        ≡ treeFile edition statement n t ++ drop (fileSize n t) file
-    file-finished budgets enough =
-        let s : Stamped = runs.steps (nodesIn n) (atStart statement n m store) in
-        let from : Written → List ℕ = λ w. afterCalls (advanced (s .store)) w budgets .file in
-        ap (λ (r : List ℕ). from (started statement r n m t (s .store) file)) finished-root
-        ∙ ap from (started-done statement (rootOf edition statement n) n m t (s .store) file writable)
-        ∙ file-carried statement n m t (s .store) file size (finished-holds statement n m store startable) writable budgets enough
+-- ---- from a start
+module _
+    (statement : List ℕ) (n m : ℕ) (store : List ℕ) (startable : Startable n m (length store)) (t : ℕ) (file : List ℕ)
+    (size : length statement ≡ 32) (count : IsCount t) (fits : fileSize n t ≤ length file) where
+  writable : Writable n m t (length store) (length file)
+  writable =
+      record {
+        depth = (startable .positive, startable .shallow);
+        memory = startable .memory;
+        storeFits = startable .enough;
+        count = count;
+        fileFits = fits;
+      }
 
-    -- whatever the memory level, and however labelling and writing are cut
-    pub run-to-file :
-        (labelling budgets : List ℕ) → nodesIn n ≤ total labelling → labelsAnew n m t ≤ total budgets
-        → fileFrom (called (atStart statement n m store) labelling) statement n m t file budgets
-        ≡ treeFile edition statement n t ++ drop (fileSize n t) file
-    run-to-file labelling budgets all enough =
-        let done : called (atStart statement n m store) labelling ≡ runs.steps (nodesIn n) (atStart statement n m store) =
-        calls-end runs.runMachine (atStart statement n m store) (nodesIn n) (run-goes statement n m store startable) labelling all in
-        rw done (file-finished budgets enough)
+  -- whatever the memory level, and however labelling and writing are cut
+  pub run-to-file :
+      (labelling budgets : List ℕ) → nodesIn n ≤ total labelling → labelsAnew n m t ≤ total budgets
+      → fileFrom (called (atStart statement n m store) labelling) statement n m t file budgets
+      ≡ treeFile edition statement n t ++ drop (fileSize n t) file
+  run-to-file labelling budgets all enough =
+      let done : called (atStart statement n m store) labelling ≡ runs.steps (nodesIn n) (atStart statement n m store) =
+      calls-end runs.runMachine (atStart statement n m store) (nodesIn n) (run-goes statement n m store startable) labelling all in
+      rw done (file-finished statement n m store (levels-fit n m (length store) startable) m t file (omega arith) size writable budgets enough)
 
-    pub run-to-file-accepted :
-        (labelling budgets : List ℕ) → nodesIn n ≤ total labelling → labelsAnew n m t ≤ total budgets
-        → fileCheck (take (fileSize n t) (fileFrom (called (atStart statement n m store) labelling) statement n m t file budgets)) statement n t
-        ≡ 0
-    run-to-file-accepted labelling budgets all enough =
-        rw (run-to-file labelling budgets all enough)
-        (front-accepted statement n t (drop (fileSize n t) file) size (startable .positive, startable .shallow) count)
+  pub run-to-file-accepted :
+      (labelling budgets : List ℕ) → nodesIn n ≤ total labelling → labelsAnew n m t ≤ total budgets
+      → fileCheck (take (fileSize n t) (fileFrom (called (atStart statement n m store) labelling) statement n m t file budgets)) statement n t
+      ≡ 0
+  run-to-file-accepted labelling budgets all enough =
+      rw (run-to-file labelling budgets all enough)
+      (front-accepted statement n t (drop (fileSize n t) file) size (startable .positive, startable .shallow) count)
 
 -- one file, at whichever memory levels and over whichever stores
 pub one-file :

@@ -5,7 +5,7 @@ use crate::model::file::{groups, inputs};
 use crate::model::run::slot;
 use crate::model::sha256;
 use crate::model::tree::{input, parents, Node};
-use mastdock::{challenge, check_file, draw, file_size, plan, write_head, Opening, Refusal, Rejected, Run, Writing};
+use mastdock::{challenge, check_file, draw, file_size, plan, write_head, Opening, Refusal, Rejected, Run, Writing, MAX_STORE};
 
 pub fn run() {
     labels();
@@ -14,6 +14,7 @@ pub fn run() {
     chains();
     no_leaves();
     limits();
+    levels();
     writings();
     clashes();
 }
@@ -120,6 +121,42 @@ fn limits() {
         assert_eq!(write_head(&[0; 32], &[0; 32], 1, t, &mut [0; 13000]) == Err(Refusal::Count), refused);
         assert_eq!(plan(1, &vec![0; t as usize], &mut [0; 3]) == Err(Refusal::Count), t == 201);
     }
+}
+
+/// W-209: at depths 13, 14, 15 and 40 the levels 13 and 14 are started and continued where the depth has them, 15, 20 and 21 nowhere:
+/// 2 at a start, and 4 in a run, an opening or a file that is continued, though its store is too short as well.
+fn levels() {
+    let store = vec![0; MAX_STORE];
+    for n in [13, 14, 15, 40] {
+        for m in [13, 14, 15, 20, 21] {
+            // one byte short of the level's size, or all that there is
+            let short = &store[..store.len().min(32 * ((2 << m) - 1) - 1)];
+            let over = |refusal| (m > n.min(14)).then_some(refusal);
+            assert_eq!(starts(n, m, &store), [over(Refusal::MemoryLevel); 3]);
+            assert_eq!(starts(n, m, short), [over(Refusal::MemoryLevel).or(Some(Refusal::ShortStore)); 3]);
+            assert_eq!(continues(n, m, &store), [over(Refusal::State); 3]);
+            assert_eq!(continues(n, m, short), [over(Refusal::State).or(Some(Refusal::ShortStore)); 3]);
+        }
+    }
+}
+
+/// What starting a run, an opening and a file is refused with.
+fn starts(n: u64, m: u64, store: &[u8]) -> [Option<Refusal>; 3] {
+    let (mut out, mut file) = ([0; 1312], [0; 1379]);
+    [
+        Run::start(&[0; 32], n, m, store).err(),
+        Opening::start(&[0; 32], n, m, 0, store, &mut out).err(),
+        Writing::start(&[0; 32], &[0; 32], n, m, 1, store, &mut file).err(),
+    ]
+}
+
+/// The same of continuing each of them by a label, as it would be after a start.
+fn continues(n: u64, m: u64, store: &[u8]) -> [Option<Refusal>; 3] {
+    let (mut lent, mut out, mut file) = (store.to_vec(), [0; 1312], [0; 1379]);
+    let mut run = Run { statement: [0; 32], depth: n, memory: m, made: 0, held: [0; 1312] };
+    let mut opening = Opening { statement: [0; 32], depth: n, memory: m, leaf: 0, made: 0, held: [0; 1312] };
+    let mut writing = Writing { root: [0; 32], count: 1, number: 1, opening: opening.clone() };
+    [run.advance(1, &mut lent).err(), opening.advance(1, store, &mut out).err(), writing.advance(1, store, &mut file).err()]
 }
 
 /// docs/DECISIONS.md, 'The file': only the last opening may be done; 'with m = n the start alone writes the whole file'.

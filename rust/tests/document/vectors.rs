@@ -31,7 +31,7 @@ fn number(word: &str) -> u64 {
 
 /// Runs all of them. Gives their number.
 pub fn run() -> usize {
-    digests() + roots() + files() + checks() + chains() + plans()
+    digests() + roots() + files() + old_files() + checks() + chains() + plans()
 }
 
 /// `length L, SHA-256 of the L bytes whose i-th, from 0, is (7 i + L) mod 256`
@@ -86,11 +86,15 @@ fn roots() -> usize {
 fn seal(report: &[u8], n: u64, m: u64, t: u64) -> Vec<u8> {
     let statement = digest(report).unwrap();
     let (run, store) = stamp(&statement, n, m);
-    let root = run.root().unwrap();
+    file_over(&statement, &run.root().unwrap(), n, m, t, &store)
+}
+
+/// The file that the library writes over a finished run's store.
+fn file_over(statement: &[u8; 32], root: &[u8; 32], n: u64, m: u64, t: u64, store: &[u8]) -> Vec<u8> {
     let mut file = vec![0; file_size(n, t).unwrap()];
-    let mut writing = Writing::start(&statement, &root, n, m, t, &store, &mut file).unwrap();
+    let mut writing = Writing::start(statement, root, n, m, t, store, &mut file).unwrap();
     let anew = t * labels_anew(n, m).unwrap();
-    by_budgets(anew, |budget| writing.advance(budget, &store, &mut file).unwrap());
+    by_budgets(anew, |budget| writing.advance(budget, store, &mut file).unwrap());
     file
 }
 
@@ -117,6 +121,23 @@ fn files() -> usize {
         count += 1;
     }
     count
+}
+
+/// W-209: a file that a unit of level 16 wrote when 20 was the limit (the library of commit 245d2d3, from the empty report) is the
+/// model's, over roots.txt's root of that depth, and is accepted; over such a unit's store level 14 writes the same file.
+fn old_files() -> usize {
+    let (n, t, old) = (16, 2, include_bytes!("../../../crates/program_scenarios/data/level16.proof"));
+    let labels = Labels::of(sha256::digest(&[]), n);
+    let root = lines(include_str!("../vectors/roots.txt")).find(|words| words[..2] == ["-", "16"]).map(|words| label(words[2]));
+    assert_eq!(root, Some(labels.root()));
+    assert_eq!(proof_file(&labels, t), old);
+    assert_eq!(check_file(old, &labels.statement, n, t), Ok(()));
+    assert_eq!(check(old, &labels.statement, n, t), Ok(()));
+    let store = labels.store(16);
+    for lower in [14, 9, 0] {
+        assert!(file_over(&labels.statement, &labels.root(), n, lower, t, &store) == old);
+    }
+    1
 }
 
 /// `proof file (- if empty), statement, depth and count wanted, answer as one number`

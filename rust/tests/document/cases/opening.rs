@@ -1,10 +1,10 @@
 use super::numbered;
 use super::run::level_and_store;
 use crate::lent::Lent;
-use crate::model::file;
 use crate::model::opening::{advance, nodes_anew, opening_size, start};
 use crate::model::run::store_size;
 use crate::model::tree::Labels;
+use crate::model::{depth_refused, file, memory_refused};
 use crate::random::Random;
 use mastdock::{ffi, Opening};
 
@@ -89,7 +89,7 @@ pub fn whole(random: &mut Random) -> u64 {
 
 pub fn any_state(random: &mut Random) -> u64 {
     let (n, m, store) = level_and_store(random, 40, 5);
-    let possible = (1..=40).contains(&n) && m <= n.min(20) && store.len() >= store_size(m);
+    let possible = !depth_refused(n) && !memory_refused(n, m) && store.len() >= store_size(m);
     let made = match random.below(10) {
         0 => random.wide(),
         1 if possible => nodes_anew(n, m) + random.below(2),

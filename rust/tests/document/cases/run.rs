@@ -2,6 +2,7 @@ use super::numbered;
 use crate::lent::Lent;
 use crate::model::run::{advance, start, store_size};
 use crate::model::tree::{place_in_order, size, Labels, Node};
+use crate::model::{depth_refused, memory_refused};
 use crate::random::Random;
 use mastdock::{ffi, Run};
 
@@ -15,7 +16,7 @@ pub fn level_and_store(random: &mut Random, deepest: u64, most: u64) -> (u64, u6
     let len = random.near(store_size(m));
     let store = random.bytes(len);
     let n = random.or_edge(n, 40);
-    let m = if random.once_in(8) { random.pick(&[n.wrapping_add(1), 20, 21, 64, u64::MAX]) } else { m };
+    let m = if random.once_in(8) { random.pick(&[n.wrapping_add(1), 14, 15, 20, 21, 64, u64::MAX]) } else { m };
     (n, m, store)
 }
 
@@ -82,7 +83,7 @@ fn made(random: &mut Random, n: u64, m: u64) -> u64 {
 
 pub fn any_state(random: &mut Random) -> u64 {
     let (n, m, mut store) = level_and_store(random, 40, 5);
-    let possible = (1..=40).contains(&n) && m <= n.min(20);
+    let possible = !depth_refused(n) && !memory_refused(n, m);
     let made = match random.once_in(10) {
         true => random.wide(),
         false if possible => made(random, n, m),
@@ -101,16 +102,16 @@ pub fn any_state(random: &mut Random) -> u64 {
     1
 }
 
-/// Memory level 20: enough, and one byte short.
+/// Memory level 14, the greatest: enough, and one byte short.
 pub fn largest_store(random: &mut Random) -> u64 {
     let statement = random.array();
-    let n = random.between(20, 40);
-    let mut store = vec![0; store_size(20)];
+    let n = random.between(14, 40);
+    let mut store = vec![0; 1048544];
     let short = store.len() - 1;
-    assert_eq!(numbered("run start", Run::start(&statement, n, 20, &store[..short])), Err(3));
-    let mut run = Run::start(&statement, n, 20, &store).unwrap();
-    let position = random.below(1 << 20);
-    run.made = place_in_order(n, Node::at(20, position));
+    assert_eq!(numbered("run start", Run::start(&statement, n, 14, &store[..short])), Err(3));
+    let mut run = Run::start(&statement, n, 14, &store).unwrap();
+    let position = random.below(1 << 14);
+    run.made = place_in_order(n, Node::at(14, position));
     run.held = random.array();
     let mut model = run.clone();
     let mut expected = store.clone();

@@ -8,6 +8,7 @@ use crate::model::opening::nodes_anew;
 use crate::model::run::store_size;
 use crate::model::tree::Labels;
 use crate::model::writing::{advance, start};
+use crate::model::{depth_refused, memory_refused};
 use crate::random::Random;
 use mastdock::{ffi, Opening, Writing};
 
@@ -86,7 +87,7 @@ pub fn whole(random: &mut Random) -> u64 {
 pub fn any_state(random: &mut Random) -> u64 {
     let (n, m, store) = level_and_store(random, 40, 5);
     let (t, mut file) = count_and_file(random, n);
-    let possible = (1..=40).contains(&n) && m <= n.min(20) && store.len() >= store_size(m);
+    let possible = !depth_refused(n) && !memory_refused(n, m) && store.len() >= store_size(m);
     let made = match random.below(10) {
         0 => random.wide(),
         1 if possible => nodes_anew(n, m) + random.below(2),

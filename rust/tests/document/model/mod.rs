@@ -22,9 +22,9 @@ pub fn count_refused(x: u64) -> bool {
     !(1..=200).contains(&x)
 }
 
-/// 'm over min(n, 20)'.
+/// W-209: 'Number 2 now means over the smaller of depth and 14'.
 pub fn memory_refused(n: u64, m: u64) -> bool {
-    m > n.min(20)
+    m > n.min(14)
 }
 
 /// 'Within a place the order is as listed. Each is given just when its condition holds and no earlier one did.' The conditions are

@@ -15,5 +15,5 @@ pub continues-at-spec : {M : Type 1} → statement M
 continues-at-spec =
     tie.close
     (tie.spec
-    (λ c. search needs) (λ c. search needs) (λ c. search needs) slice-aggregate-continues (λ c. search needs)
+    (λ c κs. search needs) (λ c. search needs) (λ c. search needs) (λ c. search needs) slice-aggregate-continues (λ c. search needs)
     slice-aggregate-continues-2 (λ c κs. search needs) (λ c. search needs))

@@ -15,5 +15,5 @@ pub starts-at-spec : {M : Type 1} → statement M
 starts-at-spec =
     tie.close
     (tie.spec
-    (λ c. search needs) (λ c. search needs) (λ c. search needs) slice-aggregate-starts (λ c. search needs)
+    (λ c κs. search needs) (λ c. search needs) (λ c. search needs) (λ c. search needs) slice-aggregate-starts (λ c. search needs)
     slice-aggregate-starts-2 (λ c κs. search needs) (λ c. search needs))

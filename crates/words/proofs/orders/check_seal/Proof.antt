@@ -1,7 +1,5 @@
 -- `words::orders::check_seal` meets its contract.
-use borrow.Author.Tests.{lt-ltb, le-ltb}
 use mathlib.Core.Path.{sym, _∙_}
-use Rattle.base.specs.Limits.{ownLevel}
 use Rattle.words.specs.Orders.{sealRow}
 use borrow.Author.Needs.{needs}
 use Rattle.words.proofs.orders.check_seal.Statement.{statement}
@@ -19,9 +17,9 @@ returns-3 : tie.Need-returns-3
 unfolding sealRow
 returns-3 c =
     rw (
-      sym (c .before .before .before .before .beyond .ensures) ∙ c .before .before .before .if1 .left,
-      sym (c .before .before .beyond2 .ensures) ∙ c .before .if2 .left,
-      lt-ltb _ _ (c .if3 .taken),
+      sym (c .before .before .before .before .before .beyond .ensures) ∙ c .before .before .before .before .if1 .left,
+      sym (c .before .before .before .beyond2 .ensures) ∙ c .before .before .if2 .left,
+      sym (c .before .memory-over .ensures) ∙ c .if3 .taken,
     )
 
 returns-4 : tie.Need-returns-4
@@ -30,22 +28,11 @@ returns-4 c =
     rw (
       sym (c .before .before .before .before .before .beyond .ensures) ∙ c .before .before .before .before .if1 .left,
       sym (c .before .before .before .beyond2 .ensures) ∙ c .before .before .if2 .left,
-      le-ltb _ _ (c .before .if3 .left),
-      lt-ltb ownLevel _ (c .if4 .taken),
-    )
-
-returns-5 : tie.Need-returns-5
-unfolding sealRow
-returns-5 c =
-    rw (
-      sym (c .before .before .before .before .before .beyond .ensures) ∙ c .before .before .before .before .if1 .left,
-      sym (c .before .before .before .beyond2 .ensures) ∙ c .before .before .if2 .left,
-      le-ltb _ _ (c .before .if3 .left),
-      le-ltb ownLevel _ (c .if4 .left),
+      sym (c .before .memory-over .ensures) ∙ c .if3 .left,
     )
 
 pub check-seal-spec : {M : Type 1} → statement M
 check-seal-spec =
     tie.close
     (tie.spec
-    (λ c κs. search needs) returns (λ c κs. search needs) returns-2 returns-3 returns-4 returns-5)
+    (λ c κs. search needs) returns (λ c κs. search needs) returns-2 (λ c κs. search needs) returns-3 returns-4)
