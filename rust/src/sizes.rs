@@ -1,4 +1,4 @@
-//! Sizes and limits; none for arguments outside document 01's limits.
+//! Sizes and limits; none for arguments outside these limits, which are document 01's as the change requests amend them.
 
 /// The largest depth.
 pub const MAX_DEPTH: u64 = 40;

@@ -1,21 +1,14 @@
 -- `run::checks::store_short` meets its contract.
 use native.Mathlib.Omega.{arith}
-use lib.Pow.{pow-mono}
-use Rattle.base.specs.Limits.{maxMemory}
 use Rattle.tree.specs.Walk.{nodesIn}
-use Rattle.tree.proofs.Order.{nodesIn-suc}
+use Rattle.tree.proofs.Slots.{store-fits}
 use borrow.Author.Needs.{needs}
 use Rattle.run.proofs.checks.store_short.Statement.{statement}
 use Rattle.run.proofs.checks.store_short.Tie as tie
 
 mul-size : tie.Need-mul-size
-mul-size c =
-    omega (
-      arith,
-      c .nodes .ensures,
-      nodesIn-suc (c .before .args .memory),
-      pow-mono {i = c .before .args .memory} {j = maxMemory} (c .before .pre),
-    )
+unfolding nodesIn
+mul-size c = omega (arith, c .nodes .ensures, store-fits (c .before .args .memory) (c .before .pre))
 
 returns : tie.Need-returns
 unfolding nodesIn
