@@ -118,18 +118,18 @@ or-true : (x : Bool) → either x true ≡ true
 or-true true = refl
 or-true false = refl
 
-level-refused : (n m made all : ℕ) → 14 < m → impossible n m made all ≡ true
-level-refused n m made all over = rw (lt-ltb (min n maxMemory) m (omega arith)) (or-true (outside 1 maxDepth n))
+level-refused : (n m made all : ℕ) → min n 14 < m → impossible n m made all ≡ true
+level-refused n m made all over = rw (lt-ltb (min n maxMemory) m over) (or-true (outside 1 maxDepth n))
 
-run-refused : (run : Run) (store : ℕ) → 14 < run .memory → continueRow run store ≡ 4
+run-refused : (run : Run) (store : ℕ) → min (run .depth) 14 < run .memory → continueRow run store ≡ 4
 unfolding continueRow
 run-refused run store over = rw (level-refused (run .depth) (run .memory) (run .made) (nodesIn (run .depth)) over)
 
-opening-refused : (o : Opening) (store out : ℕ) → 14 < o .memory → reopenRow o store out ≡ 4
+opening-refused : (o : Opening) (store out : ℕ) → min (o .depth) 14 < o .memory → reopenRow o store out ≡ 4
 unfolding reopenRow
 opening-refused o store out over = rw (level-refused (o .depth) (o .memory) (o .made) (nodesAnew (o .depth) (o .memory)) over)
 
-file-refused : (w : Writing) (store out : ℕ) → 14 < w .opening .memory → rewriteRow w store out ≡ 4
+file-refused : (w : Writing) (store out : ℕ) → min (w .opening .depth) 14 < w .opening .memory → rewriteRow w store out ≡ 4
 unfolding rewriteRow
 file-refused w store out over =
     let o : Opening = w .opening in

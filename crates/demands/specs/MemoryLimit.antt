@@ -57,10 +57,11 @@ pub record MemoryLimit : Type 0 where
   -- and with a byte less some row does
   pub storeNeeded : (n store : ℕ) → (14 ≤ n) × (n ≤ 40) → store < 1048544 → startRow n 14 store ≡ 3
   pub startRefused : (n m store : ℕ) → IsDepth n → min n 14 < m → StartRefused n m store
-  -- 'a run with such a level' is refused with 4, whatever else it is and whatever the store; an opening and a file too
-  pub runRefused : (run : Run) (store : ℕ) → 14 < run .memory → continueRow run store ≡ 4
-  pub openingRefused : (o : Opening) (store out : ℕ) → 14 < o .memory → reopenRow o store out ≡ 4
-  pub fileRefused : (w : Writing) (store out : ℕ) → 14 < w .opening .memory → rewriteRow w store out ≡ 4
+  -- 'a run with such a level', 15 to 20 at any depth, is refused with 4, whatever the store; an opening and a file too
+  pub runRefused : (run : Run) (store : ℕ) → min (run .depth) 14 < run .memory → continueRow run store ≡ 4
+  pub openingRefused : (o : Opening) (store out : ℕ) → min (o .depth) 14 < o .memory → reopenRow o store out ≡ 4
+  pub fileRefused :
+      (w : Writing) (store out : ℕ) → min (w .opening .depth) 14 < w .opening .memory → rewriteRow w store out ≡ 4
   -- 'Proof files do not carry the level and all old ones remain good': the tree's file, which runs of every level wrote
   pub oldFiles :
       (statement : List ℕ) (n t : ℕ) → length statement ≡ 32 → IsDepth n → IsCount t
