@@ -38,7 +38,7 @@ use Rattle.writing_theory.proofs.Laid.{front-accepted}
 use Rattle.writing_theory.proofs.Finished.{run-to-file}
 use Rattle.demands.specs.Demand1.{InBounds, startedOpening}
 use Rattle.demands.specs.Demand2.{StatementIs, LabelsAre, runFrom, RunLabels, ChallengeIs, openingFrom, OpeningIs, filedFrom, FileIs, Demand2}
-use Rattle.demands.proofs.Carrying.{allowed, startable, run-started}
+use Rattle.demands.proofs.Carrying.{startable, can-open, run-started}
 
 -- ---- statement
 at-once : (m : List ℕ) → length m ≤ maxHashed → (digestRow m ≡ 0) × (digestAnswer m ≡ digest m)
@@ -126,13 +126,7 @@ module _ (statement : List ℕ) (n leaf : ℕ) (out : List ℕ) (inside : leaf <
   opening-lower m lower store budgets fit le bounds room enough =
       let after : List ℕ = runs.steps (nodesIn n) (atStart statement n m store) .store in
       let fits : Openable n lower leaf (length after) (length out) =
-      record {
-        depth = bounds .depth;
-        memory = allowed n lower (length store) bounds;
-        storeFits = omega (arith, bounds .room, finished-length statement n m store fit);
-        position = inside;
-        outFits = room;
-      } in
+      rw (finished-length statement n m store fit) (can-open n lower (length store) bounds leaf (length out) inside room) in
       rw
       (ap (λ (o : openings.Open). afterCalls (openings.advanced after) o budgets .out) (opening-started statement n lower leaf after out fits)
       ∙ finished-opening statement n m store fit lower leaf out le fits budgets enough)

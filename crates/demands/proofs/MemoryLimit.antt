@@ -33,12 +33,12 @@ use Rattle.check_theory.specs.TreeFile.{treeOpenings, treeFile}
 use Rattle.check_theory.proofs.TreeFile.{tree-accepted}
 use Rattle.writing.specs.declared.Writing.{Writing}
 use Rattle.writing.specs.Rows.{fileChecks, writeRow, rewriteRow}
-use Rattle.writing_theory.specs.Filed.{Writable, fileFrom}
+use Rattle.writing_theory.specs.Filed.{fileFrom}
 use Rattle.writing_theory.proofs.Finished.{file-finished}
 use Rattle.demands.specs.Demand1.{InBounds}
 use Rattle.demands.specs.Demand2.{openingFrom, OpeningIs, FileIs}
 use Rattle.demands.specs.MemoryLimit.{StoreEnough, StartRefused, finishedRun, OpenedLower, MemoryLimit}
-use Rattle.demands.proofs.Carrying.{allowed}
+use Rattle.demands.proofs.Carrying.{can-write}
 use Rattle.demands.proofs.Demand2.{opening-lower, tree-file}
 
 -- ---- 3
@@ -146,10 +146,6 @@ module _
   bounds =
       record { depth = depth; memory = omega arith; room = omega (arith, pow-mono {i = lower + 1} {j = m + 1} (omega arith)) }
 
-  writable : (t : ℕ) (bytes : List ℕ) → IsCount t → fileSize n t ≤ length bytes → Writable n lower t (length store) (length bytes)
-  writable t bytes count fits =
-      record { depth = depth; memory = allowed n lower (length store) bounds; storeFits = bounds .room; count = count; fileFits = fits }
-
   finished : runs.steps (nodesIn n) (atStart statement n m store) ≡ finishedRun statement n m store
   unfolding nodesIn
   finished = run-reached statement n m store (depth .1) (nodesIn n) (omega arith)
@@ -164,7 +160,9 @@ module _
         file =
             λ t bytes budgets size count fits some.
             subst (λ (s : Stamped). FileIs statement n t bytes (fileFrom s statement n lower t bytes budgets)) finished
-            (rw (file-finished statement n m store fit lower t bytes (omega arith) size (writable t bytes count fits) budgets some)
+            (rw
+            (file-finished statement n m store fit lower t bytes (omega arith) size
+            (can-write n lower (length store) bounds t (length bytes) count fits) budgets some)
             (tree-file statement n t bytes size depth count));
       }
 

@@ -32,7 +32,7 @@ use Rattle.run_theory.specs.Openings.{Openable}
 use Rattle.run_theory.proofs.Anew.{beside-inside}
 use Rattle.run_theory.proofs.OpeningCalls.{open-fits, reopen-fits, started-fits, startedOut-fits}
 use Rattle.demands.specs.Demand1.{startedOpening, InBounds, OpeningEnds}
-use Rattle.demands.proofs.Carrying.{carried-out, allowed}
+use Rattle.demands.proofs.Carrying.{carried-out, can-open}
 
 -- ---- lengths
 -- a label put in its place
@@ -119,7 +119,7 @@ module _
     (statement : List ℕ) (n m leaf : ℕ) (store out : List ℕ) (bounds : InBounds n m (length store)) (inside : leaf < 2 ^ n)
     (fits : 32 * (n + 1) ≤ length out) where
   openable : Openable n m leaf (length store) (length out)
-  openable = record { depth = bounds .depth; memory = allowed n m (length store) bounds; storeFits = bounds .room; position = inside; outFits = fits }
+  openable = can-open n m (length store) bounds leaf (length out) inside fits
 
   abbrev start : Open
   start = startedOpening statement n m leaf store out

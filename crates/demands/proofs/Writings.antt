@@ -33,7 +33,7 @@ use Rattle.writing_theory.proofs.Places.{behind-place}
 use Rattle.writing_theory.proofs.Rows.{write-done, started-done, rewrite-done}
 use Rattle.writing.proofs.StepLaws.{followed-stays}
 use Rattle.demands.specs.Demand1.{startedFile, InBounds, WritingEnds}
-use Rattle.demands.proofs.Carrying.{carried-out, allowed}
+use Rattle.demands.proofs.Carrying.{carried-out, can-write}
 use Rattle.demands.proofs.Openings.{length-copied-all, OpeningAt, opening-more}
 
 -- a writing by its fields, with its file
@@ -210,7 +210,7 @@ module _
     (statement root : List ℕ) (n m t : ℕ) (store file : List ℕ) (statementSize : length statement ≡ 32) (rootSize : length root ≡ 32)
     (bounds : InBounds n m (length store)) (count : (1 ≤ t) × (t ≤ 200)) (fits : fileSize n t ≤ length file) where
   writable : Writable n m t (length store) (length file)
-  writable = record { depth = bounds .depth; memory = allowed n m (length store) bounds; storeFits = bounds .room; count = count; fileFits = fits }
+  writable = can-write n m (length store) bounds t (length file) count fits
 
   abbrev start : Written
   start = startedFile statement root n m t store file
