@@ -52,7 +52,6 @@ pub row-passed : (row more : List (Bool × ℕ)) → NoneHolds row → firstOf (
 row-passed [] more none = refl
 row-passed (check ∷ row) more none = rw (none .0) (row-passed row more (none .1))
 
--- an outcome is told by its number
 -- a number is not answered if each check that has it fails where it is reached
 abbrev pub NeverGives : List (Bool × ℕ) → ℕ → Type 0
 NeverGives [] number = Unit
@@ -68,6 +67,7 @@ never-gives [] number some never e = omega arith
 never-gives (check ∷ row) number some never e =
     never-by (check .0) (check .1) number (firstOf row) (never .0) (λ f. never-gives row number some (never .1 f)) e
 
+-- an outcome is told by its number
 pub is-done : (o : Outcome) (row : ℕ) → outcomeNumber o ≡ row → o ≡ Done → row ≡ 0
 is-done o row e d = rw d at (sym e)
 

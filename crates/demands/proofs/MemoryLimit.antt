@@ -21,6 +21,7 @@ use Rattle.tree.proofs.Slots.{store-fits}
 use Rattle.labelling.specs.Rule.{stampRule}
 use Rattle.run.specs.declared.Run.{Run}
 use Rattle.run.specs.Rows.{startChecks, impossible, startRow, continueRow}
+use Rattle.run.proofs.RowLaws.{not-impossible}
 use Rattle.run.specs.Steps as runs
 use Rattle.run.specs.Steps.{Stamped}
 use Rattle.run_theory.specs.Runs.{LevelsFit, atStart}
@@ -42,10 +43,6 @@ use Rattle.demands.proofs.Carrying.{can-write}
 use Rattle.demands.proofs.Demand2.{opening-lower, tree-file}
 
 -- ---- 3
--- a state that can be continued has a level that is allowed
-level-allowed : (n m made all : ℕ) → impossible n m made all ≡ false → memoryOver n m ≡ false
-level-allowed n m made all e = neither (memoryOver n m) _ (neither (outside 1 maxDepth n) _ e .1) .0
-
 module _ (store : ℕ) (enough : 1048544 ≤ store) where
   has-room : (n m : ℕ) → memoryOver n m ≡ false → ltb store (storeSize m) ≡ false
   has-room n m e = le-ltb store (storeSize m) (omega (arith, store-fits m (memory-inside n m e)))
@@ -75,7 +72,7 @@ module _ (store : ℕ) (enough : 1048544 ≤ store) where
   opened-again o other short =
       let state : Bool = impossible (o .depth) (o .memory) (o .made) (nodesAnew (o .depth) (o .memory)) in
       continued (o .depth) (o .memory) (either state other) ((short, 7) ∷ [])
-      (λ e. level-allowed (o .depth) (o .memory) (o .made) (nodesAnew (o .depth) (o .memory)) (neither state other e .0))
+      (λ e. not-impossible (o .depth) (o .memory) (o .made) (nodesAnew (o .depth) (o .memory)) (neither state other e .0) .1)
       (λ seven. absurd (omega arith), λ _. tt)
 
   store-enough : StoreEnough store
@@ -86,7 +83,7 @@ module _ (store : ℕ) (enough : 1048544 ≤ store) where
         continuingRun =
             λ run.
             continued (run .depth) (run .memory) (impossible (run .depth) (run .memory) (run .made) (nodesIn (run .depth))) []
-            (level-allowed (run .depth) (run .memory) (run .made) (nodesIn (run .depth))) tt;
+            (λ e. not-impossible (run .depth) (run .memory) (run .made) (nodesIn (run .depth)) e .1) tt;
         startingOpening =
             λ n m leaf out.
             started n m (leafChecks n leaf out) (λ six. absurd (omega arith), λ _. (λ seven. absurd (omega arith), λ _. tt));

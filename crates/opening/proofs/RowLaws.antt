@@ -5,7 +5,7 @@ use mathlib.Core.List.{List}
 use Prim.Native.Nat.{ℕ, _-_, _^_, _≤_, min}
 use native.Mathlib.Omega.{arith}
 use borrow.Author.Tests.{ltb-false, leb-false}
-use lib.Dec.{ltb, leb}
+use lib.Dec.{leb}
 use lib.ListN.{length}
 use Rattle.base.specs.Limits.{maxDepth}
 use Rattle.base.specs.Row.{outside, either, isDone, memoryOver}
@@ -15,6 +15,7 @@ use Rattle.tree.specs.Walk.{nodesIn}
 use Rattle.tree.specs.Store.{storeSize}
 use Rattle.tree.specs.Openings.{openingSize}
 use Rattle.run.specs.Rows.{impossible}
+use Rattle.run.proofs.RowLaws.{not-impossible}
 use Rattle.base.proofs.Ranges.{depth-some, depth-inside, memory-below, memory-inside, neither}
 use Rattle.opening.specs.declared.Opening.{Opening}
 use Rattle.opening.specs.Rows.{nodesAnew, openRow, reopenRow}
@@ -51,8 +52,7 @@ pub can-be : (n m made leaf : ℕ) → either (impossible n m made (nodesAnew n 
     → Possible n m leaf × (made ≤ nodesAnew n m)
 can-be n m made leaf e =
     let (i, l) = neither (impossible n m made (nodesAnew n m)) (leb (2 ^ n) leaf) e in
-    let (d, f) = neither (outside 1 maxDepth n) (either (memoryOver n m) (ltb (nodesAnew n m) made)) i in
-    let (o, k) = neither (memoryOver n m) (ltb (nodesAnew n m) made) f in
+    let (d, o, k) = not-impossible n m made (nodesAnew n m) i in
     (possible n m leaf d o l, ltb-false (nodesAnew n m) made k)
 
 module _ (statement : List ℕ) (n m leaf : ℕ) (store out : List ℕ) where

@@ -40,6 +40,14 @@ module _ (n m store : ℕ) where
   unfolding startRow
   start-passes more number done e = e ∙ sym (row-passed (startChecks n m store) more (none-holds (startChecks n m store) refl done))
 
+-- a state that is not impossible: none of its three conditions holds
+pub not-impossible : (n m made all : ℕ) → impossible n m made all ≡ false
+    → (outside 1 maxDepth n ≡ false) × (memoryOver n m ≡ false) × (ltb all made ≡ false)
+not-impossible n m made all e =
+    let (d, f) = neither (outside 1 maxDepth n) (either (memoryOver n m) (ltb all made)) e in
+    let (o, l) = neither (memoryOver n m) (ltb all made) f in
+    (d, o, l)
+
 -- a run that can be
 pub record Possible (n m made : ℕ) : Type 0 where
   pub depth : n ≤ maxDepth
@@ -48,8 +56,7 @@ pub record Possible (n m made : ℕ) : Type 0 where
 
 pub possible : (n m made : ℕ) → impossible n m made (nodesIn n) ≡ false → Possible n m made
 possible n m made e =
-    let (d, f) = neither (outside 1 maxDepth n) (either (memoryOver n m) (ltb (nodesIn n) made)) e in
-    let (o, l) = neither (memoryOver n m) (ltb (nodesIn n) made) f in
+    let (d, o, l) = not-impossible n m made (nodesIn n) e in
     record { depth = depth-inside n d; memory = memory-inside n m o; made-few = ltb-false (nodesIn n) made l }
 
 pub record Whole (run : Run) (store : ℕ) : Type 0 where

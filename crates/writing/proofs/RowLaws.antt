@@ -4,12 +4,13 @@ use mathlib.Core.Bool.{Bool, true, false}
 use mathlib.Core.List.{List, _++_}
 use Prim.Native.Nat.{ℕ, _^_, _≤_, _<_, min}
 use borrow.Author.Tests.{ltb-false, leb-false}
-use lib.Dec.{ltb, leb}
+use lib.Dec.{leb}
 use lib.ListN.{length}
 use Rattle.base.specs.Limits.{maxDepth, maxMemory, maxChallenges, IsDepth, IsCount}
-use Rattle.base.specs.Row.{outside, either, isDone, memoryOver}
+use Rattle.base.specs.Row.{outside, either, isDone}
 use Rattle.base.proofs.RowLaws.{NoneHolds, none-holds}
 use Rattle.run.specs.Rows.{startChecks, startRow, impossible}
+use Rattle.run.proofs.RowLaws.{not-impossible}
 use Rattle.base.proofs.Ranges.{neither}
 use Rattle.machine.proofs.StepLaws as machines
 use Rattle.machine.proofs.StepLaws.{done-some, done-refused}
@@ -47,8 +48,7 @@ state-bounds w e =
     let m : ℕ = o .memory in
     let anew : ℕ = nodesAnew n m in
     let (a, b) = neither (impossible n m (o .made) anew) _ e in
-    let (d, g) = neither (outside 1 maxDepth n) (either (memoryOver n m) (ltb anew (o .made))) a in
-    let (l, k) = neither (memoryOver n m) (ltb anew (o .made)) g in
+    let (d, l, k) = not-impossible n m (o .made) anew a in
     let (p, q) = neither (leb (2 ^ n) (o .leaf)) _ b in
     let (t, r) = neither (outside 1 maxChallenges (w .count)) _ q in
     let (i, u) = neither (outside 1 (w .count) (w .number)) (mayFollow w) r in
