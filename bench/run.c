@@ -83,9 +83,44 @@ static void openings(void) {
            (double)ALL / p[ROUNDS / 2], p[ROUNDS / 2] / o[ROUNDS / 2]);
 }
 
+/* W-201: the longest record, of depth 40 after its last leaf, written and read; in labels of the run above. */
+static double recorded(int read, double *sum) {
+    enum { TURNS = 20000 };
+    uint8_t record[MASTDOCK_MAX_RECORD];
+    mastdock_run run = {.depth = 40, .memory = 14, .made = MASTDOCK_LABELS(40) - 40};
+    memset(run.held, 7, sizeof run.held);
+    size_t size = mastdock_run_record(run, record, sizeof record).size;
+    double start = now();
+    for (int i = 0; i < TURNS; i++) {
+        run.statement[0] = record[size - 1] = (uint8_t)i;
+        if (read)
+            *sum += mastdock_run_resume(record, size).run.held[1311];
+        else
+            *sum += (double)mastdock_run_record(run, record, sizeof record).size;
+    }
+    return (now() - start) / TURNS;
+}
+
+static void records(void) {
+    static uint8_t store[STORE];
+    uint8_t root[32];
+    double p[ROUNDS], w[ROUNDS], r[ROUNDS], sum = 0;
+    for (int i = 0; i < ROUNDS; i++) {
+        p[i] = proved(ALL, store, root) / (double)ALL;
+        w[i] = recorded(0, &sum);
+        r[i] = recorded(1, &sum);
+    }
+    qsort(p, ROUNDS, sizeof(double), by_value);
+    qsort(w, ROUNDS, sizeof(double), by_value);
+    qsort(r, ROUNDS, sizeof(double), by_value);
+    double label = p[ROUNDS / 2];
+    printf("%-28s written in %.2f labels, read in %.2f labels (%.0f)\n", "the longest record", w[ROUNDS / 2] / label, r[ROUNDS / 2] / label, sum);
+}
+
 int main(void) {
     if (compare("depth 18, one budget", ALL) || compare("depth 18, budget 1 a call", 1))
         return 1;
     openings();
+    records();
     return 0;
 }

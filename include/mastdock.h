@@ -3,9 +3,9 @@
  * Conventions
  * - Every call is decided for every value of its arguments. A state (hash, run, opening, writing) is plain data: it may be copied,
  *   kept in a file and continued later, and a call that is given one that cannot be continued refuses it.
- * - A refusal is document 01's number, 0 where there is none; enum mastdock_refusal names them. Each call lists its refusals in
- *   the order in which they are tested. A refused call changes no lent byte, hands a state back as it was and makes 0 labels; a
- *   refused start hands back an all-zero state, and other values beside a refusal are 0.
+ * - A refusal is document 01's number (from 18 on a change request's), 0 where there is none; enum mastdock_refusal names them. Each
+ *   call lists its refusals in the order in which they are tested. A refused call changes no lent byte, hands a state back as it was
+ *   and makes 0 labels; a refused start, and a record refused, hands back an all-zero state, and other values beside a refusal are 0.
  * - Lent memory is a pointer and a number of elements. Where the number is 0 the pointer may be null: so it is for every pointer of
  *   every call that a number follows, and the call answers as for memory of that length.
  * - No struct has padding: its bytes are those of its fields, `zero` among them, so two answers are equal just when memcmp says so.
@@ -25,26 +25,27 @@
 extern "C" {
 #endif
 
-/* Refusals, with document 01's numbers. */
+/* Refusals, with document 01's numbers and those of the change requests. */
 enum mastdock_refusal {
     MASTDOCK_DEPTH = 1,           /* depth n not 1..40 */
     MASTDOCK_MEMORY_LEVEL = 2,    /* memory level m over min(n, 14) */
     MASTDOCK_SHORT_STORE = 3,     /* store short */
     MASTDOCK_STATE = 4,           /* a state that cannot be continued: n not 1..40, m over min(n, 14), a leaf of 2^n or more, or more
-                                     labels made than there are to make */
+                                     labels made than there are to make; or a record of such numbers */
     MASTDOCK_TOO_MANY_BYTES = 5,  /* over 2^61 - 1 bytes to hash in all */
     MASTDOCK_LEAF_POSITION = 6,   /* a leaf's position 2^n or more */
     MASTDOCK_SHORT_OUTPUT = 7,    /* output short */
     MASTDOCK_COUNT = 8,           /* a challenge, or a count of them or of leaves compared, not 1..200; over 200 leaves planned */
     MASTDOCK_NOT_WANTED = 9,      /* statement, depth or count not those wanted */
     MASTDOCK_BYTES_END = 10,      /* bytes end, or are too few */
-    MASTDOCK_NOT_SHORTEST = 11,   /* a number of the file not in its shortest form, or too long */
+    MASTDOCK_NOT_SHORTEST = 11,   /* a number of a file or record not in its shortest form, or too long */
     MASTDOCK_EDITION = 12,        /* edition not 1 */
     MASTDOCK_BYTES_LEFT = 13,     /* bytes too many */
     MASTDOCK_LEAF_LABEL = 14,     /* leaf label wrong */
     MASTDOCK_ROOT = 15,           /* root wrong */
     MASTDOCK_SHORT_LIST = 16,     /* list short */
-    MASTDOCK_INPUT = 17           /* input of the planning program; no call here gives it */
+    MASTDOCK_INPUT = 17,          /* input of the planning program; no call here gives it */
+    MASTDOCK_RECORD_LENGTH = 18   /* the record's length is not what its numbers require */
 };
 
 /* Limits and sizes. A state's size is its sizeof. The sizes are constant where their arguments are; n is 1..40, m at most
@@ -60,6 +61,7 @@ enum mastdock_refusal {
 #define MASTDOCK_MAX_MEMORY 14
 #define MASTDOCK_MAX_COUNT 200
 #define MASTDOCK_HELD_SIZE 1312                                             /* 41 places of 32 bytes */
+#define MASTDOCK_MAX_RECORD 1353                                            /* bytes of the longest record of a run */
 #define MASTDOCK_STORE_SIZE(m) (32 * ((MASTDOCK_SIZE(2) << (m)) - 1))       /* bytes of a store of levels 0 to m */
 #define MASTDOCK_MAX_STORE MASTDOCK_STORE_SIZE(MASTDOCK_MAX_MEMORY)         /* 1,048,544 bytes: no call asks for more */
 #define MASTDOCK_OPENING_SIZE(n) (32 * (MASTDOCK_SIZE(n) + 1))              /* bytes of an opening */
@@ -141,6 +143,26 @@ mastdock_run_started mastdock_run_start(const uint8_t statement[32], uint64_t de
 
 /* Makes exactly the smaller of the budget and the labels that remain; stored labels are written as made. Refusals: 4, 3. */
 mastdock_run_advanced mastdock_run_advance(mastdock_run run, uint64_t budget, uint8_t *store, size_t store_len);
+
+/* ---- A run paused: its record ----
+ *
+ * The record of a run is those bytes of it that another machine needs to go on: edition, depth, memory level and labels made, then the
+ * statement, then the held labels and no place beyond them. The store travels separately. Over the same store a run that was paused
+ * after any label and resumed ends with the root and store of one never paused. */
+
+typedef struct mastdock_run_recorded {
+    uint64_t refusal;
+    size_t size;
+} mastdock_run_recorded;
+
+/* Writes the run's record over the front of the output and gives the number of its bytes, at most MASTDOCK_MAX_RECORD. Places that
+ * hold no label are not looked at. Refusals: 4 (as mastdock_run_advance), 7. */
+mastdock_run_recorded mastdock_run_record(mastdock_run run, uint8_t *out, size_t out_len);
+
+/* The run of a record; its places that hold no label are zero. Two different records never give the same run. Refusals: edition 10,
+ * 11, 12; depth 10, 11; memory level 10, 11; labels made 10, 11; then 4 (mastdock_run_advance would refuse a run of these numbers with
+ * 4); 18 (bytes too few or too many for them). */
+mastdock_run_started mastdock_run_resume(const uint8_t *record, size_t record_len);
 
 /* ---- Openings ---- */
 
@@ -361,6 +383,10 @@ MASTDOCK_AT(mastdock_run_advanced, refusal, 0);
 MASTDOCK_AT(mastdock_run_advanced, labels, 8);
 MASTDOCK_AT(mastdock_run_advanced, run, 16);
 
+MASTDOCK_ASSERT(sizeof(mastdock_run_recorded) == 16);
+MASTDOCK_AT(mastdock_run_recorded, refusal, 0);
+MASTDOCK_AT(mastdock_run_recorded, size, 8);
+
 MASTDOCK_ASSERT(sizeof(mastdock_opening) == 1376);
 MASTDOCK_AT(mastdock_opening, statement, 0);
 MASTDOCK_AT(mastdock_opening, depth, 32);
@@ -432,6 +458,9 @@ MASTDOCK_AT(mastdock_drawn, clash, 24);
 MASTDOCK_ASSERT(MASTDOCK_STORE_SIZE(0) == 32 && MASTDOCK_STORE_SIZE(10) == 65504);
 MASTDOCK_ASSERT(MASTDOCK_FILE_SIZE(1, 1) == 131 && MASTDOCK_FILE_SIZE(40, 200) == 262468);
 MASTDOCK_ASSERT(MASTDOCK_LABELS(2) == 7 && MASTDOCK_LABELS_ANEW(3, 3) == 0 && MASTDOCK_LABELS_ANEW(3, 1) == 6);
+
+/* W-201: three numbers of one byte, one of six, the statement and 41 labels. */
+MASTDOCK_ASSERT(MASTDOCK_MAX_RECORD == 3 + 6 + 32 + MASTDOCK_HELD_SIZE);
 
 #undef MASTDOCK_AT
 #undef MASTDOCK_ASSERT

@@ -1,6 +1,6 @@
 /* What include/mastdock.h says of lent memory and of answers: a null pointer where the number is 0, for every call that takes a
-   pointer with a number, and answers without padding; and of the memory level's limit. The refusals are document 01's for memory of no
-   bytes. Prints nothing. */
+   pointer with a number, and answers without padding; of the memory level's limit; and of a run's record. The refusals are document
+   01's for memory of no bytes. Prints nothing. */
 #include "mastdock.h"
 #include <stdio.h>
 #include <stdlib.h>
@@ -53,6 +53,8 @@ static void null_states(void) {
     EXPECT(run.refusal + opening.refusal + writing.refusal, 0);
     EXPECT(mastdock_run_start(ZERO, 1, 0, NULL, 0).refusal, MASTDOCK_SHORT_STORE);
     EXPECT(mastdock_run_advance(run.run, 1, NULL, 0).refusal, MASTDOCK_SHORT_STORE);
+    EXPECT(mastdock_run_record(run.run, NULL, 0).refusal, MASTDOCK_SHORT_OUTPUT);
+    EXPECT(mastdock_run_resume(NULL, 0).refusal, MASTDOCK_BYTES_END);
     EXPECT(mastdock_opening_start(ZERO, 1, 1, 0, NULL, 0, NULL, 0).refusal, MASTDOCK_SHORT_STORE);
     EXPECT(mastdock_opening_start(ZERO, 1, 1, 0, store, sizeof store, NULL, 0).refusal, MASTDOCK_SHORT_OUTPUT);
     EXPECT(mastdock_opening_advance(opening.opening, 1, NULL, 0, NULL, 0).refusal, MASTDOCK_SHORT_STORE);
@@ -93,6 +95,65 @@ static void levels(void) {
                 at_level(n, m, store, MASTDOCK_STORE_SIZE(m) - 1, MASTDOCK_SHORT_STORE, MASTDOCK_SHORT_STORE);
             }
         }
+}
+
+/* W-201: the record of a run with something in every place, over an output of just its size with bytes behind it and a byte short;
+   and what is read back, whose other places are zero. */
+static void recorded(uint64_t depth, uint64_t made, size_t numbers, size_t held) {
+    mastdock_run run = {.depth = depth, .memory = 1, .made = made};
+    uint8_t out[MASTDOCK_MAX_RECORD + 1];
+    size_t size = numbers + 32 + 32 * held;
+    memset(run.statement, 201, sizeof run.statement);
+    memset(run.held, 7, sizeof run.held);
+    memset(out, 90, sizeof out);
+    mastdock_run_recorded answer = mastdock_run_record(run, out, size - 1);
+    EXPECT(answer.refusal, MASTDOCK_SHORT_OUTPUT);
+    EXPECT(answer.size, 0);
+    EXPECT(out[0], 90);
+    EXPECT((uint64_t)memcmp(out, out + 1, sizeof out - 1), 0);
+    answer = mastdock_run_record(run, out, size);
+    EXPECT(answer.refusal, 0);
+    EXPECT(answer.size, size);
+    EXPECT(out[size], 90);
+    EXPECT((uint64_t)memcmp(out + numbers, run.statement, 32), 0);
+    EXPECT((uint64_t)memcmp(out + numbers + 32, run.held, 32 * held), 0);
+    fill_stack();
+    mastdock_run_started back = mastdock_run_resume(out, size);
+    memset(run.held + 32 * held, 0, sizeof run.held - 32 * held);
+    EXPECT(back.refusal, 0);
+    EXPECT((uint64_t)memcmp(&back.run, &run, sizeof run), 0);
+    EXPECT(mastdock_run_resume(out, size - 1).refusal, MASTDOCK_RECORD_LENGTH);
+    EXPECT(mastdock_run_resume(out, size + 1).refusal, MASTDOCK_RECORD_LENGTH);
+}
+
+/* Records refused: writing with 4 before 7, reading with 4 before 18; beside a refusal all is zero. */
+static void records_refused(void) {
+    const uint8_t numbers[][4] = {{1, 0, 0, 0}, {1, 41, 0, 0}, {1, 1, 2, 0}, {1, 40, 15, 0}, {1, 3, 1, 16}};
+    uint8_t out[MASTDOCK_MAX_RECORD];
+    memset(out, 90, sizeof out);
+    for (size_t i = 0; i < sizeof numbers / sizeof *numbers; i++) {
+        mastdock_run run = {.depth = numbers[i][1], .memory = numbers[i][2], .made = numbers[i][3]};
+        EXPECT(mastdock_run_record(run, NULL, 0).refusal, MASTDOCK_STATE);
+        EXPECT(mastdock_run_record(run, out, sizeof out).refusal, MASTDOCK_STATE);
+        EXPECT(mastdock_run_record(run, out, sizeof out).size, 0);
+        fill_stack();
+        mastdock_run_started back = mastdock_run_resume(numbers[i], 4);
+        EXPECT(back.refusal, MASTDOCK_STATE);
+        EXPECT((uint64_t)all_zero(&back.run, sizeof back.run), 1);
+    }
+    EXPECT(out[0], 90);
+    EXPECT((uint64_t)memcmp(out, out + 1, sizeof out - 1), 0);
+}
+
+/* 41 labels are held when the last leaf of depth 40 is labelled. */
+static void records(void) {
+    recorded(1, 0, 4, 0);
+    recorded(1, 2, 4, 2);
+    recorded(3, 11, 4, 3);
+    recorded(3, 15, 4, 1);
+    recorded(40, MASTDOCK_LABELS(40) - 40, 9, 41);
+    recorded(40, MASTDOCK_LABELS(40), 9, 1);
+    records_refused();
 }
 
 /* A file, an opening, leaves and a list of no elements. */
@@ -150,6 +211,7 @@ int main(void) {
     null_hashes();
     null_states();
     levels();
+    records();
     null_files();
     answers();
     return 0;

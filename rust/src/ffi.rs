@@ -41,6 +41,13 @@ pub struct RunAdvanced {
 
 #[repr(C)]
 #[derive(Clone, Debug, PartialEq, Eq)]
+pub struct RunRecorded {
+    pub refusal: u64,
+    pub size: usize,
+}
+
+#[repr(C)]
+#[derive(Clone, Debug, PartialEq, Eq)]
 pub struct OpeningStarted {
     pub refusal: u64,
     pub opening: Opening,
@@ -132,6 +139,8 @@ extern "C" {
         store_len: usize,
     ) -> RunStarted;
     pub fn mastdock_run_advance(run: Run, budget: u64, store: *mut u8, store_len: usize) -> RunAdvanced;
+    pub fn mastdock_run_record(run: Run, out: *mut u8, out_len: usize) -> RunRecorded;
+    pub fn mastdock_run_resume(record: *const u8, record_len: usize) -> RunStarted;
     pub fn mastdock_opening_start(
         statement: *const [u8; 32],
         depth: u64,

@@ -22,6 +22,7 @@ layout!(Digested, 40, 8, refusal 0, digest 8);
 layout!(Run, 1368, 8, statement 0, depth 32, memory 40, made 48, held 56);
 layout!(RunStarted, 1376, 8, refusal 0, run 8);
 layout!(RunAdvanced, 1384, 8, refusal 0, labels 8, run 16);
+layout!(RunRecorded, 16, 8, refusal 0, size 8);
 layout!(Opening, 1376, 8, statement 0, depth 32, memory 40, leaf 48, made 56, held 64);
 layout!(OpeningStarted, 1384, 8, refusal 0, opening 8);
 layout!(OpeningAdvanced, 1392, 8, refusal 0, labels 8, opening 16);

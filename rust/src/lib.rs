@@ -1,6 +1,7 @@
 //! Proofs of sequential work of Cohen and Pietrzak, for reports sealed with no network: safe calls of the proved static library
-//! `libcapi.a`. Every call is decided for every argument; a refusal is a [`Refusal`] with document 01's number. States are plain
-//! data and may be kept and continued later. All memory is lent by the caller.
+//! `libcapi.a`. Every call is decided for every argument; a refusal is a [`Refusal`] with document 01's number, or a change
+//! request's. States are plain data and may be kept and continued later; a run that goes on elsewhere has a record ([`Run::record`]).
+//! All memory is lent by the caller.
 //!
 //! A report sealed and checked:
 //!
@@ -57,6 +58,6 @@ pub use refusal::{Refusal, Rejected};
 pub use run::Run;
 pub use sizes::{
     file_size, head_size, labels, labels_anew, opening_size, store_size, HELD_SIZE, MAX_CHAIN, MAX_COUNT, MAX_DEPTH,
-    MAX_MEMORY, MAX_STORE,
+    MAX_MEMORY, MAX_RECORD, MAX_STORE,
 };
 pub use writing::Writing;

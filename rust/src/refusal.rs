@@ -1,8 +1,8 @@
-//! Document 01's refusals.
+//! Document 01's refusals, and those of the change requests.
 use std::error::Error;
 use std::fmt;
 
-/// Why a call was refused. The number of a case is document 01's.
+/// Why a call was refused. The number of a case is document 01's, from 18 on a change request's.
 #[repr(u64)]
 #[derive(Clone, Copy, Debug, PartialEq, Eq, Hash)]
 pub enum Refusal {
@@ -12,7 +12,7 @@ pub enum Refusal {
     MemoryLevel = 2,
     /// Store short.
     ShortStore = 3,
-    /// A state that cannot be continued.
+    /// A state that cannot be continued, or a record of numbers that no run has.
     State = 4,
     /// Over 2^61 − 1 bytes to hash in all.
     TooManyBytes = 5,
@@ -26,7 +26,7 @@ pub enum Refusal {
     NotWanted = 9,
     /// Bytes end, or are too few.
     BytesEnd = 10,
-    /// A number of the file not in its shortest form, or too long.
+    /// A number of a file or record not in its shortest form, or too long.
     NotShortest = 11,
     /// Edition not 1.
     Edition = 12,
@@ -40,11 +40,13 @@ pub enum Refusal {
     ShortList = 16,
     /// Input of the planning program; no call of this crate gives it.
     Input = 17,
+    /// The record's length is not what its numbers require.
+    RecordLength = 18,
 }
 
 impl Refusal {
     /// All of them, in the order of their numbers.
-    pub const ALL: [Refusal; 17] = [
+    pub const ALL: [Refusal; 18] = [
         Refusal::Depth,
         Refusal::MemoryLevel,
         Refusal::ShortStore,
@@ -62,9 +64,10 @@ impl Refusal {
         Refusal::Root,
         Refusal::ShortList,
         Refusal::Input,
+        Refusal::RecordLength,
     ];
 
-    /// Document 01's number.
+    /// Its number.
     pub const fn number(self) -> u64 {
         self as u64
     }
@@ -93,6 +96,7 @@ impl Refusal {
             Refusal::Root => "root wrong",
             Refusal::ShortList => "list short",
             Refusal::Input => "planning input wrong",
+            Refusal::RecordLength => "record length not what its numbers require",
         }
     }
 }
@@ -147,5 +151,5 @@ pub(crate) fn checked(code: u64) -> Result<(), Rejected> {
 }
 
 fn known(number: u64) -> Refusal {
-    Refusal::from_number(number).expect("the library gives document 01's numbers only")
+    Refusal::from_number(number).expect("the library gives the numbers of refusals only")
 }

@@ -34,6 +34,24 @@ impl Run {
         answered(advanced.refusal, advanced.labels)
     }
 
+    /// Writes the run's record over the front of `out` and gives its size, at most [`MAX_RECORD`](crate::MAX_RECORD) bytes.
+    /// [`resume`](Run::resume) takes the run up again from it, elsewhere too; the store is not in it. Refused with 4, 7, which writes
+    /// nothing.
+    pub fn record(&self, out: &mut [u8]) -> Result<usize, Refusal> {
+        // SAFETY: pointer and length are a slice's, which is borrowed alone, and every state is allowed.
+        let recorded = unsafe { ffi::mastdock_run_record(self.clone(), out.as_mut_ptr(), out.len()) };
+        answered(recorded.refusal, recorded.size)
+    }
+
+    /// The run of a record. Over the same store it ends as the run that was written out would have. Places that hold no label are
+    /// zero. Refused for the edition with 10, 11, 12, for depth, memory level and labels made with 10, 11 each; then with 4 (no run has
+    /// such numbers), 18.
+    pub fn resume(record: &[u8]) -> Result<Run, Refusal> {
+        // SAFETY: pointer and length are a slice's.
+        let started = unsafe { ffi::mastdock_run_resume(record.as_ptr(), record.len()) };
+        answered(started.refusal, started.run)
+    }
+
     /// The root's label, if all labels are made.
     pub fn root(&self) -> Option<[u8; 32]> {
         if labels(self.depth) == Some(self.made) {

@@ -10,6 +10,8 @@ pub const MAX_COUNT: u64 = 200;
 pub const MAX_STORE: usize = 1048544;
 /// The bytes of 41 held labels.
 pub const HELD_SIZE: usize = 1312;
+/// The bytes of the longest record of a run.
+pub const MAX_RECORD: usize = 1353;
 /// The most nodes of a chain.
 pub const MAX_CHAIN: usize = 6855;
 
@@ -70,7 +72,8 @@ pub const fn labels_anew(depth: u64, memory: u64) -> Option<u64> {
     }
 }
 
-// Document 01's table: T5, T8 and T9; W-209.
+// Document 01's table: T5, T8 and T9; W-209; W-201: three numbers of one byte, one of six, the statement and 41 labels.
 const _: () = assert!(matches!(store_size(0), Some(32)) && matches!(store_size(10), Some(65504)));
 const _: () = assert!(matches!(store_size(MAX_MEMORY), Some(MAX_STORE)) && store_size(MAX_MEMORY + 1).is_none());
+const _: () = assert!(MAX_RECORD == 3 + 6 + 32 + HELD_SIZE);
 const _: () = assert!(matches!(file_size(1, 1), Some(131)) && matches!(file_size(40, 200), Some(262468)));

@@ -1,4 +1,4 @@
-"""The worked example of docs/FORMAT.md: the proof of a report of four bytes at depth 2 with two challenges."""
+"""The worked example of docs/FORMAT.md: the proof of a report of four bytes at depth 2 with two challenges, and records of its run."""
 import mastdock as md
 from mastdock import sha
 from outputs import tree
@@ -39,4 +39,8 @@ def example():
         text += f"byte {other} changed, check {md.check_code(changed, statement, n, t)}\n"
     text += f"chain {' '.join(map(str, md.chain(n, leaves)))}\n"
     text += f"store of memory level 1 {labels.store(1).hex()}\n"
+    run, store = md.Run(statement, n, 1), bytearray(md.store_size(1))
+    for labels_more in (0, 5, 2):
+        run.advance(labels_more, store)
+        text += f"record of memory level 1 after {run.made} labels {md.record(run).hex()}\n"
     return text

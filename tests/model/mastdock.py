@@ -1,4 +1,4 @@
-"""A model of document 01 in plain Python, written from the document's text (docs/FORMAT.md says the same in our words). SHA-256 is
+"""A model of documents 01 and 02 in plain Python, written from their text (docs/FORMAT.md says the same in our words). SHA-256 is
 hashlib's. Nothing of it comes from the proved code; it is slow and simple."""
 import hashlib
 
@@ -179,9 +179,11 @@ class Run(Subtree):
     def bytes(self):
         return self.statement + b"".join(x.to_bytes(8, "big") for x in (self.n, self.m, self.made)) + self.held
 
+    def impossible(self):
+        return bad_depth(self.n) or bad_memory(self.n, self.m) or self.made > 2 ** (self.n + 1) - 1
+
     def continue_row(self, store):
-        bad = bad_depth(self.n) or bad_memory(self.n, self.m) or self.made > 2 ** (self.n + 1) - 1
-        return row((4, lambda: bad), (3, lambda: store < store_size(self.m)))
+        return row((4, self.impossible), (3, lambda: store < store_size(self.m)))
 
     def advance(self, budget, store):
         """The refusal, and the labels made."""
@@ -337,17 +339,19 @@ class Refused(Exception):
         return 256 * self.number + self.opening
 
 
-def read_number(data, at):
-    """A number in at most two groups, and the place after it."""
-    if at >= len(data):
-        raise Refused(10)
-    if data[at] < 128:
-        return data[at], at + 1
-    if at + 1 >= len(data):
-        raise Refused(10)
-    if data[at + 1] == 0 or data[at + 1] > 127:
-        raise Refused(11)
-    return data[at] - 128 + 128 * data[at + 1], at + 2
+def read_number(data, at, most=2):
+    """A number in at most so many groups, and the place after it."""
+    value = 0
+    for i in range(most):
+        if at + i >= len(data):
+            raise Refused(10)
+        byte = data[at + i]
+        value += byte % 128 * 128**i
+        if byte < 128:
+            if byte == 0 and i > 0:
+                raise Refused(11)
+            return value, at + i + 1
+    raise Refused(11)
 
 
 def read_head(data):
@@ -432,6 +436,51 @@ def check_code(data, statement, n, t):
     except Refused as refused:
         return refused.code()
     return 0
+
+
+# The record of a run
+
+
+def held_size(run):
+    """The bytes of the held labels. They stand at the front of the places."""
+    return 32 * held_before(run.n, run.made)
+
+
+def record(run):
+    return b"".join(map(groups, (1, run.n, run.m, run.made))) + run.statement + run.held[: held_size(run)]
+
+
+def write_record(run, out):
+    """The refusal, and how many bytes were written over the front of the output."""
+    refusal = row((4, run.impossible), (7, lambda: len(out) < len(record(run))))
+    if refusal:
+        return refusal, 0
+    size = len(record(run))
+    out[:size] = record(run)
+    return 0, size
+
+
+def resumed(data):
+    """The run of a record; raises Refused."""
+    edition, at = read_number(data, 0)
+    if edition != 1:
+        raise Refused(12)
+    n, at = read_number(data, at)
+    m, at = read_number(data, at)
+    made, at = read_number(data, at, 6)
+    run = Run(bytes(data[at : at + 32]), n, m, made, bytes(data[at + 32 :]).ljust(32 * PLACES, b"\0"))
+    refusal = row((4, run.impossible), (18, lambda: len(data) != at + 32 + held_size(run)))
+    if refusal:
+        raise Refused(refusal)
+    return run
+
+
+def read_record(data):
+    """The refusal, and the run, which is all zero beside one."""
+    try:
+        return 0, resumed(data)
+    except Refused as refused:
+        return refused.number, Run()
 
 
 # Chains

@@ -165,6 +165,97 @@ def unit_vectors():
     return digests() + runs() + run_edges() + openings() + openings_checked()
 
 
+# record_vectors
+
+
+def wrote(run, size):
+    """The line of a record written over so many bytes that held something else, the record's size and the bytes afterwards."""
+    out = bytearray([90] * size)
+    refusal, count = md.write_record(run, out)
+    return f"{run.n} {run.m} {run.made} {size} {refusal} {count} {sha(out).hex()}", count, out
+
+
+def record_line(run):
+    """A run's record, and the run that it gives."""
+    text, size, out = wrote(run, 1353)
+    refusal, back = md.read_record(out[:size])
+    return f"{text} {refusal} {back.n} {back.m} {back.made} {sha(back.statement).hex()} {sha(back.held).hex()}\n"
+
+
+def by_hand(n, m, made):
+    return md.Run(bytes([201] * 32), n, m, made, bytes(i % 251 for i in range(1312)))
+
+
+RECORD_EDGES = [
+    (0, 0, 0, 36), (41, 0, 0, 36), (BIG, 0, 0, 36), (3, 3, 0, 36), (3, 4, 0, 36), (13, 14, 0, 36), (14, 14, 0, 36), (40, 15, 0, 36),
+    (40, 20, 0, 36), (3, 1, 14, 100), (3, 1, 15, 68), (3, 1, 16, 68), (3, 1, BIG, 68), (40, 14, 2**41 - 41, 1353),
+    (40, 14, 2**41 - 1, 73), (40, 14, 2**41, 73),
+]
+
+
+def records_written():
+    text = ""
+    for n in range(1, 5):
+        run, store = md.Run(sha(b"hull"), n, min(n, 2)), bytearray(224)
+        for _ in range(2 ** (n + 1)):
+            text += record_line(run)
+            run.advance(1, store)
+    for made in (0, 1, 2**41 - 41, 2**41 - 2, 2**41 - 1):
+        text += record_line(by_hand(40, 14, made))
+    for n, m, made, enough in RECORD_EDGES:
+        for size in (0, enough - 1, enough, 1353):
+            text += wrote(by_hand(n, m, made), size)[0] + "\n"
+    return text
+
+
+def pauses():
+    """By the definition: what a run that was never paused has at its end."""
+    text = ""
+    for n, level in enumerate((0, 1, 3, 3, 1, 3, 6, 0), 1):
+        labels = tree(sha(b""), n)
+        for m in (level, 0 if level == n else n):
+            text += f"{n} {m} {2 ** (n + 1) - 1} {labels.root.hex()} {sha(labels.store(m)).hex()}\n"
+    return text
+
+
+def in_groups(x, count):
+    """A number in so many groups, whether it needs them or not."""
+    return bytes(x // 128**i % 128 + (128 if i + 1 < count else 0) for i in range(count))
+
+
+def numbers_line(form, *numbers):
+    """A digit of the form is the number of groups more than one of a number; the answers are for several lengths of the rest."""
+    data = b"".join(in_groups(x, 1 + int(digit)) for digit, x in zip(f"{form:04}", numbers))
+    answers = [md.read_record(data + bytes([90] * rest))[0] for rest in (0, 31, 32, 33, 64, 96)]
+    return " ".join(map(str, (form, *numbers, *answers))) + "\n"
+
+
+NUMBERS = [
+    (0, 0, 40, 14, 0), (0, 2, 40, 14, 0), (0, 3, 41, 99, 99), (1000, 128, 40, 14, 0), (1000, 200, 0, 99, 99), (1003, 200, 0, 99, 0),
+    (0, 1, 0, 0, 0), (0, 1, 41, 0, 0), (0, 1, 127, 0, 0), (100, 1, 128, 0, 0), (1, 1, 0, 0, 0), (0, 1, 40, 13, 0), (0, 1, 40, 14, 0),
+    (0, 1, 40, 15, 0), (0, 1, 40, 20, 0), (0, 1, 40, 21, 0), (0, 1, 13, 14, 0), (10, 1, 40, 128, 0),
+    (0, 1, 3, 1, 1), (0, 1, 3, 1, 2), (0, 1, 3, 1, 14), (0, 1, 3, 1, 15), (0, 1, 3, 1, 16), (1, 1, 3, 1, 128), (1, 1, 40, 14, 128),
+    (4, 1, 40, 14, 2**35 - 1), (5, 1, 40, 14, 2**35 - 1), (5, 1, 40, 14, 2**41 - 2), (5, 1, 40, 14, 2**41 - 1), (5, 1, 40, 14, 2**41),
+    (5, 1, 40, 14, 2**42 - 1), (6, 1, 40, 14, 2**41 - 1), (6, 1, 40, 14, 2**42), (9, 1, 40, 14, 0),
+]
+
+
+def records_read():
+    text = ""
+    for n, m, made in ((1, 0, 0), (3, 2, 9), (40, 14, 2**41 - 1)):
+        data = md.record(by_hand(n, m, made))
+        longer = data + bytes([90] * 140)
+        answers = [md.read_record(longer[:size])[0] for size in range(140)]
+        text += " ".join(map(str, (len(data), *answers))) + "\n"
+    for numbers in ((1, 3, 1, 15), (1, 41, 99, 99)):
+        text += "".join(numbers_line(place * more, *numbers) for more in (1, 2, 3) for place in (1000, 100, 10, 1))
+    return text + "".join(numbers_line(*line) for line in NUMBERS)
+
+
+def record_vectors():
+    return records_written() + pauses() + records_read()
+
+
 # file_vectors
 
 

@@ -9,6 +9,19 @@ def lines(name):
     return [line.split(" ") for line in text.split("\n") if line and not line.startswith("#")]
 
 
+def read_back(data, refusal):
+    """Whether the bytes are refused so, or read as a run whose record they are."""
+    number, run = md.read_record(data)
+    return number == refusal and (refusal or md.record(run) == data)
+
+
+def after(statement, n, m, made):
+    """A run that has made so many labels."""
+    run = md.Run(statement, n, m)
+    run.advance(made, bytearray(md.store_size(m)))
+    return run
+
+
 def agree():
     """How many vectors agree; fails at the first that does not."""
     for length, digest in lines("sha256.txt"):
@@ -16,6 +29,13 @@ def agree():
     for field, n, root, m, store in lines("roots.txt"):
         labels = tree(sha(report(field)), int(n))
         assert (labels.root.hex(), sha(labels.store(int(m))).hex()) == (root, store), (field, n)
+    for statement, n, m, made, refusal, data in lines("records.txt"):
+        assert read_back(report(data), int(refusal)), data
+        assert int(refusal) or md.record(after(bytes.fromhex(statement), int(n), int(m), int(made))) == report(data), data
+    for statement, n, m, made, count, held, data in lines("records-deep.txt"):
+        refusal, run = md.read_record(report(data))
+        assert (run.statement.hex(), run.n, run.m, run.made) == (statement, int(n), int(m), int(made)), data
+        assert (md.held_size(run), sha(run.held).hex()) == (32 * int(count), held) and read_back(report(data), 0), data
     for field, n, t, file in lines("files.txt"):
         assert tree(sha(report(field)), int(n)).file(int(t)).hex() == file, (field, n, t)
     for file, statement, n, t, code in lines("checks.txt"):
@@ -27,4 +47,5 @@ def agree():
         file = labels.file(int(t))
         found = md.chain(int(n), md.challenge_leaves(int(n), labels.statement, labels.root, int(t)))
         assert (len(file), sha(file).hex(), len(found), places_digest(found)) == (int(size), digest, int(count), nodes), field
-    return sum(len(lines(f"{name}.txt")) for name in ("sha256", "roots", "files", "checks", "plans", "plans-none", "chains"))
+    names = ("sha256", "roots", "records", "records-deep", "files", "checks", "plans", "plans-none", "chains")
+    return sum(len(lines(f"{name}.txt")) for name in names)

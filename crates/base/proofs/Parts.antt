@@ -5,7 +5,7 @@ use Prim.Native.Nat.{ℕ, _+_, _-_, _≤_}
 use native.Mathlib.Nat.{zero-add}
 use native.Mathlib.Omega.{arith}
 use lib.ListN.{length, take, drop, length-append, length-take, length-drop}
-use lib.Seq.{take-at, drop-length, length-take-le}
+use lib.Seq.{take-at, take-all, drop-length, length-take-le}
 use Rattle.base.specs.Bytes.{written}
 
 -- a part from a start to an end is as long as they are apart
@@ -14,6 +14,10 @@ part-size bytes start size = let e : start + size - start ≡ size = omega arith
 
 pub part-length : (bytes : List ℕ) (start size : ℕ) → start + size ≤ length bytes → length (take size (drop start bytes)) ≡ size
 part-length bytes start size h = simp (length-take, length-drop) (omega arith)
+
+-- the bytes from a place on
+pub part-rest : (bytes : List ℕ) (start : ℕ) → take (length bytes - start) (drop start bytes) ≡ drop start bytes
+part-rest bytes start = take-all (length bytes - start) (drop start bytes) (rw length-drop (omega arith))
 
 -- bytes written over all of a list
 pub whole-written : (d s : List ℕ) → length d ≡ length s → written d 0 s ≡ s

@@ -3,10 +3,11 @@ use mathlib.Core.Path.{_≡_, sym, ap, _∙_}
 use mathlib.Core.Logic.{_⊎_, inl, inr}
 use mathlib.Core.List.{List, [], _∷_, _++_, append-assoc, append-nil}
 use Prim.Native.Nat.{ℕ, suc, _+_, _-_, _≤_, _<_}
+use native.Mathlib.Nat.{zero-add}
 use native.Mathlib.Numerals.{add-one}
 use native.Mathlib.Omega.{arith}
 use lib.ListN.{length, getD, take, drop, set, length-set, take-append-drop, length-append, length-take, length-drop, List·getD-append}
-use lib.Seq.{take-at, drop-at, drop-append-add, drop-drop, length-take-le, getD-append-add, getD-take, getD-drop, ext-getD}
+use lib.Seq.{take-at, drop-at, take-append-seam, drop-append-add, drop-drop, length-take-le, getD-append-add, getD-take, getD-drop, ext-getD}
 use Rattle.base.proofs.Copying.{length-written, written-sets}
 use Rattle.base.specs.Bytes.{written}
 
@@ -26,6 +27,30 @@ pub written-two :
 written-two a b c d first second at size e f g h =
     rw (written-over a b (c ++ d) first at e (g ∙ sym f), ← append-assoc a first (c ++ d))
     (written-over (a ++ first) c d second (at + size) (rw (length-append, e, f)) h ∙ append-assoc a first (second ++ d))
+
+-- a part behind what is written over the front
+pub written-next : (out m part b : List ℕ) (at : ℕ) → b ≡ written out 0 m → at ≡ length m
+    → written b at part ≡ written out 0 (m ++ part)
+unfolding written
+written-next out m part b at e n =
+    rw (
+      e,
+      n,
+      zero-add,
+      zero-add,
+      take-append-seam m (drop (length m) out),
+      drop-append-add m (drop (length m) out) (length part),
+      drop-drop,
+      length-append,
+    )
+
+-- three parts over the front, one behind the other
+pub written-three : (out a b c o1 o2 o3 : List ℕ) (second third : ℕ) → o1 ≡ written out 0 a → o2 ≡ written o1 second b
+    → o3 ≡ written o2 third c → second ≡ length a → third ≡ second + length b → o3 ≡ written out 0 (a ++ b ++ c)
+written-three out a b c o1 o2 o3 second third e1 e2 e3 s2 s3 =
+    e3
+    ∙ written-next out (a ++ b) c o2 third (e2 ∙ written-next out a b o1 second e1 s2)
+    (s3 ∙ ap (λ (k : ℕ). k + length b) s2 ∙ sym (length-append a b))
 
 -- what stands behind the part
 pub drop-written :

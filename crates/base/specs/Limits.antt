@@ -13,7 +13,7 @@ maxMemory = 14
 abbrev pub maxChallenges : ℕ
 maxChallenges = 200
 
--- the edition of every file
+-- the edition of every file and of every record of a run
 abbrev pub edition : ℕ
 edition = 1
 
@@ -28,6 +28,10 @@ maxInput = 65536
 -- 'at most 41 held labels, 1,312 bytes in all'
 abbrev pub heldSize : ℕ
 heldSize = 32 * (maxDepth + 1)
+
+-- the longest record of a run: nine bytes of numbers, the statement and 41 labels, 1,353 bytes (W-201)
+abbrev pub maxRecord : ℕ
+maxRecord = 41 + heldSize
 
 -- 'so that no run needs a store over 1,048,544 bytes' (W-209)
 abbrev pub maxStore : ℕ

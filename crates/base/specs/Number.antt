@@ -2,7 +2,8 @@
 use Prim.Native.Nat.{ℕ, _+_, _*_}
 use Rattle.base.specs.declared.refusal.Refusal.{Refusal}
 use Rattle.base.specs.declared.refusal.Refusal.the-variants.{Depth, MemoryLevel, ShortStore, State, TooManyBytes, LeafPosition, ShortOutput, Count}
-use Rattle.base.specs.declared.refusal.Refusal.the-variants.{NotWanted, BytesEnd, NotShortest, Edition, BytesLeft, LeafLabel, Root, ShortList, Input}
+use Rattle.base.specs.declared.refusal.Refusal.the-variants.{NotWanted, BytesEnd, NotShortest, Edition, BytesLeft, LeafLabel, Root, ShortList}
+use Rattle.base.specs.declared.refusal.Refusal.the-variants.{Input, RecordLength}
 use Rattle.base.specs.declared.refusal.Outcome.{Outcome}
 use Rattle.base.specs.declared.refusal.Outcome.the-variants.{Done, Refused}
 use Rattle.base.specs.declared.refusal.Check.{Check}
@@ -15,7 +16,7 @@ numberOf Depth = 1
 numberOf MemoryLevel = 2
 -- store short
 numberOf ShortStore = 3
--- a run or an opening that cannot be continued
+-- a run or an opening that cannot be continued, and a record's numbers that no run has (W-201)
 numberOf State = 4
 -- over 2^61 − 1 bytes in all
 numberOf TooManyBytes = 5
@@ -43,6 +44,8 @@ numberOf Root = 15
 numberOf ShortList = 16
 -- the planning program's input
 numberOf Input = 17
+-- a record's length is not what its numbers require (W-201)
+numberOf RecordLength = 18
 
 -- 0 if done, else the refusal's number
 abbrev pub outcomeNumber : Outcome → ℕ

@@ -3,9 +3,9 @@
 use Prim.Native.Nat.{ℕ, zero, suc, min}
 use mathlib.Core.Bool.{Bool, true, false, not}
 use mathlib.Core.List.{List, [], _∷_}
-use lib.Dec.{ltb, leb}
+use lib.Dec.{ltb, leb, eqb}
 use Rattle.base.specs.Choice.{pick, both}
-use Rattle.base.specs.Limits.{maxMemory}
+use Rattle.base.specs.Limits.{maxMemory, edition}
 
 -- the number of the first condition of a row that holds; 0 where none does
 abbrev pub firstOf : List (Bool × ℕ) → ℕ
@@ -19,6 +19,10 @@ outside low high x = not (both (leb low x) (leb x high))
 -- 2: m over min(n, maxMemory)
 abbrev pub memoryOver : ℕ → ℕ → Bool
 memoryOver n m = ltb (min n maxMemory) m
+
+-- 12: no edition that there is
+abbrev pub otherEdition : ℕ → Bool
+otherEdition e = not (eqb e edition)
 
 -- one of the two holds
 abbrev pub either : Bool → Bool → Bool

@@ -30,6 +30,8 @@ pub const MAX_INPUT: usize = 65536;
 
 pub const HELD_SIZE: usize = 32 * (MAX_DEPTH as usize + 1);
 
+pub const MAX_RECORD: usize = 41 + HELD_SIZE;
+
 pub const MAX_STORE: usize = 32 * (2 * (1 << MAX_MEMORY) - 1);
 
 pub const MAX_FILE: usize = 68 + MAX_LEAVES * HELD_SIZE;

@@ -23,6 +23,7 @@ pub enum Refusal {
     Root,
     ShortList,
     Input,
+    RecordLength,
 }
 
 // The answer of a call that is done whole or refused.
@@ -60,6 +61,7 @@ pub fn number(r: Refusal) -> u64
         Refusal::Root => 15,
         Refusal::ShortList => 16,
         Refusal::Input => 17,
+        Refusal::RecordLength => 18,
     }
 }
 

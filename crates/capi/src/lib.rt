@@ -4,7 +4,7 @@ mod chains; // chains.rt: planning, comparing and drawing
 mod files; // files.rt: challenges, the head, and the checks of openings and files
 mod hashes; // hashes.rt: SHA-256
 mod openings; // openings.rt: openings
-mod runs; // runs.rt: runs
+mod runs; // runs.rt: runs, and their records
 mod writings; // writings.rt: whole files by budgets
 
 pub use chains::Clash;
@@ -34,8 +34,11 @@ pub use openings::OpeningStarted;
 pub use openings::mastdock_opening_advance;
 pub use openings::mastdock_opening_start;
 pub use runs::RunAdvanced;
+pub use runs::RunRecorded;
 pub use runs::RunStarted;
 pub use runs::mastdock_run_advance;
+pub use runs::mastdock_run_record;
+pub use runs::mastdock_run_resume;
 pub use runs::mastdock_run_start;
 pub use writings::WritingAdvanced;
 pub use writings::WritingStarted;

@@ -12,6 +12,7 @@ use Rattle.capi.specs.declared.hashes.HashFinished.{HashFinished}
 use Rattle.capi.specs.declared.hashes.HashDigest.{HashDigest}
 use Rattle.capi.specs.declared.runs.RunStarted.{RunStarted}
 use Rattle.capi.specs.declared.runs.RunAdvanced.{RunAdvanced}
+use Rattle.capi.specs.declared.runs.RunRecorded.{RunRecorded}
 use Rattle.capi.specs.declared.openings.OpeningStarted.{OpeningStarted}
 use Rattle.capi.specs.declared.openings.OpeningAdvanced.{OpeningAdvanced}
 use Rattle.capi.specs.declared.files.Challenged.{Challenged}
@@ -49,6 +50,9 @@ pub run-advanced :
     r .refusal ≡ a → r .labels ≡ b → r .run ≡ c →
     r ≡ record { refusal = a; labels = b; run = c }
 run-advanced r pa pb pc = rw (sym pa, sym pb, sym pc)
+
+pub run-recorded : (r : RunRecorded) {a b : ℕ} → r .refusal ≡ a → r .size ≡ b → r ≡ record { refusal = a; size = b }
+run-recorded r pa pb = rw (sym pa, sym pb)
 
 pub opening-started :
     (r : OpeningStarted) {a : ℕ} {b : Opening} →

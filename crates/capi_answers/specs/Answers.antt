@@ -9,6 +9,8 @@ use Rattle.sha256.specs.Portions.{updateRow, updateState, finishRow, finishDige
 use Rattle.run.specs.declared.Run.{Run}
 use Rattle.run.specs.Rows.{startRow, continueRow}
 use Rattle.run.specs.Steps as runs
+use Rattle.run_record.specs.Layout.{recordRow, recordSize}
+use Rattle.run_record.specs.Reading.{resumeRow, resumed}
 use Rattle.opening.specs.declared.Opening.{Opening}
 use Rattle.opening.specs.Rows.{openRow, reopenRow}
 use Rattle.opening.specs.Names.{openOf}
@@ -30,6 +32,7 @@ use Rattle.capi.specs.declared.hashes.HashFinished.{HashFinished}
 use Rattle.capi.specs.declared.hashes.HashDigest.{HashDigest}
 use Rattle.capi.specs.declared.runs.RunStarted.{RunStarted}
 use Rattle.capi.specs.declared.runs.RunAdvanced.{RunAdvanced}
+use Rattle.capi.specs.declared.runs.RunRecorded.{RunRecorded}
 use Rattle.capi.specs.declared.openings.OpeningStarted.{OpeningStarted}
 use Rattle.capi.specs.declared.openings.OpeningAdvanced.{OpeningAdvanced}
 use Rattle.capi.specs.declared.files.Challenged.{Challenged}
@@ -72,6 +75,14 @@ runAdvance run budget store =
       labels = runs.labelsIn (runs.stamped run store) budget;
       run = runs.advanced (runs.stamped run store) budget .run;
     }
+
+abbrev pub runRecord : Run → List ℕ → RunRecorded
+runRecord run out =
+    record { refusal = recordRow run (length out); size = recordSize run (length out) }
+
+abbrev pub runResume : List ℕ → RunStarted
+runResume bytes =
+    record { refusal = resumeRow bytes; run = resumed bytes }
 
 abbrev pub openingStart : List ℕ → ℕ → ℕ → ℕ → List ℕ → List ℕ → OpeningStarted
 openingStart statement depth memory leaf store out =

@@ -5,6 +5,7 @@ ghost use lib.ListN.{length};
 ghost use Rattle.base.specs.Limits.{edition};
 ghost use Rattle.sha256.specs.Portions.{newHash};
 ghost use Rattle.run.specs.Steps as runs;
+ghost use Rattle.run_record.specs.Layout.{recordWritten};
 ghost use Rattle.opening.specs.Names.{openOf};
 ghost use Rattle.opening.specs.Steps as openings;
 ghost use Rattle.opening_check.specs.OpeningCheck.{openingRow};
@@ -14,8 +15,8 @@ ghost use Rattle.writing.specs.Possible.{writtenOf};
 ghost use Rattle.writing.specs.Steps as writings;
 ghost use Rattle.chain.specs.PlanRow.{plannedList};
 ghost use Rattle.draw.specs.Drawing.{drawnList};
-ghost use Rattle.capi_answers.specs.Answers.{hashUpdate, hashFinish, digest, runStart, runAdvance, openingStart, openingAdvance, challenge};
-ghost use Rattle.capi_answers.specs.Answers.{readHead, openingPlace, writingStart, writingAdvance, plan, compare, draw};
+ghost use Rattle.capi_answers.specs.Answers.{hashUpdate, hashFinish, digest, runStart, runAdvance, runRecord, runResume, openingStart};
+ghost use Rattle.capi_answers.specs.Answers.{openingAdvance, challenge, readHead, openingPlace, writingStart, writingAdvance, plan, compare, draw};
 use capi::Challenged;
 use capi::Compared;
 use capi::Drawn;
@@ -27,6 +28,7 @@ use capi::OpeningAdvanced;
 use capi::OpeningStarted;
 use capi::Planned;
 use capi::RunAdvanced;
+use capi::RunRecorded;
 use capi::RunStarted;
 use capi::WritingAdvanced;
 use capi::WritingStarted;
@@ -71,6 +73,19 @@ pub fn run_advance(run: Run, budget: u64, store: &mut [u8]) -> RunAdvanced
     ensures { λ _. ⌜ now (store .exit) ≡ runs.advanced (runs.stamped run (now (store .entry))) budget .store ⌝ }
 {
     capi::mastdock_run_advance(run, budget, store)
+}
+
+pub fn run_record(run: Run, out: &mut [u8]) -> RunRecorded
+    ensures { λ r. ⌜ r ≡ runRecord run (now (out .entry)) ⌝ }
+    ensures { λ _. ⌜ now (out .exit) ≡ recordWritten run (now (out .entry)) ⌝ }
+{
+    capi::mastdock_run_record(run, out)
+}
+
+pub fn run_resume(bytes: &[u8]) -> RunStarted
+    ensures { λ r. ⌜ r ≡ runResume (now (bytes .entry)) ⌝ }
+{
+    capi::mastdock_run_resume(bytes)
 }
 
 pub fn opening_start(

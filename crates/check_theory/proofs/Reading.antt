@@ -11,11 +11,11 @@ use Rattle.base.specs.Limits.{maxDepth, maxChallenges, IsDepth, IsCount}
 use Rattle.base.specs.Limits as limits
 use Rattle.base.specs.Lists.{EachOf}
 use Rattle.base.proofs.BytesLaws.{length-joined, joined-at}
-use Rattle.groups.specs.Groups.{groups}
+use Rattle.groups.specs.Groups.{groups, numberGroups}
 use Rattle.groups.specs.Reading.{value, readAt}
 use Rattle.groups.proofs.ReadBack.{read-written}
 use Rattle.tree.specs.Openings.{openingSize}
-use Rattle.file_head.specs.Layout.{numberGroups, headNumbers, head, fileSize, file, headSize}
+use Rattle.file_head.specs.Layout.{headNumbers, head, fileSize, file, headSize}
 use Rattle.file_head.specs.Head.{numbers, headOf, statementAt, rootAt, openingAt, lengthFrom}
 use Rattle.file_head.proofs.WritingLaws.{size-numbers}
 use Rattle.check_theory.specs.IsProof.{nth}

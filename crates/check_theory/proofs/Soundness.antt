@@ -14,15 +14,15 @@ use Rattle.base.specs.Limits as limits
 use Rattle.base.specs.Lists.{EachOf, sameBytes}
 use Rattle.base.proofs.ChoiceLaws.{both-first, both-second}
 use Rattle.base.proofs.ListsLaws.{tells-bytes}
-use Rattle.base.specs.Row.{outside}
+use Rattle.base.specs.Row.{outside, otherEdition}
 use Rattle.tree.specs.Labels.{cut}
 use Rattle.tree.proofs.Cut.{length-cut, cut-sizes, joined-cut}
-use Rattle.groups.specs.Groups.{groups}
+use Rattle.groups.specs.Groups.{groups, numberGroups}
 use Rattle.groups.specs.Reading.{readAt}
 use Rattle.groups.proofs.ShortestOnly.{Shortest, only-shortest}
 use Rattle.tree.specs.Openings.{openingSize}
 use Rattle.file_head.specs.Challenge.{challengeLeaf}
-use Rattle.file_head.specs.Layout.{numberGroups, headNumbers, head, file}
+use Rattle.file_head.specs.Layout.{headNumbers, head, file}
 use Rattle.file_head.specs.Head.{HeadAnswer, numbers, notRead, headOf, lengthFrom, statementAt, rootAt, openingAt}
 use Rattle.proof_file.specs.FileCheck.{foundIn, openingsFrom, wanted, fileRest, fileCheck}
 use Rattle.file_head.proofs.HeadLaws.{passed, head-number}
@@ -61,7 +61,7 @@ pub numbers-read :
     (bytes : List ℕ) (n t at : ℕ) → ((j : ℕ) → getD bytes j 0 < 256) → headOf bytes ≡ numbers n t at → NumbersRead limits.edition bytes n t at
 unfolding headOf
 numbers-read bytes n t at small e =
-    let p₁ = passed (readAt bytes 0 numberGroups) (λ e. not (eqb e limits.edition)) 12 _ n t at e in
+    let p₁ = passed (readAt bytes 0 numberGroups) otherEdition 12 _ n t at e in
     let p₂ = passed (readAt bytes (p₁ .end) numberGroups) (outside 1 maxDepth) 1 _ n t at (p₁ .after) in
     let p₃ = passed (readAt bytes (p₂ .end) numberGroups) (outside 1 maxChallenges) 8 _ n t at (p₂ .after) in
     let one : p₁ .x ≡ limits.edition = eqb-true (p₁ .x) limits.edition (not-false (eqb (p₁ .x) limits.edition) (p₁ .good)) in

@@ -81,9 +81,18 @@ wholeFile n t out =
 abbrev pub count : ℕ → Decided
 count t = record { test = outside 1 200 t; condition = Outside 1 200 t; decides = decides-outside 1 200 t; number = 8 }
 
-decides-impossible : (n m made all : ℕ) → Decides (impossible n m made all) (Impossible n m made all)
+pub decides-impossible : (n m made all : ℕ) → Decides (impossible n m made all) (Impossible n m made all)
 decides-impossible n m made all =
     decides-either (decides-outside 1 40 n) (decides-either (decides-memory n m) (decides-lt all made))
+
+abbrev pub impossibleRun : Run → Decided
+impossibleRun run =
+    record {
+      test = impossible (run .depth) (run .memory) (run .made) (nodesIn (run .depth));
+      condition = Impossible (run .depth) (run .memory) (run .made) (nodesIn (run .depth));
+      decides = decides-impossible (run .depth) (run .memory) (run .made) (nodesIn (run .depth));
+      number = 4;
+    }
 
 -- ---- runs
 pub starting-run : (statement : List ℕ) (n m store : ℕ) → StartingRun statement n m store
@@ -120,17 +129,7 @@ pub continuing-run : (run : Run) (store : List ℕ) (budget : ℕ) → Continuin
 unfolding continueRow nodesIn runMachine
 continuing-run run store budget =
     record {
-      answer =
-          is-first
-          (record {
-            test = impossible (run .depth) (run .memory) (run .made) (nodesIn (run .depth));
-            condition = Impossible (run .depth) (run .memory) (run .made) (2 ^ (run .depth + 1) - 1);
-            decides = decides-impossible (run .depth) (run .memory) (run .made) (nodesIn (run .depth));
-            number = 4;
-          }
-          ∷ room (run .memory) (length store)
-          ∷ []
-          );
+      answer = is-first (impossibleRun run ∷ room (run .memory) (length store) ∷ []);
       refused = refused-same runMachine (stamped run store) budget;
       idle = run-idle (stamped run store) budget;
     }

@@ -179,3 +179,19 @@ one-answer (check ∷ row) a b (inl p) (inl q) = p .1 ∙ sym (q .1)
 one-answer (check ∷ row) a b (inl p) (inr q) = absurd (q .0 (p .0))
 one-answer (check ∷ row) a b (inr p) (inl q) = absurd (p .0 (q .0))
 one-answer (check ∷ row) a b (inr p) (inr q) = one-answer row a b (p .1) (q .1)
+
+-- ---- a row behind another
+-- no number of a row is 0
+abbrev pub Positive : Row → Type 0
+Positive [] = Unit
+Positive (check ∷ row) = (1 ≤ check .1) × Positive row
+
+pub stays-first : (row later : Row) (answer : ℕ) → 1 ≤ answer → IsFirst row answer → IsFirst (row ++ later) answer
+stays-first [] later answer some e = absurd (omega arith)
+stays-first (check ∷ row) later answer some (inl here) = inl here
+stays-first (check ∷ row) later answer some (inr after) = inr (after .0, stays-first row later answer some (after .1))
+
+pub passes-first : (row later : Row) (answer : ℕ) → Positive row → IsFirst row 0 → IsFirst later answer → IsFirst (row ++ later) answer
+passes-first [] later answer some none first = first
+passes-first (check ∷ row) later answer some (inl here) first = absurd (omega (arith, some .0, here .1))
+passes-first (check ∷ row) later answer some (inr after) first = inr (after .0, passes-first row later answer (some .1) (after .1) first)

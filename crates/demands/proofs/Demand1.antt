@@ -9,6 +9,7 @@ use Rattle.demands.proofs.Programs.{planning-program, comparing-opening
 use Rattle.demands.proofs.Numbers.{reading-number}
 use Rattle.demands.proofs.Files.{a-head, a-file}
 use Rattle.demands.proofs.Drawings.{drawing-chain}
+use Rattle.demands.proofs.Records.{writing-record, reading-record}
 
 pub demand1 : Demand1
 demand1 =
@@ -36,4 +37,6 @@ demand1 =
       writingNumber = writing-number;
       startingFile = starting-file;
       continuingFile = continuing-file;
+      writingRecord = writing-record;
+      readingRecord = reading-record;
     }

@@ -1,9 +1,9 @@
 -- Document 01's row 'Drawing a chain': all file checks; 16, if no pair disagrees.
 use mathlib.Core.Path.{_≡_, refl}
-use mathlib.Core.Logic.{_⊎_, inl, inr, ⊎-elim}
+use mathlib.Core.Logic.{inl, inr, ⊎-elim}
 use Prim.Native.Nat.{ℕ, zero, suc, _+_, _*_, _≤_, _<_}
 use native.Mathlib.Omega.{arith}
-use mathlib.Core.List.{List, [], _∷_, _++_}
+use mathlib.Core.List.{List, [], _∷_}
 use lib.Dec.{lit≤}
 use lib.ListN.{length, getD}
 use Rattle.proof_file.specs.FileCheck.{fileCheck}
@@ -11,25 +11,10 @@ use Rattle.draw.specs.Drawing.{DrawingAnswer, notDrawn, drawnChain, drawnClash,
 use Rattle.draw_theory.specs.Demand3.{IsAccepted, NoneDisagree, chainLength, ListShort}
 use Rattle.draw_theory.proofs.Openings.{some-none}
 use Rattle.draw_theory.proofs.Demand3.{chain-exactly, clash-exactly, refused-exactly, refused-untouched}
-use Rattle.demands.specs.Rows.{Row, IsFirst, foundIn, fileOpenings, aFile, drawingChain}
+use Rattle.demands.specs.Rows.{IsFirst, foundIn, fileOpenings, aFile, drawingChain}
 use Rattle.demands.specs.Demand1.{drawingNumber, DrawingChain}
+use Rattle.demands.proofs.Decisions.{Positive, stays-first, passes-first}
 use Rattle.demands.proofs.Files.{a-file}
-
--- ---- a row behind another
--- no number of a row is 0
-abbrev Positive : Row → Type 0
-Positive [] = Unit
-Positive (check ∷ row) = (1 ≤ check .1) × Positive row
-
-stays-first : (row later : Row) (answer : ℕ) → 1 ≤ answer → IsFirst row answer → IsFirst (row ++ later) answer
-stays-first [] later answer some e = absurd (omega arith)
-stays-first (check ∷ row) later answer some (inl here) = inl here
-stays-first (check ∷ row) later answer some (inr after) = inr (after .0, stays-first row later answer some (after .1))
-
-passes-first : (row later : Row) (answer : ℕ) → Positive row → IsFirst row 0 → IsFirst later answer → IsFirst (row ++ later) answer
-passes-first [] later answer some none first = first
-passes-first (check ∷ row) later answer some (inl here) first = absurd (omega (arith, some .0, here .1))
-passes-first (check ∷ row) later answer some (inr after) first = inr (after .0, passes-first row later answer (some .1) (after .1) first)
 
 -- ---- a file's row
 openings-positive : (bytes : List ℕ) (n at i left : ℕ) → Positive (fileOpenings bytes n at i left)

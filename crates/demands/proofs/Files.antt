@@ -89,89 +89,95 @@ module _ (bytes : List ℕ) (at : ℕ) where
             )
 
 -- the number's conditions, each number marked as in an answer, then those that follow
-abbrev numberRow : (ℕ → ℕ) → List ℕ → ℕ → Row → Row
+abbrev pub numberRow : (ℕ → ℕ) → List ℕ → ℕ → Row → Row
 numberRow mark bytes at row =
     ((length bytes ≤ at) ⊎ ((128 ≤ byteAt bytes at) × (length bytes ≤ at + 1)), mark 10)
     ∷ ((128 ≤ byteAt bytes at) × ((byteAt bytes (at + 1) ≡ 0) ⊎ (128 ≤ byteAt bytes (at + 1))), mark 11)
     ∷ row
 
+-- the number, then what is answered of its value
+module _
+    (mark : ℕ → ℕ) (answer : Answer → ℕ) (refusals : (number : ℕ) → answer (refused number) ≡ mark number) (bytes : List ℕ) (at : ℕ)
+    (row : Row) (rest : IsFirst row (answer (value (valueAt bytes at) (behind bytes at)))) where
+  abbrev NumberFirst : Type 0
+  NumberFirst = IsFirst (numberRow mark bytes at row) (answer (readAt bytes at 2))
+
+  refused-answer : (r : ℕ) → readAt bytes at 2 ≡ refused r → answer (readAt bytes at 2) ≡ mark r
+  refused-answer r e = rw e (refusals r)
+
+  value-answer : readAt bytes at 2 ≡ value (valueAt bytes at) (behind bytes at) → IsFirst row (answer (readAt bytes at 2))
+  value-answer e = rw e rest
+
+  -- bytes end, in the first or the second
+  first-ends : length bytes ≤ at → NumberFirst
+  first-ends short = inl (inl short, refused-answer 10 (read-ends bytes at short))
+
+  module _ (here : at < length bytes) where
+    first-last : byteAt bytes at < 128 → NumberFirst
+    first-last last =
+        inr (
+          ⊎-elim (λ short. omega arith) (λ short. omega (arith, short .0)),
+          inr (λ long. omega (arith, long .0), value-answer (read-one bytes at here last)),
+        )
+
+    module _ (more : 128 ≤ byteAt bytes at) where
+      second-ends : length bytes ≤ at + 1 → NumberFirst
+      second-ends short = inl (inr (more, short), refused-answer 10 (read-ends-second bytes at here more short))
+
+      module _ (there : at + 1 < length bytes) where
+        enough : (length bytes ≤ at) ⊎ ((128 ≤ byteAt bytes at) × (length bytes ≤ at + 1)) → ⊥
+        enough = ⊎-elim (λ short. omega arith) (λ short. omega (arith, short .1))
+
+        second-high : 128 ≤ byteAt bytes (at + 1) → NumberFirst
+        second-high high = inr (enough, inl ((more, inr high), refused-answer 11 (read-third bytes at here more there high)))
+
+        second-zero : byteAt bytes (at + 1) ≡ 0 → NumberFirst
+        second-zero none = inr (enough, inl ((more, inl none), refused-answer 11 (read-zero bytes at here more there none)))
+
+        second-last : 0 < byteAt bytes (at + 1) → byteAt bytes (at + 1) < 128 → NumberFirst
+        second-last some last =
+            inr (
+              enough,
+              inr (
+                λ long. ⊎-elim (λ none. omega arith) (λ high. omega arith) (long .1),
+                value-answer (read-two bytes at here more there (λ none. omega arith) last),
+              ),
+            )
+
+        second-here : NumberFirst
+        second-here =
+            ⊎-elim
+            (λ none. second-zero (omega arith))
+            (λ some. ⊎-elim (second-last some) second-high (lt-or-le (byteAt bytes (at + 1)) 128))
+            (lt-or-le (byteAt bytes (at + 1)) 1)
+
+      first-more : NumberFirst
+      first-more = ⊎-elim second-here second-ends (lt-or-le (at + 1) (length bytes))
+
+    first-here : NumberFirst
+    first-here = ⊎-elim first-last first-more (lt-or-le (byteAt bytes at) 128)
+
+  pub number-first : NumberFirst
+  number-first = ⊎-elim first-here first-ends (lt-or-le at (length bytes))
+
 -- the number, then the condition on its value
 module _
     (mark : ℕ → ℕ) (answer : HeadAnswer → ℕ) (refusals : (number : ℕ) → answer (notRead number) ≡ mark number) (bad : ℕ → Bool)
     (Bad : ℕ → Type 0) (decides : (x : ℕ) → Decides (bad x) (Bad x)) (refusal : ℕ) (next : ℕ → ℕ → HeadAnswer) where
-  refused-answer : (number : Answer) (r : ℕ) → number ≡ refused r → answer (checked notRead number bad refusal next) ≡ mark r
-  refused-answer number r e = rw e (refusals r)
-
   value-by :
       (x end : ℕ) (row : Row) (t : Bool) → Decides t (Bad x) → IsFirst row (answer (next x end))
       → IsFirst ((Bad x, mark refusal) ∷ row) (answer (pick t (notRead refusal) (next x end)))
   value-by x end row true d rest = inl (d .yes refl, refusals refusal)
   value-by x end row false d rest = inr (d .no refl, rest)
 
-  value-first :
-      (number : Answer) (x end : ℕ) (row : Row) → number ≡ value x end → IsFirst row (answer (next x end))
-      → IsFirst ((Bad x, mark refusal) ∷ row) (answer (checked notRead number bad refusal next))
-  value-first number x end row e rest = rw e (value-by x end row (bad x) (decides x) rest)
-
-  module _ (bytes : List ℕ) (at : ℕ) (row : Row) (rest : IsFirst row (answer (next (valueAt bytes at) (behind bytes at)))) where
-    abbrev NumberFirst : Type 0
-    NumberFirst =
-        IsFirst (numberRow mark bytes at ((Bad (valueAt bytes at), mark refusal) ∷ row))
-        (answer (checked notRead (readAt bytes at 2) bad refusal next))
-
-    -- bytes end, in the first or the second
-    first-ends : length bytes ≤ at → NumberFirst
-    first-ends short = inl (inl short, refused-answer (readAt bytes at 2) 10 (read-ends bytes at short))
-
-    module _ (here : at < length bytes) where
-      first-last : byteAt bytes at < 128 → NumberFirst
-      first-last last =
-          inr (
-            ⊎-elim (λ short. omega arith) (λ short. omega (arith, short .0)),
-            inr (λ long. omega (arith, long .0), value-first (readAt bytes at 2) _ _ row (read-one bytes at here last) rest),
-          )
-
-      module _ (more : 128 ≤ byteAt bytes at) where
-        second-ends : length bytes ≤ at + 1 → NumberFirst
-        second-ends short = inl (inr (more, short), refused-answer (readAt bytes at 2) 10 (read-ends-second bytes at here more short))
-
-        module _ (there : at + 1 < length bytes) where
-          enough : (length bytes ≤ at) ⊎ ((128 ≤ byteAt bytes at) × (length bytes ≤ at + 1)) → ⊥
-          enough = ⊎-elim (λ short. omega arith) (λ short. omega (arith, short .1))
-
-          second-high : 128 ≤ byteAt bytes (at + 1) → NumberFirst
-          second-high high =
-              inr (enough, inl ((more, inr high), refused-answer (readAt bytes at 2) 11 (read-third bytes at here more there high)))
-
-          second-zero : byteAt bytes (at + 1) ≡ 0 → NumberFirst
-          second-zero none =
-              inr (enough, inl ((more, inl none), refused-answer (readAt bytes at 2) 11 (read-zero bytes at here more there none)))
-
-          second-last : 0 < byteAt bytes (at + 1) → byteAt bytes (at + 1) < 128 → NumberFirst
-          second-last some last =
-              inr (
-                enough,
-                inr (
-                  λ long. ⊎-elim (λ none. omega arith) (λ high. omega arith) (long .1),
-                  value-first (readAt bytes at 2) _ _ row (read-two bytes at here more there (λ none. omega arith) last) rest,
-                ),
-              )
-
-          second-here : NumberFirst
-          second-here =
-              ⊎-elim
-              (λ none. second-zero (omega arith))
-              (λ some. ⊎-elim (second-last some) second-high (lt-or-le (byteAt bytes (at + 1)) 128))
-              (lt-or-le (byteAt bytes (at + 1)) 1)
-
-        first-more : NumberFirst
-        first-more = ⊎-elim second-here second-ends (lt-or-le (at + 1) (length bytes))
-
-      first-here : NumberFirst
-      first-here = ⊎-elim first-last first-more (lt-or-le (byteAt bytes at) 128)
-
-    number-first : NumberFirst
-    number-first = ⊎-elim first-here first-ends (lt-or-le at (length bytes))
+  checked-first :
+      (bytes : List ℕ) (at : ℕ) (row : Row) → IsFirst row (answer (next (valueAt bytes at) (behind bytes at)))
+      → IsFirst (numberRow mark bytes at ((Bad (valueAt bytes at), mark refusal) ∷ row))
+      (answer (checked notRead (readAt bytes at 2) bad refusal next))
+  checked-first bytes at row rest =
+      number-first mark (λ number. answer (checked notRead number bad refusal next)) refusals bytes at
+      ((Bad (valueAt bytes at), mark refusal) ∷ row)
+      (value-by (valueAt bytes at) (behind bytes at) row (bad (valueAt bytes at)) (decides (valueAt bytes at)) rest)
 
 -- ---- the rest
 -- conditions in front of a row, and their tests in front of a check
@@ -242,20 +248,20 @@ module _
   count-first : (n at : ℕ) → IsFirst (countRow n at) (answer (countFrom bytes n at))
   unfolding countFrom
   count-first n at =
-      number-first mark answer refusals (outside 1 200) (Outside 1 200) (decides-outside 1 200) 8 (λ t at. numbers n t at)
+      checked-first mark answer refusals (outside 1 200) (Outside 1 200) (decides-outside 1 200) 8 (λ t at. numbers n t at)
       bytes at (later n (valueAt bytes at) (behind bytes at)) (rest n (valueAt bytes at) (behind bytes at))
 
   depth-first : (at : ℕ) → IsFirst (depthRow at) (answer (depthFrom bytes at))
   unfolding depthFrom
   depth-first at =
-      number-first mark answer refusals (outside 1 40) (Outside 1 40) (decides-outside 1 40) 1 (countFrom bytes) bytes at
+      checked-first mark answer refusals (outside 1 40) (Outside 1 40) (decides-outside 1 40) 1 (countFrom bytes) bytes at
       (countRow (valueAt bytes at) (behind bytes at)) (count-first (valueAt bytes at) (behind bytes at))
 
   head-first :
       IsFirst (numberRow mark bytes 0 ((valueAt bytes 0 ≡ 1 → ⊥, mark 12) ∷ depthRow (behind bytes 0))) (answer (headOf bytes))
   unfolding headOf depthFrom countFrom
   head-first =
-      number-first mark answer refusals (λ e. not (eqb e 1)) (λ e. e ≡ 1 → ⊥) (λ e. decides-not (decides-eq e 1)) 12
+      checked-first mark answer refusals (λ e. not (eqb e 1)) (λ e. e ≡ 1 → ⊥) (λ e. decides-not (decides-eq e 1)) 12
       (λ e at. depthFrom bytes at) bytes 0 (depthRow (behind bytes 0)) (depth-first (behind bytes 0))
 
 pub a-head : (bytes : List ℕ) → AHead bytes

@@ -7,8 +7,10 @@ pub mod Carrying
 pub mod Openings
 pub mod Writings
 pub mod Numbers
+pub mod Records
 pub mod Demand1
 pub mod Demand2
 pub mod Demand3
 pub mod EmptyPlan
 pub mod MemoryLimit
+pub mod Pausing

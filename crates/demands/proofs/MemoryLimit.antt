@@ -115,7 +115,7 @@ or-true : (x : Bool) → either x true ≡ true
 or-true true = refl
 or-true false = refl
 
-level-refused : (n m made all : ℕ) → min n 14 < m → impossible n m made all ≡ true
+pub level-refused : (n m made all : ℕ) → min n 14 < m → impossible n m made all ≡ true
 level-refused n m made all over = rw (lt-ltb (min n maxMemory) m over) (or-true (outside 1 maxDepth n))
 
 run-refused : (run : Run) (store : ℕ) → min (run .depth) 14 < run .memory → continueRow run store ≡ 4

@@ -16,6 +16,8 @@ use Rattle.run.specs.declared.Run.{Run}
 use Rattle.run.specs.Rows.{startRow, continueRow}
 use Rattle.run.specs.Steps as runs
 use Rattle.run.specs.Steps.{Stamped, stamped, noRun}
+use Rattle.run_record.specs.Layout.{recordRow, recordSize, recordWritten}
+use Rattle.run_record.specs.Reading.{resumeRow, resumed}
 use Rattle.opening.specs.declared.Opening.{Opening}
 use Rattle.opening.specs.Rows.{openRow, reopenRow}
 use Rattle.opening.specs.Steps as openings
@@ -41,7 +43,7 @@ use Rattle.compare.specs.Comparison.{compareRow, compared}
 use Rattle.draw.specs.Drawing.{DrawingAnswer, notDrawn, drawnChain, drawnClash, drawingOf, drawnList, firstDrawn, secondDrawn}
 use Rattle.demands.specs.Rows.{IsFirst, hashing, startingRun, continuingRun, startingOpening, continuingOpening, aChallenge, writingHead}
 use Rattle.demands.specs.Rows.{oneOpening, aHead, aFile, planningChain, drawingChain, planningProgram, comparing, readingNumber, writingNumber}
-use Rattle.demands.specs.Rows.{startingFile, continuingFile}
+use Rattle.demands.specs.Rows.{startingFile, continuingFile, writingRecord, readingRecord}
 
 -- ---- 'Labelling, opening and writing can be carried to their end for every depth 1..40, memory level 0..min(depth, 20) ..'.
 -- W-209: 'Make that [14] the limit, in demand 1 too'.
@@ -227,6 +229,16 @@ pub record ContinuingFile (w : Writing) (store file : List ℕ) (budget : ℕ) :
       → (writings.labelsIn store (record { writing = w; file = file }) budget ≡ 0)
       × (writings.advanced store (record { writing = w; file = file }) budget ≡ record { writing = w; file = file })
 
+-- W-201: the size is the number of bytes written
+pub record WritingRecord (run : Run) (out : List ℕ) : Type 0 where
+  pub answer : IsFirst (writingRecord run (length out)) (recordRow run (length out))
+  pub refused : 1 ≤ recordRow run (length out) → (recordSize run (length out) ≡ 0) × (recordWritten run out ≡ out)
+
+-- reading a record lends nothing to write to; beside a refusal the all-zero run
+pub record ReadingRecord (bytes : List ℕ) : Type 0 where
+  pub answer : IsFirst (readingRecord bytes) (resumeRow bytes)
+  pub refused : 1 ≤ resumeRow bytes → resumed bytes ≡ noRun
+
 -- ---- the demand
 pub record Demand1 : Type 0 where
   pub labellingEnds : (statement : List ℕ) (n m : ℕ) (store : List ℕ) → InBounds n m (length store) → LabellingEnds statement n m store
@@ -259,3 +271,5 @@ pub record Demand1 : Type 0 where
   pub startingFile :
       (statement root : List ℕ) (n m t : ℕ) (store file : List ℕ) → StartingFile statement root n m t store file
   pub continuingFile : (w : Writing) (store file : List ℕ) (budget : ℕ) → ContinuingFile w store file budget
+  pub writingRecord : (run : Run) (out : List ℕ) → WritingRecord run out
+  pub readingRecord : (bytes : List ℕ) → ReadingRecord bytes

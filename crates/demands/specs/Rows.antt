@@ -8,9 +8,11 @@ use lib.ListN.{length, getD, drop}
 use Rattle.base.specs.Limits.{edition}
 use Rattle.base.specs.Choice.{pick}
 use Rattle.tree.specs.Openings.{LeafRight, RootRight}
+use Rattle.tree.specs.Held.{held}
 use Rattle.labelling.specs.Rule.{stampRule}
 use Rattle.groups.specs.Groups.{groupsOf}
 use Rattle.run.specs.declared.Run.{Run}
+use Rattle.run_record.specs.Layout.{recordOf}
 use Rattle.opening.specs.declared.Opening.{Opening}
 use Rattle.opening_check.specs.OpeningCheck.{givenBy}
 use Rattle.file_head.specs.Challenge.{challengeLeaf}
@@ -261,4 +263,42 @@ continuingFile w store file =
     (Impossible (o .depth) (o .memory) (o .made) (2 ^ (o .depth - o .memory + 1) - 2) ⊎ ImpossibleFile w, 4)
     ∷ (store < 32 * (2 ^ (o .memory + 1) - 1), 3)
     ∷ (file < fileSize (o .depth) (w .count), 7)
+    ∷ []
+
+-- ---- W-201: records of runs
+-- 'Writing a record: 4, then 7 for a short buffer.'
+abbrev pub writingRecord : Run → ℕ → Row
+writingRecord run out =
+    (Impossible (run .depth) (run .memory) (run .made) (2 ^ (run .depth + 1) - 1), 4) ∷ (out < length (recordOf run), 7) ∷ []
+
+-- the memory level follows the depth, and the labels made follow it
+abbrev pub memoryPlace : List ℕ → ℕ
+memoryPlace bytes = behind bytes (depthPlace bytes)
+
+abbrev pub madePlace : List ℕ → ℕ
+madePlace bytes = behind bytes (memoryPlace bytes)
+
+-- the number at a place, of at most so many bytes, low group first, and the place behind it
+unfoldable pub valueWithin : ℕ → List ℕ → ℕ → ℕ
+valueWithin zero bytes at = 0
+valueWithin (suc most) bytes at =
+    pick (ltb (byteAt bytes at) 128) (byteAt bytes at) (byteAt bytes at % 128 + 128 * valueWithin most bytes (at + 1))
+
+unfoldable pub behindWithin : ℕ → List ℕ → ℕ → ℕ
+behindWithin zero bytes at = at
+behindWithin (suc most) bytes at = pick (ltb (byteAt bytes at) 128) (at + 1) (behindWithin most bytes (at + 1))
+
+-- '18, the record's length is not what its numbers require; the order is 10 and 11 for each number, 12 after the edition, 4 after all
+-- four, then 18.' Labels made may take six bytes; as many labels are held as the tree has nodes to hold then.
+unfoldable pub readingRecord : List ℕ → Row
+readingRecord bytes =
+    let n : ℕ = valueAt bytes (depthPlace bytes) in
+    let m : ℕ = valueAt bytes (memoryPlace bytes) in
+    let made : ℕ = valueWithin 6 bytes (madePlace bytes) in
+    aNumber bytes 0
+    ++ (valueAt bytes 0 ≡ 1 → ⊥, 12) ∷ aNumber bytes (depthPlace bytes)
+    ++ aNumber bytes (memoryPlace bytes)
+    ++ readingNumber bytes (madePlace bytes) 6
+    ++ (Impossible n m made (2 ^ (n + 1) - 1), 4)
+    ∷ (length bytes ≡ behindWithin 6 bytes (madePlace bytes) + 32 + 32 * length (held n made) → ⊥, 18)
     ∷ []

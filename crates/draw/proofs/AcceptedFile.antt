@@ -5,7 +5,6 @@ use native.Mathlib.Omega.{arith}
 use mathlib.Core.Bool.{true, false}
 use mathlib.Core.List.{List}
 use lib.ListN.{length, getD, take, drop, length-drop}
-use lib.Seq.{take-all}
 use Rattle.base.specs.Choice.{every}
 use Rattle.base.specs.Bytes.{zeros}
 use Rattle.base.specs.Limits.{edition, maxDepth, maxChallenges, IsDepth, IsCount}
@@ -15,6 +14,7 @@ use Rattle.base.specs.declared.refusal.Check.the-variants.{Rejected}
 use Rattle.base.specs.Number.{numberOf, codeOf}
 use Rattle.base.specs.Row.{isDone}
 use Rattle.base.proofs.Bounds.{number-some}
+use Rattle.base.proofs.Parts.{part-rest}
 use Rattle.base.proofs.RowLaws.{some-refused}
 use Rattle.tree.specs.Openings.{openingSize}
 use Rattle.chain_theory.specs.Ways.{chain}
@@ -35,10 +35,6 @@ use Rattle.draw.specs.Drawing.{DrawingAnswer, notDrawn, leavesFrom, numb
 use Rattle.draw.specs.Drawing.{clashPair, firstDrawn, secondDrawn, proofEdition}
 use Rattle.draw.proofs.LeavesOpened.{length-leaves, leaves-inside}
 use Rattle.draw.proofs.Chains.{DrawnFrom, clash-pair}
-
--- bytes from a place to the end
-pub rest-of : (bytes : List ℕ) (start : ℕ) → take (length bytes - start) (drop start bytes) ≡ drop start bytes
-rest-of bytes start = take-all (length bytes - start) (drop start bytes) (rw length-drop (omega arith))
 
 -- the answer and the list afterwards
 abbrev pub Answers : List ℕ → List ℕ → ℕ → ℕ → List ℕ → DrawingAnswer → List ℕ → List ℕ → List ℕ → Type 0
@@ -82,7 +78,7 @@ module _ (bytes statement : List ℕ) (n t : ℕ) (small : (j : ℕ) → getD by
       → openings ≡ take (length bytes - (at + 64)) (drop (at + 64) bytes)
       → openings ≡ openingsOf bytes
   unfolding openingsOf
-  openings-known at openings e f = f ∙ rest-of bytes (at + 64) ∙ rw e
+  openings-known at openings e f = f ∙ part-rest bytes (at + 64) ∙ rw e
 
   leaves-count : length (leavesOf bytes statement n t) ≡ t
   unfolding leavesOf proofEdition

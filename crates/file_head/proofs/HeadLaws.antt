@@ -10,9 +10,10 @@ use lib.Dec.{eqb}
 use lib.ListN.{length, take, drop, getD}
 use Rattle.base.specs.Limits.{maxDepth, maxChallenges, edition, maxOpenings, IsDepth, IsCount}
 use Rattle.base.proofs.ChoiceLaws.{both-first, both-second}
-use Rattle.base.specs.Row.{outside}
+use Rattle.base.specs.Row.{outside, otherEdition}
 use Rattle.groups.specs.Reading.{Answer, value, refused, readAt, checked}
-use Rattle.groups.proofs.Checked.{checked-refused, checked-bad, checked-next}
+use Rattle.groups.proofs.Checked as groups
+use Rattle.groups.proofs.Checked.{Passed, checked-refused, checked-bad, checked-next, refused-some}
 use Rattle.groups.proofs.Sizes.{length-groups-le}
 use Rattle.groups.proofs.Steps.{read-number}
 use Rattle.groups.proofs.ShortestOnly.{only-shortest}
@@ -50,45 +51,30 @@ module _ (bytes : List ℕ) (at : ℕ) where
   unfolding depthFrom
   depth-read n end e b = checked-next notRead (readAt bytes at 2) (outside 1 maxDepth) 1 (countFrom bytes) n end e b
 
-abbrev notEdition : ℕ → Bool
-notEdition e = not (eqb e edition)
-
 module _ (bytes : List ℕ) where
-  by-steps : headOf bytes ≡ checked notRead (readAt bytes 0 2) notEdition 12 (λ e at. depthFrom bytes at)
+  by-steps : headOf bytes ≡ checked notRead (readAt bytes 0 2) otherEdition 12 (λ e at. depthFrom bytes at)
   unfolding headOf depthFrom countFrom
   by-steps = refl
 
   pub edition-refused : (r : ℕ) → readAt bytes 0 2 ≡ refused r → notRead r ≡ headOf bytes
-  edition-refused r e = checked-refused notRead (readAt bytes 0 2) notEdition 12 (λ e at. depthFrom bytes at) r e ∙ sym by-steps
+  edition-refused r e = checked-refused notRead (readAt bytes 0 2) otherEdition 12 (λ e at. depthFrom bytes at) r e ∙ sym by-steps
 
   pub edition-bad : (x end : ℕ) → readAt bytes 0 2 ≡ value x end → (x ≡ edition → ⊥) → notRead 12 ≡ headOf bytes
   edition-bad x end e b =
-      checked-bad notRead (readAt bytes 0 2) notEdition 12 (λ e at. depthFrom bytes at) x end e (rw (ne-eqb x edition b)) ∙ sym by-steps
+      checked-bad notRead (readAt bytes 0 2) otherEdition 12 (λ e at. depthFrom bytes at) x end e (rw (ne-eqb x edition b)) ∙ sym by-steps
 
   pub edition-read : (x end : ℕ) → readAt bytes 0 2 ≡ value x end → x ≡ edition → depthFrom bytes end ≡ headOf bytes
   edition-read x end e b =
-      checked-next notRead (readAt bytes 0 2) notEdition 12 (λ e at. depthFrom bytes at) x end e (rw (eq-eqb x edition b)) ∙ sym by-steps
+      checked-next notRead (readAt bytes 0 2) otherEdition 12 (λ e at. depthFrom bytes at) x end e (rw (eq-eqb x edition b)) ∙ sym by-steps
 
 -- ---- the numbers of a head that was read
+not-numbers : (n t at r : ℕ) → notRead r ≡ numbers n t at → ⊥
+not-numbers n t at r e = let no : _≡_ {A = ℕ} 0 1 = cc in omega arith
+
 -- a number that was not refused
-pub record Passed (number : Answer) (bad : ℕ → Bool) (next : ℕ → ℕ → HeadAnswer) (n t at : ℕ) : Type 0 where
-  pub x : ℕ
-  pub end : ℕ
-  pub read : number ≡ value x end
-  pub good : bad x ≡ false
-  pub after : next x end ≡ numbers n t at
-
-not-numbers : {A : Type 0} {r n t at : ℕ} → notRead r ≡ numbers n t at → A
-not-numbers e = let no : _≡_ {A = ℕ} 0 1 = cc in absurd (omega arith)
-
 pub passed : (number : Answer) (bad : ℕ → Bool) (refusal : ℕ) (next : ℕ → ℕ → HeadAnswer) (n t at : ℕ)
-    → checked notRead number bad refusal next ≡ numbers n t at → Passed number bad next n t at
-passed (refused r) bad refusal next n t at e = not-numbers e
-passed (value x end) bad refusal next n t at e = cases (bad x) refl
-  where
-    cases : (b : Bool) → bad x ≡ b → Passed (value x end) bad next n t at
-    cases true b = not-numbers (rw b at e)
-    cases false b = record { x = x; end = end; read = refl; good = b; after = rw b at e }
+    → checked notRead number bad refusal next ≡ numbers n t at → Passed number bad next (numbers n t at)
+passed number bad refusal next n t at e = groups.passed notRead number bad refusal next (numbers n t at) (not-numbers n t at) e
 
 -- a number ends at most two bytes on
 two-bytes : (bytes : List ℕ) (at x end : ℕ) → ((j : ℕ) → getD bytes j 0 < 256) → readAt bytes at 2 ≡ value x end → end ≤ at + 2
@@ -102,7 +88,7 @@ pub record Within (n t at : ℕ) : Type 0 where
 pub head-within : (bytes : List ℕ) (n t at : ℕ) → ((j : ℕ) → getD bytes j 0 < 256) → headOf bytes ≡ numbers n t at → Within n t at
 unfolding depthFrom countFrom
 head-within bytes n t at b e =
-    let first = passed (readAt bytes 0 2) notEdition 12 (λ e at. depthFrom bytes at) n t at (sym (by-steps bytes) ∙ e) in
+    let first = passed (readAt bytes 0 2) otherEdition 12 (λ e at. depthFrom bytes at) n t at (sym (by-steps bytes) ∙ e) in
     let second = passed (readAt bytes (first .end) 2) (outside 1 maxDepth) 1 (λ n at. countFrom bytes n at) n t at (first .after) in
     let third =
     passed (readAt bytes (second .end) 2) (outside 1 maxChallenges) 8 (λ t at. numbers (second .x) t at) n t at (second .after) in
@@ -125,23 +111,16 @@ head-within bytes n t at b e =
 pub head-number : (bytes : List ℕ) (r : ℕ) → headOf bytes ≡ notRead r → 1 ≤ r
 unfolding headOf
 head-number bytes r e =
-    refusal-of (readAt bytes 0 2) notEdition 12 _ r (read-number bytes 0 2) (omega arith)
-    (λ x at f. refusal-of (readAt bytes at 2) (outside 1 maxDepth) 1 _ r (read-number bytes at 2) (omega arith)
-    (λ n at f. refusal-of (readAt bytes at 2) (outside 1 maxChallenges) 8 _ r (read-number bytes at 2) (omega arith)
+    refused-some notRead same (readAt bytes 0 2) otherEdition 12 _ r (read-number bytes 0 2) (omega arith)
+    (λ x at f. refused-some notRead same (readAt bytes at 2) (outside 1 maxDepth) 1 _ r (read-number bytes at 2) (omega arith)
+    (λ n at f. refused-some notRead same (readAt bytes at 2) (outside 1 maxChallenges) 8 _ r (read-number bytes at 2) (omega arith)
     (λ t at f. not-refused f) f) f) e
   where
+    same : (k r : ℕ) → notRead k ≡ notRead r → k ≡ r
+    same k r f = cc
+
     not-refused : {n t at r : ℕ} → numbers n t at ≡ notRead r → 1 ≤ r
     not-refused f = let no : _≡_ {A = ℕ} 0 1 = cc in absurd (omega arith)
-
-    refusal-of : (number : Answer) (bad : ℕ → Bool) (refusal : ℕ) (next : ℕ → ℕ → HeadAnswer) (r : ℕ)
-        → ((k : ℕ) → number ≡ refused k → 1 ≤ k) → 1 ≤ refusal → ((x end : ℕ) → next x end ≡ notRead r → 1 ≤ r)
-        → checked notRead number bad refusal next ≡ notRead r → 1 ≤ r
-    refusal-of (refused k) bad refusal next r some given rest e = let same : k ≡ r = cc in omega (arith, some k refl)
-    refusal-of (value x end) bad refusal next r some given rest e = cases (bad x) refl
-      where
-        cases : (b : Bool) → bad x ≡ b → 1 ≤ r
-        cases true b = let same : refusal ≡ r = (let f = rw b at e in cc) in omega arith
-        cases false b = rest x end (rw b at e)
 
 -- ---- sizes
 pub openings-small : (n t : ℕ) → n ≤ maxDepth → t ≤ maxChallenges → t * openingSize n ≤ maxOpenings

@@ -1,31 +1,23 @@
 -- Laws of writing the head: the numbers in their groups, part after part over the front of the output, and all of it by the row's answer.
-use mathlib.Core.Path.{_≡_, _∙_}
+use mathlib.Core.Path.{_≡_}
 use mathlib.Core.Bool.{false}
 use mathlib.Core.List.{List, _++_}
 use Prim.Native.Nat.{ℕ, _+_, _/_, _≤_, _<_}
-use native.Mathlib.Nat.{zero-add}
 use native.Mathlib.Omega.{arith}
-use borrow.Author.Tests.{le-ltb}
-use lib.ListN.{length, drop, length-append}
-use lib.Seq.{take-append-seam, drop-append-add, drop-drop}
+use lib.ListN.{length, length-append}
 use Rattle.base.specs.Limits.{maxDepth, maxChallenges}
 use Rattle.base.specs.Bytes.{written}
 use Rattle.base.specs.Row.{isDone}
-use Rattle.groups.specs.Groups.{groups}
-use Rattle.groups.specs.Writing.{putRow, putCount, outputAfter}
+use Rattle.base.proofs.WrittenLaws.{written-three}
+use Rattle.groups.specs.Groups.{groups, groupsOf, maxGroups}
 use Rattle.groups.proofs.Steps.{groups-last, groups-more}
 use Rattle.groups.proofs.Sizes.{groups-same}
 use Rattle.file_head.specs.Layout.{headNumbers, head, headSize, fileSize, headRow, headWritten}
 use Rattle.file_head.specs.Head.{lengthFrom}
 
 -- ---- a number in at most two groups
-pub number-put : (out : List ℕ) (at x : ℕ) → x < 16384 → at + length (groups 2 x) ≤ length out
-    → (putCount out at x ≡ length (groups 2 x)) × (outputAfter out at x ≡ written out at (groups 2 x))
-unfolding putRow putCount outputAfter
-number-put out at x small room =
-    let same : groups 10 x ≡ groups 2 x = groups-same 10 2 x (omega arith) (omega arith) (omega arith) (omega arith) in
-    let enough = le-ltb (length out) (at + length (groups 2 x)) room in
-    (rw (same, enough), rw (same, enough))
+pub two-enough : (x : ℕ) → x < 16384 → groupsOf x ≡ groups 2 x
+two-enough x small = groups-same maxGroups 2 x (omega arith) (omega arith) (omega arith) (omega arith)
 
 one-group : (x : ℕ) → x < 128 → length (groups 2 x) ≡ 1
 one-group x h = rw (groups-last 1 x h)
@@ -56,31 +48,20 @@ pub head-fits : (n t room : ℕ) → fileSize n t ≤ room → headSize n t ≤ 
 unfolding fileSize
 head-fits n t room h = omega arith
 
--- ---- a part behind what is written over the front
-pub written-next : (out m part b : List ℕ) (at : ℕ) → b ≡ written out 0 m → at ≡ length m
-    → written b at part ≡ written out 0 (m ++ part)
-unfolding written
-written-next out m part b at e n =
-    rw (
-      e,
-      n,
-      zero-add,
-      zero-add,
-      take-append-seam m (drop (length m) out),
-      drop-append-add m (drop (length m) out) (length part),
-      drop-drop,
-      length-append,
-    )
+-- the three numbers, each in as many groups as it takes
+module _ (edition n t : ℕ) (small : edition < 128) (depth : n ≤ maxDepth) (count : t ≤ maxChallenges) where
+  numbers-are : headNumbers edition n t ≡ groupsOf edition ++ groupsOf n ++ groupsOf t
+  unfolding headNumbers
+  numbers-are = rw (two-enough edition (omega arith), two-enough n (omega arith), two-enough t (omega arith))
 
-pub numbers-put : (edition n t : ℕ) (out o1 o2 o3 : List ℕ) (second third : ℕ) → o1 ≡ written out 0 (groups 2 edition)
-    → o2 ≡ written o1 second (groups 2 n) → o3 ≡ written o2 third (groups 2 t)
-    → second ≡ length (groups 2 edition) → third ≡ second + length (groups 2 n) → o3 ≡ written out 0 (headNumbers edition n t)
-unfolding headNumbers
-numbers-put edition n t out o1 o2 o3 second third e1 e2 e3 s2 s3 =
-    e3
-    ∙ written-next out (groups 2 edition ++ groups 2 n) (groups 2 t) o2 third
-    (e2 ∙ written-next out (groups 2 edition) (groups 2 n) o1 second e1 s2)
-    (s3 ∙ rw (s2, length-append))
+  pub numbers-size : length (headNumbers edition n t) ≡ length (groupsOf edition) + length (groupsOf n) + length (groupsOf t)
+  numbers-size = rw (numbers-are, length-append, length-append)
+
+  pub numbers-put : (out o1 o2 o3 : List ℕ) (second third : ℕ) → o1 ≡ written out 0 (groupsOf edition)
+      → o2 ≡ written o1 second (groupsOf n) → o3 ≡ written o2 third (groupsOf t)
+      → second ≡ length (groupsOf edition) → third ≡ second + length (groupsOf n) → o3 ≡ written out 0 (headNumbers edition n t)
+  numbers-put out o1 o2 o3 second third e1 e2 e3 s2 s3 =
+      rw numbers-are (written-three out (groupsOf edition) (groupsOf n) (groupsOf t) o1 o2 o3 second third e1 e2 e3 s2 s3)
 
 pub head-put : (edition : ℕ) (statement root : List ℕ) (n t : ℕ) (out o1 o2 o3 : List ℕ) (at : ℕ) → length statement ≡ 32
     → at ≡ length (headNumbers edition n t)
@@ -88,10 +69,7 @@ pub head-put : (edition : ℕ) (statement root : List ℕ) (n t : ℕ) (out o1 o
     (head edition statement root n t)
 unfolding head
 head-put edition statement root n t out o1 o2 o3 at s a e1 e2 e3 =
-    e3
-    ∙ written-next out (headNumbers edition n t ++ statement) root o2 (at + 32)
-    (e2 ∙ written-next out (headNumbers edition n t) statement o1 at e1 a)
-    (rw (length-append, s, a))
+    written-three out (headNumbers edition n t) statement root o1 o2 o3 at (at + 32) e1 e2 e3 a (rw s)
 
 -- ---- what writing gives, by the row's answer
 module _ (edition : ℕ) (statement root : List ℕ) (n t : ℕ) (out : List ℕ) where

@@ -5,14 +5,15 @@ use mathlib.Core.List.{List}
 use lib.Dec.{eqb}
 use lib.ListN.{length, take, drop}
 use Rattle.base.specs.Choice.{pick, both}
-use Rattle.base.specs.Limits.{maxDepth, maxChallenges, edition}
+use Rattle.base.specs.Limits.{maxDepth, maxChallenges}
 use Rattle.base.specs.Number.{numberOf}
-use Rattle.base.specs.Row.{outside}
+use Rattle.base.specs.Row.{outside, otherEdition}
+use Rattle.groups.specs.Groups.{numberGroups}
 use Rattle.groups.specs.Reading.{readAt, checked}
 use Rattle.tree.specs.Openings.{openingSize}
 use Rattle.file_head.specs.declared.HeadNumbers.{HeadNumbers}
 use Rattle.file_head.specs.declared.HeadNumbers.the-variants.{Numbers, NotRead}
-use Rattle.file_head.specs.Layout.{numberGroups, openingFrom}
+use Rattle.file_head.specs.Layout.{openingFrom}
 
 -- what reading a head answers: depth, count and the place after its numbers, or document 01's number of the refusal
 pub data HeadAnswer : Type 0 where
@@ -39,7 +40,7 @@ headCount (notRead r) = 0
 -- Row 'File, each number in turn': 10 and 11 by the groups; then 12: edition not 1, or 1, or 8.
 unfoldable pub headOf : List ℕ → HeadAnswer
 headOf bytes =
-    checked notRead (readAt bytes 0 numberGroups) (λ e. not (eqb e edition)) 12
+    checked notRead (readAt bytes 0 numberGroups) otherEdition 12
     (λ e at. checked notRead (readAt bytes at numberGroups) (outside 1 maxDepth) 1
     (λ n at. checked notRead (readAt bytes at numberGroups) (outside 1 maxChallenges) 8 (λ t at. numbers n t at)))
 

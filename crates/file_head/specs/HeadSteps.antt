@@ -3,8 +3,8 @@ use Prim.Native.Nat.{ℕ}
 use mathlib.Core.List.{List}
 use Rattle.base.specs.Limits.{maxDepth, maxChallenges}
 use Rattle.base.specs.Row.{outside}
+use Rattle.groups.specs.Groups.{numberGroups}
 use Rattle.groups.specs.Reading.{readAt, checked}
-use Rattle.file_head.specs.Layout.{numberGroups}
 use Rattle.file_head.specs.Head.{HeadAnswer, numbers, notRead}
 
 -- the count at a place, after the depth

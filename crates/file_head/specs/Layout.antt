@@ -8,11 +8,7 @@ use Rattle.base.specs.Bytes.{joined, written}
 use Rattle.base.specs.Limits.{maxDepth, maxChallenges}
 use Rattle.base.specs.Row.{firstOf, outside, isDone}
 use Rattle.tree.specs.Openings.{openingSize}
-use Rattle.groups.specs.Groups.{groups}
-
--- a number of the file: at most two groups
-abbrev pub numberGroups : ℕ
-numberGroups = 2
+use Rattle.groups.specs.Groups.{groups, numberGroups}
 
 -- the three numbers
 unfoldable pub headNumbers : ℕ → ℕ → ℕ → List ℕ

@@ -1,11 +1,10 @@
 // Document 01's row 'Writing the file's head'.
 ghost use mathlib.Core.Path.{_≡_};
-ghost use Prim.Native.Nat.{_+_, _<_, _≤_};
+ghost use Prim.Native.Nat.{_<_, _≤_};
 ghost use lib.ListN.{length};
 ghost use Rattle.base.specs.Limits.{edition, maxDepth, maxChallenges};
 ghost use Rattle.base.specs.Bytes.{written};
 ghost use Rattle.base.specs.Number.{outcomeNumber};
-ghost use Rattle.groups.specs.Groups.{groups};
 ghost use Rattle.file_head.specs.Layout.{headNumbers, head, headSize, fileSize, headRow, headWritten};
 use crate::sizes::file_length;
 use base::EDITION;
@@ -27,25 +26,15 @@ pub fn file_size(n: u64, t: u64) -> usize
     file_length(n, t, 4)
 }
 
-// Writes a number in its groups at a place. The place after it.
-fn put_number(x: u64, out: &mut [u8], at: usize) -> usize
-    requires { ⌜ (x < 16384) × (at + length (groups 2 x) ≤ length (now out)) ⌝ }
-    ensures { λ r. ⌜ r ≡ at + length (groups 2 x) ⌝ }
-    ensures { λ _. ⌜ now (out .exit) ≡ written (now (out .entry)) at (groups 2 x) ⌝ }
-{
-    let put = groups::write(x, out, at);
-    at + put.count
-}
-
 // Writes the three numbers over the front of `out`. Where they end.
 fn put_numbers(edition: u64, n: u64, t: u64, out: &mut [u8]) -> usize
     requires { ⌜ (edition < 128) × (n ≤ maxDepth) × (t ≤ maxChallenges) × (length (headNumbers edition n t) ≤ length (now out)) ⌝ }
     ensures { λ r. ⌜ r ≡ length (headNumbers edition n t) ⌝ }
     ensures { λ _. ⌜ now (out .exit) ≡ written (now (out .entry)) 0 (headNumbers edition n t) ⌝ }
 {
-    let first = put_number(edition, out, 0);
-    let second = put_number(n, out, first);
-    put_number(t, out, second)
+    let first = groups::put_number(edition, out, 0);
+    let second = groups::put_number(n, out, first);
+    groups::put_number(t, out, second)
 }
 
 // Writes the head over the front of `out`. Its callers know that it fits.

@@ -63,3 +63,11 @@ module _ (out : List ℕ) (at x count : ℕ) (counted : count ≡ length (groups
       let enough : ltb (length out) (at + length (groupsOf x)) ≡ false =
       le-ltb (length out) (at + length (groupsOf x)) (omega (arith, leb-true (at + count) (length out) f)) in
       record { row = rw enough; bytes = rw (enough, counted); output = rw (enough, p) }
+
+-- a number whose groups fit
+pub number-put : (out : List ℕ) (at x : ℕ) → at + length (groupsOf x) ≤ length out
+    → (putCount out at x ≡ length (groupsOf x)) × (outputAfter out at x ≡ written out at (groupsOf x))
+unfolding putRow putCount outputAfter
+number-put out at x room =
+    let enough = le-ltb (length out) (at + length (groupsOf x)) room in
+    (rw enough, rw enough)

@@ -9,6 +9,10 @@ unfoldable pub groups : ℕ → ℕ → List ℕ
 groups zero x = []
 groups (suc k) x = pick (ltb x 128) (x ∷ []) ((128 + x % 128) ∷ groups k (x / 128))
 
+-- the most groups of a number of a file, and of a run's record but for its labels made
+abbrev pub numberGroups : ℕ
+numberGroups = 2
+
 -- the most groups of a number, read or written: ten hold every number of 64 bits
 abbrev pub maxGroups : ℕ
 maxGroups = 10

@@ -3,9 +3,10 @@ use base::Outcome;
 use base::Refusal;
 use base::wide;
 ghost use mathlib.Core.Path.{_≡_};
-ghost use Prim.Native.Nat.{_+_, _*_, _^_, _<_, min};
+ghost use Prim.Native.Nat.{_+_, _*_, _^_, _<_, _≤_, min};
 ghost use lib.Dec.{leb};
 ghost use lib.ListN.{length, take};
+ghost use Rattle.base.specs.Bytes.{written};
 ghost use Rattle.base.specs.Number.{outcomeNumber};
 ghost use Rattle.groups.specs.Groups.{groupsOf, maxGroups};
 ghost use Rattle.groups.specs.Reading.{answerOf, ended, readAt};
@@ -142,4 +143,14 @@ pub fn write(value: u64, out: &mut [u8], at: usize) -> Put
         outcome: Outcome::Done,
         count,
     }
+}
+
+// The same where its callers know that they fit. The place after the number.
+pub fn put_number(value: u64, out: &mut [u8], at: usize) -> usize
+    requires { ⌜ at + length (groupsOf value) ≤ length (now out) ⌝ }
+    ensures { λ r. ⌜ r ≡ at + length (groupsOf value) ⌝ }
+    ensures { λ _. ⌜ now (out .exit) ≡ written (now (out .entry)) at (groupsOf value) ⌝ }
+{
+    let put = write(value, out, at);
+    at + put.count
 }

@@ -30,7 +30,8 @@ pub fn store_short(memory: u64, store: usize) -> bool
     (store as u64) < size
 }
 
-fn not_possible(depth: u64, memory: u64, made: u64) -> bool
+// Whether no run has these numbers.
+pub fn not_possible(depth: u64, memory: u64, made: u64) -> bool
     ensures { λ r. ⌜ r ≡ impossible depth memory made (nodesIn depth) ⌝ }
 {
     if beyond(MAX_DEPTH, depth) {

@@ -13,6 +13,7 @@ use base::smaller;
 use checks::may_continue;
 pub use checks::may_start;
 pub use checks::nodes;
+pub use checks::not_possible;
 pub use checks::store_short;
 use labels::label_many;
 
@@ -39,7 +40,8 @@ pub struct Advanced {
     pub run: Run,
 }
 
-fn new_run(statement: [u8; 32], depth: u64, memory: u64) -> Run
+// A run with no label made.
+pub fn new_run(statement: [u8; 32], depth: u64, memory: u64) -> Run
     ensures { λ r. ⌜ r ≡ newRun statement depth memory ⌝ }
 {
     let held = [0u8; HELD_SIZE];

@@ -9,3 +9,4 @@ pub mod OpeningRun
 pub mod OpeningCalls
 pub mod Finished
 pub mod Idle
+pub mod GoesOn

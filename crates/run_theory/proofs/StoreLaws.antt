@@ -24,6 +24,20 @@ use Rattle.run.specs.Steps.{stored}
 use Rattle.run_theory.specs.Reached.{labelOf, storeWith, storeAfter}
 use Rattle.run_theory.proofs.Step.{label-size}
 
+-- a label is written into its slot or not at all
+module _ (m : ℕ) (store : List ℕ) (w : Node) (label : List ℕ) where
+  stored-by : (P : List ℕ → Type 0) → (w .level ≤ m → P (written store (slot w) label)) → P store → P (stored m store w label)
+  stored-by P low kept = go (leb (w .level) m) refl
+    where
+      go : (t : Bool) → leb (w .level) m ≡ t → P (pick t (written store (slot w) label) store)
+      go true e = low (leb-true (w .level) m e)
+      go false e = kept
+
+  pub stored-length : (n : ℕ) → InTree n w → length label ≡ 32 → storeSize m ≤ length store → length (stored m store w label) ≡ length store
+  stored-length n inTree size enough =
+      stored-by (λ s. length s ≡ length store)
+      (λ low. length-written store (slot w) label (omega (arith, slot-inside m w (low, inTree .1)))) refl
+
 module _ (edition : ℕ) (statement : List ℕ) (n m : ℕ) where
   storeWith-append :
       (a b : List Node) (store : List ℕ)
@@ -50,25 +64,10 @@ module _ (edition : ℕ) (statement : List ℕ) (n m : ℕ) where
   unfolding labellingOrder
   next-in-tree k small = tree-at n k small
 
-  -- a label is written into its slot or not at all
-  stored-by :
-      (P : List ℕ → Type 0) (store : List ℕ) (w : Node) (label : List ℕ)
-      → (w .level ≤ m → P (written store (slot w) label)) → P store → P (stored m store w label)
-  stored-by P store w label low kept = go (leb (w .level) m) refl
-    where
-      go : (t : Bool) → leb (w .level) m ≡ t → P (pick t (written store (slot w) label) store)
-      go true e = low (leb-true (w .level) m e)
-      go false e = kept
-
   -- One label written into a store that is long enough.
   module _ (store : List ℕ) (enough : storeSize m ≤ length store) (w : Node) (inTree : InTree n w) where
     slot-fits : w .level ≤ m → slot w + length (labelOf edition statement n w) ≤ length store
     slot-fits low = omega (arith, slot-inside m w (low, inTree .1), label-size edition statement n w)
-
-    stored-length : length (stored m store w (labelOf edition statement n w)) ≡ length store
-    stored-length =
-        stored-by (λ s. length s ≡ length store) store w (labelOf edition statement n w)
-        (λ low. length-written store (slot w) (labelOf edition statement n w) (slot-fits low)) refl
 
     stored-here : w .level ≤ m → take 32 (drop (slot w) (stored m store w (labelOf edition statement n w))) ≡ labelOf edition statement n w
     stored-here low =
@@ -79,7 +78,7 @@ module _ (edition : ℕ) (statement : List ℕ) (n m : ℕ) where
         (u : Node) → InTree n u → (u ≡ w → ⊥)
         → take 32 (drop (slot u) (stored m store w (labelOf edition statement n w))) ≡ take 32 (drop (slot u) store)
     stored-other u inTree′ differ =
-        stored-by (λ s. take 32 (drop (slot u) s) ≡ take 32 (drop (slot u) store)) store w (labelOf edition statement n w)
+        stored-by m store w (labelOf edition statement n w) (λ s. take 32 (drop (slot u) s) ≡ take 32 (drop (slot u) store))
         (λ low.
         written-apart store (labelOf edition statement n w) (slot w) (slot-fits low) (slot u) 32
         (rw (label-size edition statement n w) (slots-apart u w (inTree′ .1) (inTree .1) differ)))
@@ -89,7 +88,7 @@ module _ (edition : ℕ) (statement : List ℕ) (n m : ℕ) where
         (i : ℕ) → (w .level ≤ m → (i < slot w) ⊎ (slot w + 32 ≤ i))
         → getD (stored m store w (labelOf edition statement n w)) i 0 ≡ getD store i 0
     stored-else i apart =
-        stored-by (λ s. getD s i 0 ≡ getD store i 0) store w (labelOf edition statement n w)
+        stored-by m store w (labelOf edition statement n w) (λ s. getD s i 0 ≡ getD store i 0)
         (λ low. written-else store (labelOf edition statement n w) (slot w) (slot-fits low) i (rw (label-size edition statement n w) (apart low)))
         refl
 
@@ -100,7 +99,9 @@ module _ (edition : ℕ) (statement : List ℕ) (n m : ℕ) where
     store-length (suc k) small =
         let ih : length (storeAfter edition statement n m k store) ≡ length store = store-length k (omega arith) in
         rw (← add-one k, store-step k store small)
-        (stored-length (storeAfter edition statement n m k store) (rw ih enough) (nextNode n root k) (next-in-tree k small) ∙ ih)
+        (stored-length m (storeAfter edition statement n m k store) (nextNode n root k) (labelOf edition statement n (nextNode n root k)) n
+        (next-in-tree k small) (label-size edition statement n (nextNode n root k)) (rw ih enough)
+        ∙ ih)
 
     still-long : (k : ℕ) → k ≤ nodesIn n → storeSize m ≤ length (storeAfter edition statement n m k store)
     still-long k small = omega (arith, store-length k small)

@@ -1,10 +1,11 @@
-//! Every call compared with a model written from document 01, on random, edge and damaged inputs, and with the shared vectors. A
+//! Every call compared with a model written from documents 01 and 02, on random, edge and damaged inputs, and with the shared vectors. A
 //! case is one call: its answer, the state handed back and all lent memory are compared. Half of the cases have a fixed seed; the
 //! other half's is taken from the clock, or from the variable MASTDOCK_SEED, and printed.
 mod cases;
 mod edges;
 mod lent;
 mod model;
+mod pauses;
 mod random;
 mod vectors;
 
@@ -72,6 +73,7 @@ fn main() {
     let vectors = vectors::run();
     println!("{vectors:>8} shared vectors");
     edges::run();
+    pauses::run();
     let calls = run_all(&seeds);
     for (part, count) in PARTS.iter().zip(&calls) {
         println!("{count:>8} {}", part.name);

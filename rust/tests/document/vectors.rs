@@ -2,10 +2,11 @@
 use crate::cases::proof_file;
 use crate::model::chain::{draw, leaves_opened, plan, Drawn};
 use crate::model::file::{check, code};
-use crate::model::tree::Labels;
-use crate::model::{run, sha256, writing};
+use crate::model::tree::{held, Labels, ROOT};
+use crate::model::{record, run, sha256, writing};
 use mastdock::{
     check_file, digest, file_size, labels, labels_anew, store_size, Drawing, Rejected, Run, Writing, MAX_CHAIN,
+    MAX_RECORD,
 };
 
 /// The lines of a file of vectors, as words.
@@ -31,7 +32,7 @@ fn number(word: &str) -> u64 {
 
 /// Runs all of them. Gives their number.
 pub fn run() -> usize {
-    digests() + roots() + files() + old_files() + checks() + chains() + plans()
+    digests() + roots() + records() + deep_records() + files() + old_files() + checks() + chains() + plans()
 }
 
 /// `length L, SHA-256 of the L bytes whose i-th, from 0, is (7 i + L) mod 256`
@@ -77,6 +78,52 @@ fn roots() -> usize {
         let mut model = run::start(&statement, n, m, &model_store).unwrap();
         assert_eq!(run::advance(&mut model, u64::MAX, &mut model_store), Ok(run.made));
         assert!(model == run && model_store == store);
+        count += 1;
+    }
+    count
+}
+
+/// The record of a run, by the library, over bytes that held something else.
+fn recorded(run: &Run) -> Vec<u8> {
+    let mut out = vec![90; MAX_RECORD];
+    let size = run.record(&mut out).unwrap();
+    out.truncate(size);
+    out
+}
+
+/// W-201: `statement, depth, memory level, labels made, 0, the record of that run`, whose labels are of its own making; or, for bytes
+/// that are no record, `-, 0, 0, 0, the refusal, the bytes (- if none)`
+fn records() -> usize {
+    let mut count = 0;
+    for words in lines(include_str!("../vectors/records.txt")) {
+        let (n, m, made, refusal, bytes) =
+            (number(words[1]), number(words[2]), number(words[3]), number(words[4]), hex(words[5]));
+        count += 1;
+        if refusal != 0 {
+            assert_eq!(Run::resume(&bytes).map_err(|refused| refused.number()), Err(refusal));
+            assert_eq!(record::read(&bytes), Err(refusal));
+            continue;
+        }
+        let mut store = vec![0; store_size(m).unwrap()];
+        let mut run = Run::start(&label(words[0]), n, m, &store).unwrap();
+        assert_eq!(run.advance(made, &mut store), Ok(made));
+        assert_eq!((recorded(&run), Run::resume(&bytes)), (bytes.clone(), Ok(run.clone())));
+        assert_eq!((record::record_of(&run), record::read(&bytes)), (bytes, Ok(run)));
+    }
+    count
+}
+
+/// W-201: `statement, depth, memory level, labels made, number of held labels, SHA-256 of all 1,312 held bytes, the record`
+fn deep_records() -> usize {
+    let mut count = 0;
+    for words in lines(include_str!("../vectors/records-deep.txt")) {
+        let (n, m, made, bytes) = (number(words[1]), number(words[2]), number(words[3]), hex(words[6]));
+        let run = Run::resume(&bytes).unwrap();
+        assert_eq!((run.statement, run.depth, run.memory, run.made), (label(words[0]), n, m, made));
+        assert_eq!(digest(&run.held), Ok(label(words[5])));
+        assert_eq!(held(n, ROOT, made).len() as u64, number(words[4]));
+        assert_eq!((recorded(&run), record::record_of(&run)), (bytes.clone(), bytes.clone()));
+        assert_eq!(record::read(&bytes), Ok(run));
         count += 1;
     }
     count

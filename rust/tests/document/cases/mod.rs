@@ -3,12 +3,14 @@ mod chain;
 mod file;
 mod hash;
 mod opening;
+mod record;
 mod run;
 mod writing;
 
 use crate::random::Random;
 pub use file::proof_file;
 use mastdock::Refusal;
+pub use record::{pause, resume_both};
 use std::collections::BTreeMap;
 use std::sync::Mutex;
 
@@ -27,6 +29,10 @@ pub const PARTS: &[Part] = &[
     Part { name: "run: whole runs by budgets", cases: 300, run: run::whole },
     Part { name: "run: any state", cases: 6000, run: run::any_state },
     Part { name: "run: the largest store", cases: 2, run: run::largest_store },
+    Part { name: "record: written, and read back", cases: 6000, run: record::written },
+    Part { name: "record: any bytes read", cases: 3000, run: record::any_bytes },
+    Part { name: "record: whole runs with pauses", cases: 300, run: record::whole },
+    Part { name: "record: any state goes on", cases: 3000, run: record::goes_on },
     Part { name: "opening: start", cases: 4000, run: opening::starts },
     Part { name: "opening: whole openings by budgets", cases: 700, run: opening::whole },
     Part { name: "opening: any state", cases: 5000, run: opening::any_state },
@@ -43,7 +49,7 @@ pub const PARTS: &[Part] = &[
     Part { name: "draw", cases: 500, run: chain::drawings },
 ];
 
-/// The numbers of each place of document 01's table, 0 for none. All of them are to be seen; only so many bytes that the digest in
+/// The numbers of each place of document 01's table and of the change requests, 0 for none. All of them are to be seen; only so many bytes that the digest in
 /// one call refuses them cannot be lent.
 const ROWS: &[(&str, &[u64])] = &[
     ("hash update", &[0, 5]),
@@ -51,6 +57,8 @@ const ROWS: &[(&str, &[u64])] = &[
     ("digest", &[0]),
     ("run start", &[0, 1, 2, 3]),
     ("run advance", &[0, 4, 3]),
+    ("run record", &[0, 4, 7]),
+    ("run resume", &[0, 10, 11, 12, 4, 18]),
     ("opening start", &[0, 1, 2, 3, 6, 7]),
     ("opening advance", &[0, 4, 3, 7]),
     ("challenge", &[0, 1, 8]),

@@ -6,8 +6,8 @@ use crate::model::{depth_refused, memory_refused};
 use crate::random::Random;
 use mastdock::{ffi, Run};
 
-/// What stands beside a refused start.
-const NO_RUN: Run = Run { statement: [0; 32], depth: 0, memory: 0, made: 0, held: [0; 1312] };
+/// What stands beside a refused start, and a record refused.
+pub const NO_RUN: Run = Run { statement: [0; 32], depth: 0, memory: 0, made: 0, held: [0; 1312] };
 
 /// A depth and a memory level, refused now and then, and a store near the size for it.
 pub fn level_and_store(random: &mut Random, deepest: u64, most: u64) -> (u64, u64, Vec<u8>) {
@@ -16,8 +16,16 @@ pub fn level_and_store(random: &mut Random, deepest: u64, most: u64) -> (u64, u6
     let len = random.near(store_size(m));
     let store = random.bytes(len);
     let n = random.or_edge(n, 40);
-    let m = if random.once_in(8) { random.pick(&[n.wrapping_add(1), 14, 15, 20, 21, 64, u64::MAX]) } else { m };
-    (n, m, store)
+    (n, level_or_edge(random, n, m), store)
+}
+
+/// A memory level that is wanted, or an edge.
+pub fn level_or_edge(random: &mut Random, n: u64, m: u64) -> u64 {
+    if random.once_in(8) {
+        random.pick(&[n.wrapping_add(1), 14, 15, 20, 21, 64, u64::MAX])
+    } else {
+        m
+    }
 }
 
 pub fn starts(random: &mut Random) -> u64 {
@@ -81,8 +89,8 @@ fn made(random: &mut Random, n: u64, m: u64) -> u64 {
     }
 }
 
-pub fn any_state(random: &mut Random) -> u64 {
-    let (n, m, mut store) = level_and_store(random, 40, 5);
+/// A run of this depth and memory level in any state, with more labels made than there are now and then, and something in every place.
+pub fn any_run(random: &mut Random, n: u64, m: u64) -> Run {
     let possible = !depth_refused(n) && !memory_refused(n, m);
     let made = match random.once_in(10) {
         true => random.wide(),
@@ -90,13 +98,18 @@ pub fn any_state(random: &mut Random) -> u64 {
         false => random.wide(),
     };
     let over = possible && random.once_in(10);
-    let mut run = Run {
+    Run {
         statement: random.array(),
         depth: n,
         memory: m,
         made: if over { size(n) + random.below(3) } else { made },
         held: random.array(),
-    };
+    }
+}
+
+pub fn any_state(random: &mut Random) -> u64 {
+    let (n, m, mut store) = level_and_store(random, 40, 5);
+    let mut run = any_run(random, n, m);
     let budget = random.below(6);
     advance_both(random, &mut run, budget, &mut store);
     1

@@ -54,26 +54,27 @@ pub fn write_head(statement: &Label, root: &Label, n: u64, t: u64, file: &mut [u
     Ok(())
 }
 
-/// A number at a place and the place after it. '10: bytes end; 11: last of several bytes 0, or the last allowed byte above 127'.
-fn read_number(bytes: &[u8], at: usize) -> Result<(u64, usize), u64> {
-    let first = *bytes.get(at).ok_or(10u64)?;
-    if first < 128 {
-        return Ok((first.into(), at + 1));
+/// A number of at most so many bytes at a place, and the place after it. '10: bytes end; 11: last of several bytes 0, or the last
+/// allowed byte above 127'.
+pub fn read_number(bytes: &[u8], at: usize, most: usize) -> Result<(u64, usize), u64> {
+    let mut value = 0;
+    for i in 0..most {
+        let byte = u64::from(*bytes.get(at + i).ok_or(10u64)?);
+        value += (byte % 128) << (7 * i);
+        if byte < 128 {
+            return if byte == 0 && i > 0 { Err(11) } else { Ok((value, at + i + 1)) };
+        }
     }
-    let second = *bytes.get(at + 1).ok_or(10u64)?;
-    if second == 0 || second > 127 {
-        return Err(11);
-    }
-    Ok((u64::from(first - 128) + 128 * u64::from(second), at + 2))
+    Err(11)
 }
 
 /// n, t and where the numbers end. 'File, each number in turn: …; then 12: edition not 1, or 1, or 8'.
 pub fn read_head(bytes: &[u8]) -> Result<(u64, u64, usize), u64> {
-    let (edition, at) = read_number(bytes, 0)?;
+    let (edition, at) = read_number(bytes, 0, 2)?;
     row(&[(12, &|| edition != 1)])?;
-    let (n, at) = read_number(bytes, at)?;
+    let (n, at) = read_number(bytes, at, 2)?;
     row(&[(1, &|| depth_refused(n))])?;
-    let (t, at) = read_number(bytes, at)?;
+    let (t, at) = read_number(bytes, at, 2)?;
     row(&[(8, &|| count_refused(t))])?;
     Ok((n, t, at))
 }

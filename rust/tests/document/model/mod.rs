@@ -1,8 +1,10 @@
-//! Document 01 written out in Rust, from the document and for reading: no care for speed, and nothing taken from the Rattle code.
-//! Its sentences are cited. Refusals are its numbers. States are the crate's plain structs.
+//! Document 01 and the change requests of document 02 that are done, written out in Rust, from the documents and for reading: no
+//! care for speed, and nothing taken from the Rattle code. Their sentences are cited. Refusals are their numbers. States are the
+//! crate's plain structs.
 pub mod chain;
 pub mod file;
 pub mod opening;
+pub mod record;
 pub mod run;
 pub mod sha256;
 pub mod step;

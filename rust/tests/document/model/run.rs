@@ -20,14 +20,16 @@ pub fn start(statement: &Label, n: u64, m: u64, store: &[u8]) -> Result<Run, u64
     Ok(Run { statement: *statement, depth: n, memory: m, made: 0, held: [0; 1312] })
 }
 
+/// The condition of 4: 'n not 1..40, m over min(n, 20), or more labels made than there are to make', with W-209's 14 for 20.
+pub fn impossible(n: u64, m: u64, made: u64) -> bool {
+    depth_refused(n) || memory_refused(n, m) || made > size(n)
+}
+
 /// 'A call with a budget labels exactly the smaller of the budget and what remains, reports that number, and hands back the run as
 /// it now is. Stored labels are written as made.' Row 'Continuing a run'.
 pub fn advance(run: &mut Run, budget: u64, store: &mut [u8]) -> Result<u64, u64> {
     let (n, m) = (run.depth, run.memory);
-    row(&[
-        (4, &|| depth_refused(n) || memory_refused(n, m) || run.made > size(n)),
-        (3, &|| store.len() < store_size(m)),
-    ])?;
+    row(&[(4, &|| impossible(n, m, run.made)), (3, &|| store.len() < store_size(m))])?;
     let labels = budget.min(size(n) - run.made);
     for _ in 0..labels {
         let none = |w: Node| unreachable!("{w:?} is in the tree");

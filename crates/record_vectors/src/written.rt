@@ -1,0 +1,157 @@
+// Records written over bytes that held something else, and what reading them gives: every state of small runs, states of depth 40 by
+// hand, and the edges of each refusal. A line has the run's numbers, the output's length, the answer, the size and the output's digest.
+ghost use Prim.Native.Nat.{_≤_};
+use base::HELD_SIZE;
+use base::MAX_RECORD;
+use base::outcome_number;
+use run::Run;
+use run::Started;
+use run_record::read_record;
+use run_record::write_record;
+use vector_helpers::column;
+use vector_helpers::digest_column;
+use vector_helpers::hash;
+
+// Something else in every place.
+fn places() -> [u8; HELD_SIZE] {
+    let mut held = [0u8; HELD_SIZE];
+    let mut i: usize = 0;
+    while i < 1312 {
+        held[i] = (i % 251) as u8;
+        i += 1;
+    }
+    held
+}
+
+// A run made by hand, with something in the places that hold no label too.
+pub fn state(depth: u64, memory: u64, made: u64) -> Run {
+    let held = places();
+    Run {
+        statement: [201u8; 32],
+        depth,
+        memory,
+        made,
+        held,
+    }
+}
+
+// Writes the record. Its size.
+fn wrote(run: Run, out: &mut [u8]) -> usize {
+    vector_helpers::number(run.depth);
+    column(run.memory);
+    column(run.made);
+    column(out.len() as u64);
+    let answer = write_record(run, out);
+    let outcome = answer.outcome;
+    column(outcome_number(outcome));
+    column(answer.size as u64);
+    digest_column(out);
+    answer.size
+}
+
+// The numbers of a run that was read, and the digests of its statement and of its places.
+fn run_columns(run: Run) {
+    let statement = run.statement;
+    let held = run.held;
+    column(run.depth);
+    column(run.memory);
+    column(run.made);
+    digest_column(&statement);
+    digest_column(&held);
+}
+
+// What reading so many of the bytes gives, or all where there are fewer.
+pub fn read_front(bytes: &[u8], size: usize) -> Started {
+    if size <= bytes.len() {
+        return read_record(&bytes[..size]);
+    }
+    read_record(bytes)
+}
+
+fn read_back(bytes: &[u8], size: usize) {
+    let back = read_front(bytes, size);
+    let outcome = back.outcome;
+    let run = back.run;
+    column(outcome_number(outcome));
+    run_columns(run);
+}
+
+// A run's record, and the run that it gives.
+fn line(run: Run) {
+    let mut out = [90u8; MAX_RECORD];
+    let size = wrote(run, &mut out);
+    read_back(&out, size);
+    vector_helpers::end();
+}
+
+// Each of so many states of a run from its start.
+fn states(depth: u64, memory: u64, count: u64) {
+    let mut store = [0u8; 224];
+    let start = Run::start(hash(b"hull"), depth, memory, &store);
+    let mut run = start.run;
+    let mut left = count;
+    while 0 < left {
+        line(run);
+        let step = run.advance(1, &mut store);
+        let next = step.run;
+        run = next;
+        left -= 1;
+    }
+}
+
+// Before the first label, after it, with all 41 places held, before the root and finished.
+fn deep() {
+    line(state(40, 14, 0));
+    line(state(40, 14, 1));
+    line(state(40, 14, 2199023255511));
+    line(state(40, 14, 2199023255550));
+    line(state(40, 14, 2199023255551));
+}
+
+// A run made by hand, and an output of this length.
+fn edge(depth: u64, memory: u64, made: u64, len: usize) {
+    if len <= 1353 {
+        let mut out = [90u8; MAX_RECORD];
+        wrote(state(depth, memory, made), &mut out[..len]);
+        vector_helpers::end();
+    }
+}
+
+// No room, one byte less than a record takes, just enough, and more.
+fn lengths(depth: u64, memory: u64, made: u64, size: usize)
+    requires { ⌜ 1 ≤ size ⌝ }
+{
+    edge(depth, memory, made, 0);
+    edge(depth, memory, made, size - 1);
+    edge(depth, memory, made, size);
+    edge(depth, memory, made, 1353);
+}
+
+// 4 comes before 7.
+fn edges() {
+    lengths(0, 0, 0, 36);
+    lengths(41, 0, 0, 36);
+    lengths(18446744073709551615, 0, 0, 36);
+    lengths(3, 3, 0, 36);
+    lengths(3, 4, 0, 36);
+    lengths(13, 14, 0, 36);
+    lengths(14, 14, 0, 36);
+    lengths(40, 15, 0, 36);
+    lengths(40, 20, 0, 36);
+    lengths(3, 1, 14, 100);
+    lengths(3, 1, 15, 68);
+    lengths(3, 1, 16, 68);
+    lengths(3, 1, 18446744073709551615, 68);
+    lengths(40, 14, 2199023255511, 1353);
+    lengths(40, 14, 2199023255551, 73);
+    lengths(40, 14, 2199023255552, 73);
+}
+
+pub fn written() {
+    states(1, 1, 4);
+    states(2, 2, 8);
+    states(3, 2, 16);
+    states(4, 2, 32);
+    deep();
+    edges();
+}

@@ -1,0 +1,5 @@
+pub mod NumbersSteps
+pub mod NumbersLaws
+pub mod HeldCounts
+pub mod WritingLaws
+pub mod ReadingLaws

@@ -1,0 +1,58 @@
+// W-201: the record's numbers read, each in turn.
+ghost use mathlib.Core.Path.{_≡_};
+ghost use Rattle.run_record.specs.Reading.{numbersAnswer, numbersOf};
+ghost use Rattle.run_record.specs.ReadingSteps.{madeFrom, memoryFrom, depthFrom};
+use crate::RecordNumbers;
+use base::EDITION;
+use base::Refusal;
+use groups::Cursor;
+use groups::Number;
+
+// The labels made, after the memory level: six groups hold every count.
+fn read_made(bytes: &[u8], n: u64, m: u64, from: Cursor) -> RecordNumbers
+    ensures { λ r. ⌜ numbersAnswer r ≡ madeFrom (now (bytes .entry)) n m (from .at) ⌝ }
+{
+    let number = groups::read(bytes, from, 6);
+    match number {
+        Number::Refused(r) => RecordNumbers::NotRead(r),
+        Number::Value(made, next) => RecordNumbers::Numbers(n, m, made, next),
+    }
+}
+
+// The memory level and the labels made, after the depth.
+fn read_memory(bytes: &[u8], n: u64, from: Cursor) -> RecordNumbers
+    ensures { λ r. ⌜ numbersAnswer r ≡ memoryFrom (now (bytes .entry)) n (from .at) ⌝ }
+{
+    let number = groups::read(bytes, from, 2);
+    match number {
+        Number::Refused(r) => RecordNumbers::NotRead(r),
+        Number::Value(m, next) => read_made(bytes, n, m, next),
+    }
+}
+
+// The depth and what follows, after the edition.
+fn read_depth(bytes: &[u8], from: Cursor) -> RecordNumbers
+    ensures { λ r. ⌜ numbersAnswer r ≡ depthFrom (now (bytes .entry)) (from .at) ⌝ }
+{
+    let number = groups::read(bytes, from, 2);
+    match number {
+        Number::Refused(r) => RecordNumbers::NotRead(r),
+        Number::Value(n, next) => read_memory(bytes, n, next),
+    }
+}
+
+// The four numbers, or the first refusal.
+pub fn read_numbers(bytes: &[u8]) -> RecordNumbers
+    ensures { λ r. ⌜ numbersAnswer r ≡ numbersOf (now (bytes .entry)) ⌝ }
+{
+    let number = groups::read(bytes, Cursor { at: 0 }, 2);
+    match number {
+        Number::Refused(r) => RecordNumbers::NotRead(r),
+        Number::Value(edition, next) => {
+            if edition == EDITION {
+                return read_depth(bytes, next);
+            }
+            RecordNumbers::NotRead(Refusal::Edition)
+        }
+    }
+}

@@ -1,0 +1,1 @@
+// Theory without code: records of paused runs. specs/ has what pausing does; proofs/ has the theorems.
