@@ -9,13 +9,14 @@ use base::MAX_DEPTH;
 use base::Refusal;
 use base::beyond;
 use groups::Cursor;
+use groups::NUMBER_GROUPS;
 use groups::Number;
 
 // The count, after the depth.
 fn read_count(bytes: &[u8], n: u64, from: Cursor) -> HeadNumbers
     ensures { λ r. ⌜ headAnswer r ≡ countFrom (now (bytes .entry)) n (from .at) ⌝ }
 {
-    let number = groups::read(bytes, from, 2);
+    let number = groups::read(bytes, from, NUMBER_GROUPS);
     match number {
         Number::Refused(r) => HeadNumbers::NotRead(r),
         Number::Value(t, next) => {
@@ -31,7 +32,7 @@ fn read_count(bytes: &[u8], n: u64, from: Cursor) -> HeadNumbers
 fn read_depth(bytes: &[u8], from: Cursor) -> HeadNumbers
     ensures { λ r. ⌜ headAnswer r ≡ depthFrom (now (bytes .entry)) (from .at) ⌝ }
 {
-    let number = groups::read(bytes, from, 2);
+    let number = groups::read(bytes, from, NUMBER_GROUPS);
     match number {
         Number::Refused(r) => HeadNumbers::NotRead(r),
         Number::Value(n, next) => {
@@ -47,7 +48,7 @@ fn read_depth(bytes: &[u8], from: Cursor) -> HeadNumbers
 pub fn read_head(bytes: &[u8]) -> HeadNumbers
     ensures { λ r. ⌜ headAnswer r ≡ headOf (now (bytes .entry)) ⌝ }
 {
-    let number = groups::read(bytes, Cursor { at: 0 }, 2);
+    let number = groups::read(bytes, Cursor { at: 0 }, NUMBER_GROUPS);
     match number {
         Number::Refused(r) => HeadNumbers::NotRead(r),
         Number::Value(edition, next) => {

@@ -12,6 +12,9 @@ ghost use Rattle.groups.specs.Groups.{groupsOf, maxGroups};
 ghost use Rattle.groups.specs.Reading.{answerOf, ended, readAt};
 ghost use Rattle.groups.specs.Writing.{putRow, putCount, outputAfter};
 
+// The most groups of a number of a file, and of a run's record but for its labels made (specs/Groups.antt).
+pub const NUMBER_GROUPS: usize = 2;
+
 // A place in the caller's bytes.
 pub struct Cursor {
     pub at: usize,

@@ -16,7 +16,7 @@ use Rattle.groups.proofs.Checked.{Passed, refused-some}
 use Rattle.groups.proofs.ShortestOnly.{Shortest, only-shortest}
 use Rattle.groups.proofs.Sizes.{length-groups-le}
 use Rattle.groups.proofs.Steps.{read-number}
-use Rattle.run_record.specs.Layout.{madeGroups, recordNumbers}
+use Rattle.run_record.specs.Layout.{madeGroups, numbersSpace, recordNumbers}
 use Rattle.run_record.specs.Reading.{NumbersAnswer, numbers, notRead, anyNumber, numbersOf}
 
 -- the first bytes are the four numbers, and the place is the one after them
@@ -72,8 +72,8 @@ numbers-read bytes n m made at small e =
     (only-shortest bytes (p₂ .end) numberGroups (p₃ .x) (p₃ .end) small (p₃ .read))
     (only-shortest bytes (p₃ .end) madeGroups (p₄ .x) (p₄ .end) small (p₄ .read)))
 
--- twelve bytes hold the numbers
-pub numbers-length : (e n m made : ℕ) → length (recordNumbers e n m made) ≤ 12
+-- their space holds the numbers
+pub numbers-length : (e n m made : ℕ) → length (recordNumbers e n m made) ≤ numbersSpace
 unfolding recordNumbers
 numbers-length e n m made =
     simp length-append
@@ -86,7 +86,7 @@ numbers-length e n m made =
     ))
 
 pub numbers-within :
-    (bytes : List ℕ) (n m made at : ℕ) → ((j : ℕ) → getD bytes j 0 < 256) → numbersOf bytes ≡ numbers n m made at → at ≤ 12
+    (bytes : List ℕ) (n m made at : ℕ) → ((j : ℕ) → getD bytes j 0 < 256) → numbersOf bytes ≡ numbers n m made at → at ≤ numbersSpace
 numbers-within bytes n m made at small e =
     omega (arith, numbers-read bytes n m made at small e .ends, numbers-length edition n m made)
 

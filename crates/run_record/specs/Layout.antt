@@ -1,6 +1,6 @@
 -- W-201: 'a run written out as bytes and taken up elsewhere: edition, depth, memory level and labels made in seven-bit groups (labels
 -- made may take six), then the statement, then the held labels only, in the order made.'
-use Prim.Native.Nat.{ℕ, _*_}
+use Prim.Native.Nat.{ℕ, _+_, _*_}
 use mathlib.Core.Bool.{Bool}
 use mathlib.Core.List.{List, [], _∷_, _++_}
 use lib.Dec.{ltb}
@@ -18,6 +18,10 @@ use Rattle.run.specs.Rows.{impossible}
 -- 'labels made may take six'
 abbrev pub madeGroups : ℕ
 madeGroups = 6
+
+-- the bytes that the four numbers take at most
+abbrev pub numbersSpace : ℕ
+numbersSpace = 3 * numberGroups + madeGroups
 
 -- the bytes of the labels that are held in a tree of depth n after k labels: the number of these is the tree's own
 abbrev pub heldLength : ℕ → ℕ → ℕ

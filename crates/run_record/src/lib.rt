@@ -6,8 +6,14 @@ mod writing; // writing.rt: the record written
 use base::Outcome;
 use base::Refusal;
 use groups::Cursor;
+use groups::NUMBER_GROUPS;
 pub use reading::read_record;
 pub use writing::write_record;
+
+// The most groups of the labels made, and the bytes that the four numbers take at most: specs/Layout.antt.
+const MADE_GROUPS: usize = 6;
+
+const NUMBERS_SPACE: usize = 3 * NUMBER_GROUPS + MADE_GROUPS;
 
 // What reading the numbers gives: depth, memory level, labels made and the place after them, or the refusal.
 pub enum RecordNumbers {

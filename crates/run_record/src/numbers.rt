@@ -2,17 +2,19 @@
 ghost use mathlib.Core.Path.{_≡_};
 ghost use Rattle.run_record.specs.Reading.{numbersAnswer, numbersOf};
 ghost use Rattle.run_record.specs.ReadingSteps.{madeFrom, memoryFrom, depthFrom};
+use crate::MADE_GROUPS;
 use crate::RecordNumbers;
 use base::EDITION;
 use base::Refusal;
 use groups::Cursor;
+use groups::NUMBER_GROUPS;
 use groups::Number;
 
 // The labels made, after the memory level: six groups hold every count.
 fn read_made(bytes: &[u8], n: u64, m: u64, from: Cursor) -> RecordNumbers
     ensures { λ r. ⌜ numbersAnswer r ≡ madeFrom (now (bytes .entry)) n m (from .at) ⌝ }
 {
-    let number = groups::read(bytes, from, 6);
+    let number = groups::read(bytes, from, MADE_GROUPS);
     match number {
         Number::Refused(r) => RecordNumbers::NotRead(r),
         Number::Value(made, next) => RecordNumbers::Numbers(n, m, made, next),
@@ -23,7 +25,7 @@ fn read_made(bytes: &[u8], n: u64, m: u64, from: Cursor) -> RecordNumbers
 fn read_memory(bytes: &[u8], n: u64, from: Cursor) -> RecordNumbers
     ensures { λ r. ⌜ numbersAnswer r ≡ memoryFrom (now (bytes .entry)) n (from .at) ⌝ }
 {
-    let number = groups::read(bytes, from, 2);
+    let number = groups::read(bytes, from, NUMBER_GROUPS);
     match number {
         Number::Refused(r) => RecordNumbers::NotRead(r),
         Number::Value(m, next) => read_made(bytes, n, m, next),
@@ -34,7 +36,7 @@ fn read_memory(bytes: &[u8], n: u64, from: Cursor) -> RecordNumbers
 fn read_depth(bytes: &[u8], from: Cursor) -> RecordNumbers
     ensures { λ r. ⌜ numbersAnswer r ≡ depthFrom (now (bytes .entry)) (from .at) ⌝ }
 {
-    let number = groups::read(bytes, from, 2);
+    let number = groups::read(bytes, from, NUMBER_GROUPS);
     match number {
         Number::Refused(r) => RecordNumbers::NotRead(r),
         Number::Value(n, next) => read_memory(bytes, n, next),
@@ -45,7 +47,7 @@ fn read_depth(bytes: &[u8], from: Cursor) -> RecordNumbers
 pub fn read_numbers(bytes: &[u8]) -> RecordNumbers
     ensures { λ r. ⌜ numbersAnswer r ≡ numbersOf (now (bytes .entry)) ⌝ }
 {
-    let number = groups::read(bytes, Cursor { at: 0 }, 2);
+    let number = groups::read(bytes, Cursor { at: 0 }, NUMBER_GROUPS);
     match number {
         Number::Refused(r) => RecordNumbers::NotRead(r),
         Number::Value(edition, next) => {

@@ -6,6 +6,7 @@ ghost use Rattle.base.specs.Number.{numberOf, outcomeNumber};
 ghost use Rattle.run.specs.Steps.{noRun};
 ghost use Rattle.tree.specs.Walk.{nodesIn};
 ghost use Rattle.base.specs.Limits.{maxDepth};
+ghost use Rattle.run_record.specs.Layout.{numbersSpace};
 ghost use Rattle.run_record.specs.Reading.{lengthFrom, restRow, runFrom, resumeRow, resumed};
 use crate::RecordNumbers;
 use crate::numbers::read_numbers;
@@ -22,7 +23,7 @@ use run::not_possible;
 
 // The row after the numbers: 4, then 18. They end at a place.
 fn may_resume(depth: u64, memory: u64, made: u64, at: usize, len: usize) -> Outcome
-    requires { ⌜ at ≤ 12 ⌝ }
+    requires { ⌜ at ≤ numbersSpace ⌝ }
     ensures { λ r. ⌜ outcomeNumber r ≡ restRow depth memory made at len ⌝ }
 {
     if not_possible(depth, memory, made) {

@@ -9,6 +9,7 @@ ghost use Rattle.base.specs.Number.{outcomeNumber};
 ghost use Rattle.tree.specs.Held.{held};
 ghost use Rattle.tree.specs.Walk.{nodesIn};
 ghost use Rattle.run_record.specs.Layout.{heldLength, recordNumbers, recordRow, recordSize, recordWritten};
+use crate::NUMBERS_SPACE;
 use crate::Recorded;
 use base::EDITION;
 use base::Outcome;
@@ -19,9 +20,9 @@ use run::Run;
 use run::nodes;
 use run::not_possible;
 
-// A record's numbers: the first `count` of twelve bytes.
+// A record's numbers: the first `count` of these bytes.
 struct NumbersLaid {
-    bytes: [u8; 12],
+    bytes: [u8; NUMBERS_SPACE],
     count: usize,
 }
 
@@ -56,7 +57,7 @@ fn lay_numbers(depth: u64, memory: u64, made: u64) -> NumbersLaid
     ensures { λ r. ⌜ take (r .count) (r .bytes) ≡ recordNumbers edition depth memory made ⌝ }
     ensures { λ r. ⌜ r .count ≡ length (recordNumbers edition depth memory made) ⌝ }
 {
-    let mut bytes = [0u8; 12];
+    let mut bytes = [0u8; NUMBERS_SPACE];
     let first = groups::put_number(EDITION, &mut bytes, 0);
     let second = groups::put_number(depth, &mut bytes, first);
     let third = groups::put_number(memory, &mut bytes, second);

@@ -1,4 +1,4 @@
--- `run_record::writing::lay_numbers` meets its contract: the four numbers one behind the other, in twelve bytes.
+-- `run_record::writing::lay_numbers` meets its contract: the four numbers one behind the other, in their space.
 use mathlib.Core.Path.{_≡_, ap, _∙_}
 use mathlib.Core.List.{List}
 use Prim.Native.Nat.{ℕ, _+_, _≤_}
@@ -8,7 +8,7 @@ use borrow.Author.Needs.{needs}
 use lib.ListN.{length, take}
 use Rattle.base.specs.Limits.{edition}
 use Rattle.groups.specs.Groups.{groupsOf}
-use Rattle.run_record.specs.Layout.{recordNumbers}
+use Rattle.run_record.specs.Layout.{numbersSpace, recordNumbers}
 use Rattle.run_record.proofs.NumbersLaws.{numbers-length}
 use Rattle.run_record.proofs.WritingLaws.{numbers-size, numbers-put, front-written}
 use Rattle.run_record.proofs.writing.lay_numbers.Statement.{statement}
@@ -18,7 +18,7 @@ use Rattle.run_record.proofs.writing.lay_numbers.Tie as tie
 size : (c : tie.Start) → let a = c .args in
     (length (recordNumbers edition (a .depth) (a .memory) (a .made))
     ≡ length (groupsOf edition) + length (groupsOf (a .depth)) + length (groupsOf (a .memory)) + length (groupsOf (a .made)))
-    × (length (recordNumbers edition (a .depth) (a .memory) (a .made)) ≤ 12)
+    × (length (recordNumbers edition (a .depth) (a .memory) (a .made)) ≤ numbersSpace)
 size c =
     let a = c .args in
     (numbers-size (a .depth) (a .memory) (a .made) (c .pre .0) (c .pre .1) (c .pre .2), numbers-length edition (a .depth) (a .memory) (a .made))

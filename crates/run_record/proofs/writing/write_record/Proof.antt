@@ -10,7 +10,7 @@ use lib.Seq.{length-take-le}
 use Rattle.base.specs.Bytes.{written}
 use Rattle.base.specs.Limits.{edition, heldSize}
 use Rattle.run.proofs.RowLaws.{Possible, possible}
-use Rattle.run_record.specs.Layout.{recordOf, noSuchRun}
+use Rattle.run_record.specs.Layout.{numbersSpace, recordOf, noSuchRun}
 use Rattle.run_record.proofs.HeldCounts.{held-fits}
 use Rattle.run_record.proofs.NumbersLaws.{numbers-length}
 use Rattle.run_record.proofs.WritingLaws.{record-size, no-such-run, short-buffer, record-put, parts-are}
@@ -38,7 +38,7 @@ held-length-requires c κs = let b = bounds (c .before) in (b .depth, b .made-fe
 
 -- the three lengths
 record Sizes (c : tie.After-held-length) : Type 0 where
-  pub numbers : c .before .lay-numbers .result .count ≤ 12
+  pub numbers : c .before .lay-numbers .result .count ≤ numbersSpace
   pub labels : c .held-length .result ≤ heldSize
   pub whole : c .before .lay-numbers .result .count + 32 + c .held-length .result ≡ length (recordOf (c .before .before .before .before .before .args .run))
 
