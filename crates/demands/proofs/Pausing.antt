@@ -20,10 +20,10 @@ use Rattle.tree.specs.Walk.{nodesIn}
 use Rattle.labelling.specs.Rule.{stampRule}
 use Rattle.run.specs.declared.Run.{Run}
 use Rattle.run.specs.Steps.{runOf, Stamped, runMachine, steps}
-use Rattle.run.proofs.RowLaws.{Possible, possible, not-impossible, may-go-on}
+use Rattle.run.proofs.RowLaws.{Possible, possible, not-impossible}
 use Rattle.run_theory.specs.Runs.{Startable, atStart, called}
 use Rattle.run_theory.proofs.RunLaws.{run-goes}
-use Rattle.run_theory.proofs.GoesOn.{After, steps-after, goes-on}
+use Rattle.run_theory.proofs.GoesOn.{goes-on, all-made}
 use Rattle.run_record.specs.Layout.{heldLength, recordNumbers, recordOf, noSuchRun, recordRow, recordSize, recordWritten}
 use Rattle.run_record.specs.Reading.{numbers, numbersOf, restRow, resumeRow, resumed}
 use Rattle.run_record_theory.specs.Pausing.{HasArrays, Continuable, remainingOf, tidied, calledPausing}
@@ -180,19 +180,12 @@ module _ (s : Stamped) (can : Continuable s) (portions : List (List ℕ)) where
     called-end : called s (joined portions) ≡ steps (remainingOf s) s
     called-end = calls-end runMachine s (remainingOf s) (goes-on s (can .goes)) (joined portions) covers
 
-    all-made : steps (remainingOf s) s .run .made ≡ 2 ^ (s .run .depth + 1) - 1
-    unfolding nodesIn
-    all-made =
-        let a : After (remainingOf s) s (steps (remainingOf s) s) =
-        steps-after s (may-go-on (s .run) (length (s .store)) (can .goes) .room) (remainingOf s) (omega arith) in
-        omega (arith, a .made, few-made s can)
-
     end-made : calledPausing s portions .run .made ≡ 2 ^ (s .run .depth + 1) - 1
-    unfolding tidied
+    unfolding tidied nodesIn
     end-made =
         ap (λ (t : Stamped). t .run .made) (pausing-state s can portions)
         ∙ ap (λ (t : Stamped). t .run .made) called-end
-        ∙ all-made
+        ∙ omega (arith, all-made s (can .goes))
 
     end-root : take 32 (calledPausing s portions .run .held) ≡ take 32 (called s (joined portions) .run .held)
     end-root = pausing-end s can portions covers .0 ∙ ap (λ (t : Stamped). take 32 (t .run .held)) (sym called-end)

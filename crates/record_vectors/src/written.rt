@@ -1,6 +1,11 @@
 // Records written over bytes that held something else, and what reading them gives: every state of small runs, states of depth 40 by
 // hand, and the edges of each refusal. A line has the run's numbers, the output's length, the answer, the size and the output's digest.
+ghost use mathlib.Core.Path.{_≡_};
 ghost use Prim.Native.Nat.{_≤_};
+ghost use lib.ListN.{take, replicate};
+ghost use Rattle.base.specs.Number.{outcomeNumber};
+ghost use Rattle.run.specs.Steps.{runOf};
+ghost use Rattle.run_record.specs.Reading.{resumeRow, resumed};
 use base::HELD_SIZE;
 use base::MAX_RECORD;
 use base::outcome_number;
@@ -24,7 +29,9 @@ fn places() -> [u8; HELD_SIZE] {
 }
 
 // A run made by hand, with something in the places that hold no label too.
-pub fn state(depth: u64, memory: u64, made: u64) -> Run {
+pub fn state(depth: u64, memory: u64, made: u64) -> Run
+    ensures { λ r. ⌜ r ≡ runOf (replicate 32 201) depth memory made (r .held) ⌝ }
+{
     let held = places();
     Run {
         statement: [201u8; 32],
@@ -61,7 +68,10 @@ fn run_columns(run: Run) {
 }
 
 // What reading so many of the bytes gives, or all where there are fewer.
-pub fn read_front(bytes: &[u8], size: usize) -> Started {
+pub fn read_front(bytes: &[u8], size: usize) -> Started
+    ensures { λ r. ⌜ outcomeNumber (r .outcome) ≡ resumeRow (take size (now (bytes .entry))) ⌝ }
+    ensures { λ r. ⌜ r .run ≡ resumed (take size (now (bytes .entry))) ⌝ }
+{
     if size <= bytes.len() {
         return read_record(&bytes[..size]);
     }

@@ -13,15 +13,14 @@ use Rattle.tree.specs.Walk.{nodesIn}
 use Rattle.run.specs.declared.Run.{Run}
 use Rattle.run.specs.Rows.{continueRow}
 use Rattle.run.specs.Steps.{Stamped, stamped, runMachine, steps, advanced}
-use Rattle.run.proofs.RowLaws.{may-go-on}
 use Rattle.run_theory.specs.Runs.{Startable, atStart, called, reported}
 use Rattle.run_theory.proofs.RunLaws.{run-reached, continue-reached}
 use Rattle.run_record_theory.specs.Pausing.{HasArrays, Continuable, remainingOf, tidied, tidiedAt, paused, calledPausing, reportedPausing}
 use Rattle.run_record_theory.proofs.Tidy.{kept-front, tidied-places}
-use Rattle.run_theory.proofs.GoesOn.{After, goes-possible, steps-after, goes-on}
+use Rattle.run_theory.proofs.GoesOn.{goes-possible, goes-on, after-steps, all-made}
 use Rattle.run_record_theory.proofs.Reading.{record-back}
 use Rattle.run_record_theory.proofs.Sizes.{finished-length}
-use Rattle.run_record_theory.proofs.TidySteps.{runAfter-tidy, runAfter-arrays, few-made, tidied-continuable, tidiedAt-twice, steps-arrays}
+use Rattle.run_record_theory.proofs.TidySteps.{runAfter-tidy, runAfter-arrays, tidied-continuable, tidiedAt-twice, steps-arrays}
 use Rattle.run_record_theory.proofs.TidySteps.{called-continuable, tidy-called, tidy-reported}
 
 -- ---- calls with the budgets of two lists, one after the other
@@ -145,10 +144,7 @@ same-root a b arrays-a arrays-b same e =
 
 module _ (s : Stamped) (can : Continuable s) where
   finished-made : steps (remainingOf s) s .run .made ≡ nodesIn (steps (remainingOf s) s .run .depth)
-  finished-made =
-      let a : After (remainingOf s) s (steps (remainingOf s) s) =
-      steps-after s (may-go-on (s .run) (length (s .store)) (can .goes) .room) (remainingOf s) (omega arith) in
-      rw (a .depth) (omega (arith, few-made s can))
+  finished-made = rw (after-steps s (can .goes) (remainingOf s) (omega arith) .depth) (all-made s (can .goes))
 
   -- budgets that suffice: the root's label and the store are those of the run never paused, all labels made
   pub pausing-end : (portions : List (List ℕ)) → remainingOf s ≤ total (joined portions)

@@ -99,8 +99,15 @@ steps-after s enough zero few = after-none s
 steps-after s enough (suc k) few = next-after k s (steps k s) enough few (steps-after s enough k (omega arith))
 
 module _ (s : Stamped) (goes : continueRow (s .run) (length (s .store)) ≡ 0) where
-  after-steps : (k : ℕ) → k ≤ nodesIn (s .run .depth) - s .run .made → After k s (steps k s)
+  pub after-steps : (k : ℕ) → k ≤ nodesIn (s .run .depth) - s .run .made → After k s (steps k s)
   after-steps = steps-after s (may-go-on (s .run) (length (s .store)) goes .room)
+
+  -- when none remains all labels are made
+  pub all-made : steps (nodesIn (s .run .depth) - s .run .made) s .run .made ≡ nodesIn (s .run .depth)
+  all-made =
+      let a : After (nodesIn (s .run .depth) - s .run .made) s (steps (nodesIn (s .run .depth) - s .run .made) s) =
+      after-steps (nodesIn (s .run .depth) - s .run .made) (omega arith) in
+      omega (arith, a .made, may-go-on (s .run) (length (s .store)) goes .possible .made-few)
 
   -- after any number of labels a call is not refused
   pub still-goes : (k : ℕ) → k ≤ nodesIn (s .run .depth) - s .run .made → continueRow (steps k s .run) (length (steps k s .store)) ≡ 0

@@ -1,23 +1,31 @@
 -- `run_record::numbers::read_depth` meets its contract: refused, or the next is read.
-use mathlib.Core.Path.{sym, ap, _∙_}
+use mathlib.Core.Path.{refl, sym, ap, _∙_}
 use borrow.Author.Needs.{needs}
-use Rattle.groups.specs.Reading.{answerOf}
-use Rattle.run_record.proofs.NumbersSteps.{depth-refused, depth-read}
+use Rattle.groups.specs.Groups.{numberGroups}
+use Rattle.groups.specs.Reading.{answerOf, readAt}
+use Rattle.groups.proofs.Checked.{checked-refused, checked-next}
+use Rattle.run_record.specs.Reading.{notRead, anyNumber}
+use Rattle.run_record.specs.ReadingSteps.{memoryFrom, depthFrom}
 use Rattle.run_record.proofs.numbers.read_depth.Statement.{statement}
 use Rattle.run_record.proofs.numbers.read_depth.Tie as tie
 
 returns : tie.Need-returns
+unfolding depthFrom
 returns c =
     let call = c .before .before .before in
     let a = call .before .before .args in
-    depth-refused (a .bytes .now) (a .from .at) _ (sym (call .read .ensures) ∙ ap answerOf (c .before .number .given .1))
+    checked-refused notRead (readAt (a .bytes .now) (a .from .at) numberGroups) anyNumber 4 (memoryFrom (a .bytes .now)) _
+    (sym (call .read .ensures) ∙ ap answerOf (c .before .number .given .1))
 
 returns-2 : tie.Need-returns-2
+unfolding depthFrom
 returns-2 c =
     let known = c .before .before in
     let call = known .before .before in
     let a = call .before .before .args in
-    c .read-memory .ensures ∙ depth-read (a .bytes .now) (a .from .at) _ _ (sym (call .read .ensures) ∙ ap answerOf (known .number2 .given .1))
+    c .read-memory .ensures
+    ∙ checked-next notRead (readAt (a .bytes .now) (a .from .at) numberGroups) anyNumber 4 (memoryFrom (a .bytes .now)) _ _
+    (sym (call .read .ensures) ∙ ap answerOf (known .number2 .given .1)) refl
 
 pub read-depth-spec : {M : Type 1} → statement M
 read-depth-spec =

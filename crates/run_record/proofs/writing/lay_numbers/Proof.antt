@@ -26,6 +26,15 @@ size c =
 put-number-requires : tie.Need-put-number-requires
 put-number-requires c κs = omega (arith, size (c .before))
 
+-- where the second and the third number end
+second-ends : (c : tie.After-put-number2) → let a = c .before .before .before .before .before .args in
+    c .put-number2 .result ≡ length (groupsOf edition) + length (groupsOf (a .depth))
+second-ends c = omega (arith, c .before .before .before .put-number .ensures .0, c .put-number2 .ensures .0)
+
+third-ends : (c : tie.After-put-number3) → let a = c .before .before .before .before .before .before .before .before .args in
+    c .put-number3 .result ≡ length (groupsOf edition) + length (groupsOf (a .depth)) + length (groupsOf (a .memory))
+third-ends c = omega (arith, second-ends (c .before .before .before), c .put-number3 .ensures .0)
+
 put-number-requires-2 : tie.Need-put-number-requires-2
 put-number-requires-2 c κs =
     let first = c .before .before in
@@ -35,14 +44,7 @@ put-number-requires-3 : tie.Need-put-number-requires-3
 put-number-requires-3 c κs =
     let second = c .before .before in
     let first = second .before .before .before in
-    omega (
-      arith,
-      size (first .before .before),
-      first .put-number .ensures .0,
-      second .put-number2 .ensures .0,
-      first .put-number .kept,
-      second .put-number2 .kept,
-    )
+    omega (arith, size (first .before .before), second-ends second, first .put-number .kept, second .put-number2 .kept)
 
 put-number-requires-4 : tie.Need-put-number-requires-4
 put-number-requires-4 c κs =
@@ -52,9 +54,7 @@ put-number-requires-4 c κs =
     omega (
       arith,
       size (first .before .before),
-      first .put-number .ensures .0,
-      second .put-number2 .ensures .0,
-      third .put-number3 .ensures .0,
+      third-ends third,
       first .put-number .kept,
       second .put-number2 .kept,
       third .put-number3 .kept,
@@ -69,14 +69,7 @@ returns c =
     let s = first .before .before in
     let a = s .args in
     let count : fourth .put-number4 .result ≡ length (recordNumbers edition (a .depth) (a .memory) (a .made)) =
-    omega (
-      arith,
-      size s,
-      first .put-number .ensures .0,
-      second .put-number2 .ensures .0,
-      third .put-number3 .ensures .0,
-      fourth .put-number4 .ensures .0,
-    ) in
+    omega (arith, size s, third-ends third, fourth .put-number4 .ensures .0) in
     let all =
     numbers-put (a .depth) (a .memory) (a .made) (s .pre .0) (s .pre .1) (s .pre .2) _ _ _ _ _ _ _ _ (first .put-number .ensures .1)
     (second .put-number2 .ensures .1) (third .put-number3 .ensures .1) (fourth .put-number4 .ensures .1)
