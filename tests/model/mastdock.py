@@ -483,6 +483,46 @@ def read_record(data):
         return refused.number, Run()
 
 
+# The program's checkpoint (docs/FORMAT.md)
+
+
+MARK = b"mastdock run 1\n"
+
+
+def checkpoint(run, t, store):
+    data = MARK + bytes([run.n, run.m, t]) + len(record(run)).to_bytes(2, "big") + store[: store_size(run.m)] + record(run)
+    return data + sha(data)
+
+
+def openings_taken(run, t, data):
+    """Of a finished run the openings that are whole and right, up to the first that is not, t at most."""
+    taken, size, root = [], opening_size(run.n), run.held[:32]
+    while run.made == 2 ** (run.n + 1) - 1 and len(taken) < t:
+        opening = data[len(taken) * size :][:size]
+        leaf = challenge_leaf(run.n, run.statement, root, len(taken) + 1)
+        if check_opening(run.statement, run.n, leaf, root, opening):
+            break
+        taken.append(opening)
+    return taken
+
+
+def read_checkpoint(data):
+    """'whole' with the challenges, the run, the store and the openings taken; or what it is instead."""
+    if len(data) < 20 or not data.startswith(MARK):
+        return ("foreign",)
+    n, m, t = data[15:18]
+    if bad_depth(n) or bad_memory(n, m) or bad_count(t):
+        return ("damaged",)
+    middle = 20 + store_size(m)
+    end = middle + int.from_bytes(data[18:20], "big")
+    if data[end : end + 32] != sha(data[:end]):
+        return ("damaged",)
+    refusal, run = read_record(data[middle:end])
+    if refusal or (run.n, run.m) != (n, m):
+        return ("impossible",)
+    return "whole", t, run, bytearray(data[20:middle]), openings_taken(run, t, data[end + 32 :])
+
+
 # Chains
 
 

@@ -1,33 +1,31 @@
--- The program's own store and file hold what an order to seal asks for.
+-- What the tests before a seal is carried on give: bounds of its run, and that no call refuses it.
 use mathlib.Core.Path.{_≡_}
-use mathlib.Core.Logic.{⊎-elim}
-use Prim.Native.Nat.{ℕ, _≤_}
+use mathlib.Core.Bool.{false}
+use mathlib.Core.List.{List}
+use Prim.Native.Nat.{ℕ, _*_, _≤_}
 use native.Mathlib.Omega.{arith}
-use Rattle.base.specs.Limits.{maxDepth, maxChallenges, maxFile, maxStore}
-use Rattle.base.proofs.ChoiceLaws.{lt-or-le}
-use Rattle.tree.proofs.Slots.{store-fits}
-use Rattle.file_head.specs.Layout.{fileSize}
-use Rattle.file_head.proofs.HeadLaws.{openings-small}
-use Rattle.file_head.proofs.WritingLaws.{size-three, size-four}
-use Rattle.writing_theory.specs.Filed.{Writable}
-use Rattle.words.specs.declared.Words.the-variants.{Right}
-use Rattle.words.specs.Orders.{sealRow}
-use Rattle.words.proofs.OrderLaws.{Sealing, seal-bounds}
+use lib.ListN.{length, take}
+use lib.Seq.{length-take-le}
+use Rattle.base.proofs.Ranges.{memory-below}
+use Rattle.tree.specs.Walk.{nodesIn}
+use Rattle.run.specs.declared.Run.{Run}
+use Rattle.run.specs.Rows.{impossible, continueRow}
+use Rattle.run.proofs.RowLaws.{not-impossible}
+use Rattle.run_theory.proofs.GoesOn.{goes-possible, not-refused}
 
-pub file-fits : (n t : ℕ) → n ≤ maxDepth → t ≤ maxChallenges → fileSize n t ≤ maxFile
-file-fits n t h k =
-    ⊎-elim
-    (λ few. omega (arith, size-three n t h few, openings-small n t h k))
-    (λ many. omega (arith, size-four n t h many k, openings-small n t h k))
-    (lt-or-le t 128)
+-- the memory level of a run that can be is at most its depth
+pub level-inside : (n m made : ℕ) → impossible n m made (nodesIn n) ≡ false → m ≤ n
+level-inside n m made e =
+    let (d, o, l) = not-impossible n m made (nodesIn n) e in
+    memory-below n m o
 
-pub seal-fits : (n t m store file : ℕ) → sealRow n t m ≡ Right → store ≡ maxStore → file ≡ maxFile → Writable n m t store file
-seal-fits n t m store file r s f =
-    let b : Sealing n t m = seal-bounds n t m r in
-    record {
-      depth = b .depth;
-      memory = b .memory;
-      storeFits = omega (arith, store-fits m (omega (arith, b .memory)));
-      count = b .count;
-      fileFits = omega (arith, file-fits n t (b .depth .1) (b .count .1));
-    }
+pub goes-inside : (run : Run) (store : ℕ) → continueRow run store ≡ 0 → run .memory ≤ run .depth
+goes-inside run store e = level-inside (run .depth) (run .memory) (run .made) (goes-possible run store e)
+
+-- the front of a store with as many places as the kept levels have nodes is enough
+pub goes-on : (run : Run) (store : List ℕ) (kept : ℕ)
+    → impossible (run .depth) (run .memory) (run .made) (nodesIn (run .depth)) ≡ false
+    → kept ≡ 32 * nodesIn (run .memory) → kept ≤ length store → continueRow run (length (take kept store)) ≡ 0
+unfolding nodesIn
+goes-on run store kept can e few =
+    not-refused run (length (take kept store)) can (omega (arith, length-take-le kept store few))

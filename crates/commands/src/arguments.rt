@@ -2,13 +2,14 @@
 ghost use Prim.Native.Nat.{_≤_};
 ghost use mathlib.Core.Path.{_≡_};
 ghost use Rattle.base.specs.Bytes.{zeros};
+use crate::UNTRIED;
 use crate::command;
 
-// Room for six words and one too many, each of 4,097 bytes at most.
-fn line_space() -> [u8; 32768]
-    ensures { λ r. ⌜ r ≡ zeros 32768 ⌝ }
+// Room for eight words and one too many, each of 4,097 bytes at most.
+fn line_space() -> [u8; 40960]
+    ensures { λ r. ⌜ r ≡ zeros 40960 ⌝ }
 {
-    [0u8; 32768]
+    [0u8; 40960]
 }
 
 // Adds argument i. One that is too long for any path is cut, and so still too long.
@@ -23,14 +24,14 @@ fn add_argument(line: &mut [u8], at: usize, i: usize) -> usize {
 
 // The program's name and its words, of which one more than any order has is enough to see that there are too many.
 fn argument_count() -> usize
-    ensures { λ r. ⌜ r ≤ 8 ⌝ }
+    ensures { λ r. ⌜ r ≤ 10 ⌝ }
 {
     let all = os::arg_count();
-    if 8 < all { 8 } else { all }
+    if 10 < all { 10 } else { all }
 }
 
-// Does what the program's arguments ask.
-pub fn run_arguments(out: i32, err: i32) {
+// Does what the program's arguments ask, and answers with the status.
+pub fn run_arguments(out: i32, err: i32) -> u8 {
     let mut line = line_space();
     let count = argument_count();
     let mut at: usize = 0;
@@ -39,11 +40,12 @@ pub fn run_arguments(out: i32, err: i32) {
         at = add_argument(&mut line, at, i);
         i += 1;
     }
-    run(&line, at, out, err);
+    run(&line, at, out, err)
 }
 
-fn run(line: &[u8], length: usize, out: i32, err: i32) {
-    if length <= line.len() {
-        command(&line[..length], out, err);
+fn run(line: &[u8], length: usize, out: i32, err: i32) -> u8 {
+    if line.len() < length {
+        return UNTRIED;
     }
+    command(&line[..length], out, err)
 }

@@ -19,6 +19,7 @@ use Rattle.chain.specs.PlanRow.{planRow}
 use Rattle.chain.proofs.Rows.{list-check}
 use Rattle.planning.specs.Output.{places}
 use Rattle.decimal.specs.Steps.{Wrote}
+use Rattle.drawing_text.specs.declared.Found.{Found}
 use Rattle.drawing_text.specs.Verdict.{refusalText, clashLines}
 use Rattle.drawing_text.specs.Text.{chainText, ChainIn}
 use Rattle.compare.specs.declared.Pair.{Pair}
@@ -119,16 +120,17 @@ pub line-first : (text out after : List ℕ) (used : ℕ) → length text ≡ 81
     → Wrote out 0 (take used text) after used
 line-first text out after used l h e = record { out = e; next = omega (arith, length-take-le used text (omega arith)) }
 
-module _ (drawing : Drawing) (size : ℕ) (plan first second out after : List ℕ) (end : ℕ) where
-  pub refused-wrote : (line : List ℕ) (why : Refusal) (opening number : ℕ) → drawing ≡ NotDrawn why opening → number ≡ numberOf why
-      → line ≡ refusalText number opening size → Wrote out 0 line after end → Wrote out 0 (chainText drawing size plan first second) after end
-  refused-wrote line why opening number e k l w = rw (e, ← k, ← l) w
+module _ (drawing : Drawing) (n t : ℕ) (found : Found) (size : ℕ) (plan first second out after : List ℕ) (end : ℕ) where
+  pub refused-wrote : (line : List ℕ) (why : Refusal) (opening number : ℕ) (told : Found) → drawing ≡ NotDrawn why opening
+      → number ≡ numberOf why → told ≡ found → line ≡ refusalText number opening size told n t → Wrote out 0 line after end
+      → Wrote out 0 (chainText drawing n t found size plan first second) after end
+  refused-wrote line why opening number told e k f l w = rw (e, ← k, ← f, ← l) w
 
   pub chain-wrote :
       (nodes : ℕ) → drawing ≡ Chain nodes → Wrote out 0 plan after end
-      → Wrote out 0 (chainText drawing size plan first second) after end
+      → Wrote out 0 (chainText drawing n t found size plan first second) after end
   chain-wrote nodes e w = rw e w
 
   pub clash-wrote : (line : List ℕ) (i j l : ℕ) → drawing ≡ Clash i j l → line ≡ clashLines i j l first second → Wrote out 0 line after end
-      → Wrote out 0 (chainText drawing size plan first second) after end
+      → Wrote out 0 (chainText drawing n t found size plan first second) after end
   clash-wrote line i j l e f w = rw (e, ← f) w

@@ -1,5 +1,5 @@
--- Lines after one another, where both are short.
-use mathlib.Core.Path.{_≡_, refl, ap, _∙_}
+-- What is told of a drawing: its lines, their lengths, and one law for each return.
+use mathlib.Core.Path.{_≡_, refl}
 use Prim.Native.Nat.{ℕ, _+_, _*_, _≤_}
 use Prim.Native.String.{String}
 use native.Mathlib.Omega.{arith}
@@ -17,38 +17,34 @@ use Rattle.decimal.specs.Text.{field}
 use Rattle.decimal.proofs.Laying.{field-length}
 use Rattle.lines.specs.Line.{added, hexOf}
 use Rattle.lines.specs.Texts.{factText, bytesText, threeText, acceptedText, rejectedText, clashText}
-use Rattle.lines.proofs.LineLaws.{added-fits, length-hex}
+use Rattle.lines.proofs.LineLaws.{length-hex}
 use Rattle.draw.specs.declared.Drawing.{Drawing}
 use Rattle.draw.specs.declared.Drawing.the-variants.{NotDrawn, Chain, Clash}
 use Rattle.drawing_text.specs.Plain.{plainTable, wordsFor, plainText}
-use Rattle.drawing_text.specs.Verdict.{refusalText, clashLines, wantedText, noChainText, judgedText, verdictText}
-
-pub two : {all line next a b : List ℕ} → all ≡ added line next → line ≡ a → next ≡ b → length a ≤ 4000 → length b ≤ 4000 → all ≡ a ++ b
-two {all} {line} {next} {a} {b} e p q h k =
-    e ∙ ap (λ (l : List ℕ). added l next) p ∙ ap (added a) q ∙ added-fits a b (omega arith)
-
-pub one : {line none text : List ℕ} → none ≡ [] → line ≡ added none text → length text ≤ 1000 → line ≡ text
-one {line} {none} {text} e p h = p ∙ ap (λ (l : List ℕ). added l text) e ∙ added-fits [] text (omega arith)
+use Rattle.drawing_text.specs.declared.Found.{Found}
+use Rattle.drawing_text.specs.Differ.{differText}
+use Rattle.drawing_text.specs.Verdict.{whyText, refusalText, clashLines, wantedText, noChainText, judgedText, verdictText}
+use Rattle.drawing_text.proofs.TwoLines.{two}
+use Rattle.drawing_text.proofs.DifferLaws.{differ-short}
 
 -- the words for a number
 pub words-known : (number k : ℕ) (line : List ℕ) → number ≡ k → line ≡ wordsFor k plainTable → line ≡ wordsFor number plainTable
 words-known number k line e l = rw e l
 
 pub words-other :
-    (number : ℕ) (line : List ℕ) → (number ≡ 1 → ⊥) → (number ≡ 8 → ⊥) → (number ≡ 9 → ⊥) → (number ≡ 10 → ⊥) → (number ≡ 11 → ⊥)
-    → (number ≡ 12 → ⊥) → (number ≡ 13 → ⊥) → (number ≡ 14 → ⊥) → (number ≡ 15 → ⊥)
+    (number : ℕ) (line : List ℕ) → (number ≡ 1 → ⊥) → (number ≡ 8 → ⊥) → (number ≡ 10 → ⊥) → (number ≡ 11 → ⊥) → (number ≡ 12 → ⊥)
+    → (number ≡ 13 → ⊥) → (number ≡ 14 → ⊥) → (number ≡ 15 → ⊥)
     → line ≡ ascii "the proof is refused\n" → line ≡ wordsFor number plainTable
-words-other number line a b c d e f g h i l =
+words-other number line a b c d e f g h l =
     rw (
       ne-eqb number 1 a,
       ne-eqb number 8 b,
-      ne-eqb number 9 c,
-      ne-eqb number 10 d,
-      ne-eqb number 11 e,
-      ne-eqb number 12 f,
-      ne-eqb number 13 g,
-      ne-eqb number 14 h,
-      ne-eqb number 15 i,
+      ne-eqb number 10 c,
+      ne-eqb number 11 d,
+      ne-eqb number 12 e,
+      ne-eqb number 13 f,
+      ne-eqb number 14 g,
+      ne-eqb number 15 h,
     )
     l
 
@@ -129,10 +125,23 @@ rejected-short number opening =
       field-length (ascii " ") opening,
     )
 
-pub refusal-short : (number opening size : ℕ) → length (refusalText number opening size) ≤ 200
+why-short : (number size : ℕ) (found : Found) (n t : ℕ) → length (whyText number size found n t) ≤ 300
+unfolding whyText
+why-short number size found n t = go (eqb number 9)
+  where
+    go : (b : Bool) → length (pick b (differText found n t) (plainText number size)) ≤ 300
+    go true = differ-short found n t
+    go false = omega (arith, plain-short number size)
+
+pub refusal-short : (number opening size : ℕ) (found : Found) (n t : ℕ) → length (refusalText number opening size found n t) ≤ 400
 unfolding refusalText
-refusal-short number opening size =
-    omega (arith, length-append (plainText number size) (rejectedText number opening), plain-short number size, rejected-short number opening)
+refusal-short number opening size found n t =
+    omega (
+      arith,
+      length-append (whyText number size found n t) (rejectedText number opening),
+      why-short number size found n t,
+      rejected-short number opening,
+    )
 
 pub no-chain-short : (n t : ℕ) → length (noChainText n t) ≤ 200
 unfolding noChainText
@@ -157,19 +166,30 @@ wanted-short n t = go (eqb n 0)
           fact-short (ascii "challenges ") t,
         )
 
-pub judged-short : (drawing : Drawing) (n t size : ℕ) → length (judgedText drawing n t size) ≤ 200
-judged-short (NotDrawn why opening) n t size = refusal-short (numberOf why) opening size
-judged-short (Chain nodes) n t size = omega (arith, accepted-short n t nodes)
-judged-short (Clash i j l) n t size = no-chain-short n t
+pub judged-short : (drawing : Drawing) (n t : ℕ) (found : Found) (size : ℕ) → length (judgedText drawing n t found size) ≤ 400
+judged-short (NotDrawn why opening) n t found size = refusal-short (numberOf why) opening size found n t
+judged-short (Chain nodes) n t found size = omega (arith, accepted-short n t nodes)
+judged-short (Clash i j l) n t found size = omega (arith, no-chain-short n t)
 
 -- each function's lines
+pub why-differs :
+    (number size : ℕ) (found : Found) (n t : ℕ) (line : List ℕ) → number ≡ 9 → line ≡ differText found n t
+    → line ≡ whyText number size found n t
+unfolding whyText
+why-differs number size found n t line e l = rw (eq-eqb number 9 e) l
+
+pub why-plain :
+    (number size : ℕ) (found : Found) (n t : ℕ) (line : List ℕ) → (number ≡ 9 → ⊥) → line ≡ plainText number size
+    → line ≡ whyText number size found n t
+unfolding whyText
+why-plain number size found n t line d l = rw (ne-eqb number 9 d) l
+
 pub refusal-told :
-    {all one two' : List ℕ} (number opening size : ℕ) → all ≡ added one two' → one ≡ plainText number size
-    → two' ≡ rejectedText number opening
-    → all ≡ refusalText number opening size
+    {all one two' : List ℕ} (number opening size : ℕ) (found : Found) (n t : ℕ) → all ≡ added one two'
+    → one ≡ whyText number size found n t → two' ≡ rejectedText number opening → all ≡ refusalText number opening size found n t
 unfolding refusalText
-refusal-told number opening size e p q =
-    two e p q (omega (arith, plain-short number size)) (omega (arith, rejected-short number opening))
+refusal-told number opening size found n t e p q =
+    two e p q (omega (arith, why-short number size found n t)) (omega (arith, rejected-short number opening))
 
 pub none-wanted : (n t : ℕ) (line : List ℕ) → n ≡ 0 → line ≡ [] → line ≡ wantedText n t
 unfolding wantedText
@@ -198,19 +218,20 @@ pub no-chain-told : {all one two' : List ℕ} (n t : ℕ) → all ≡ added one 
 unfolding noChainText
 no-chain-told n t e p q = two e p q (omega arith) (omega (arith, accepted-short n t 0))
 
-pub judged-refused : (drawing : Drawing) (why : Refusal) (opening n t size number : ℕ) (line : List ℕ) → drawing ≡ NotDrawn why opening
-    → number ≡ numberOf why → line ≡ refusalText number opening size → line ≡ judgedText drawing n t size
-judged-refused drawing why opening n t size number line e k l = rw (e, ← k) l
+module _ (drawing : Drawing) (n t : ℕ) (found : Found) (size : ℕ) where
+  pub judged-refused : (why : Refusal) (opening number : ℕ) (line : List ℕ) → drawing ≡ NotDrawn why opening
+      → number ≡ numberOf why → line ≡ refusalText number opening size found n t → line ≡ judgedText drawing n t found size
+  judged-refused why opening number line e k l = rw (e, ← k) l
 
-pub judged-chain : (drawing : Drawing) (nodes n t size : ℕ) (line : List ℕ) → drawing ≡ Chain nodes → line ≡ acceptedText n t nodes
-    → line ≡ judgedText drawing n t size
-judged-chain drawing nodes n t size line e l = rw e l
+  pub judged-chain : (nodes : ℕ) (line : List ℕ) → drawing ≡ Chain nodes → line ≡ acceptedText n t nodes
+      → line ≡ judgedText drawing n t found size
+  judged-chain nodes line e l = rw e l
 
-pub judged-clash : (drawing : Drawing) (i j l n t size : ℕ) (line : List ℕ) → drawing ≡ Clash i j l → line ≡ noChainText n t
-    → line ≡ judgedText drawing n t size
-judged-clash drawing i j l n t size line e f = rw e f
+  pub judged-clash : (i j l : ℕ) (line : List ℕ) → drawing ≡ Clash i j l → line ≡ noChainText n t
+      → line ≡ judgedText drawing n t found size
+  judged-clash i j l line e f = rw e f
 
-pub verdict-told : {all one two' : List ℕ} (drawing : Drawing) (n t size : ℕ) → all ≡ added one two' → one ≡ wantedText n t
-    → two' ≡ judgedText drawing n t size → all ≡ verdictText drawing n t size
-unfolding verdictText
-verdict-told drawing n t size e p q = two e p q (omega (arith, wanted-short n t)) (omega (arith, judged-short drawing n t size))
+  pub verdict-told : {all one two' : List ℕ} → all ≡ added one two' → one ≡ wantedText n t
+      → two' ≡ judgedText drawing n t found size → all ≡ verdictText drawing n t found size
+  unfolding verdictText
+  verdict-told e p q = two e p q (omega (arith, wanted-short n t)) (omega (arith, judged-short drawing n t found size))

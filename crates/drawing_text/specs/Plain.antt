@@ -6,12 +6,11 @@ use lib.Dec.{eqb}
 use Rattle.base.specs.Choice.{pick}
 use Rattle.decimal.specs.Ascii.{ascii}
 
--- by document 01's number
+-- by document 01's number; 9 is told by what differs
 abbrev pub plainTable : List (ℕ × String)
 plainTable =
     (1, "the proof's depth is not 1 to 40\n")
     ∷ (8, "the proof's number of challenges is not 1 to 200\n")
-    ∷ (9, "the proof is not of this report, or not of the depth and challenges wanted\n")
     ∷ (10, "the proof file ends too early\n")
     ∷ (11, "a number at the start of the proof file is not in its shortest form\n")
     ∷ (12, "the proof file is of no known edition\n")

@@ -7,7 +7,9 @@ ghost use Rattle.planning.specs.Output.{places, maxOutput, planText};
 ghost use Rattle.decimal.specs.Steps.{Wrote};
 ghost use Rattle.draw.specs.Drawing.{drawnChain, leavesOf, drawingOf};
 ghost use Rattle.lines.specs.Line.{lineOf};
+ghost use Rattle.drawing_text.specs.Heads.{foundOf};
 ghost use Rattle.drawing_text.specs.Text.{chainText, ChainIn};
+use crate::heads::found_in;
 use crate::telling::clash_lines;
 use crate::telling::refused;
 use base::put;
@@ -62,13 +64,19 @@ pub fn put_drawing(
 ) -> usize
     requires { ⌜ ChainIn (drawn .drawing) (now list) (now file) statement depth count × (maxOutput ≤ length (now out)) ⌝ }
     ensures { λ r. ⌜ Wrote (now (out .entry)) 0
-        (chainText (drawn .drawing) (length (now (file .entry)))
+        (chainText (drawn .drawing) depth count (foundOf (now (file .entry)) statement) (length (now (file .entry)))
         (planText depth (leavesOf (now (file .entry)) statement depth count)) (drawn .first) (drawn .second)) (now (out .exit)) r ⌝ }
 {
     let drawing = drawn.drawing;
     match drawing {
         Drawing::NotDrawn(why, opening) => {
-            put_line(refused(base::number(why), opening as u64, file.len()), out)
+            let found = found_in(file, statement);
+            let number = base::number(why);
+            let size = file.len();
+            put_line(
+                refused(number, opening as u64, size, found, depth, count),
+                out,
+            )
         }
         Drawing::Chain(nodes) => {
             let used = nodes as usize;

@@ -16,16 +16,13 @@ pub fn sentence(text: &[u8]) -> Line
     add(empty(), text)
 }
 
-// By document 01's number.
+// By document 01's number; 9 is told by what differs.
 fn words_for(number: u64) -> Line
     ensures { λ r. ⌜ lineOf r ≡ wordsFor number plainTable ⌝ }
 {
     match number {
         1 => sentence(b"the proof's depth is not 1 to 40\n"),
         8 => sentence(b"the proof's number of challenges is not 1 to 200\n"),
-        9 => sentence(
-            b"the proof is not of this report, or not of the depth and challenges wanted\n",
-        ),
         10 => sentence(b"the proof file ends too early\n"),
         11 => sentence(b"a number at the start of the proof file is not in its shortest form\n"),
         12 => sentence(b"the proof file is of no known edition\n"),

@@ -1,7 +1,9 @@
 // The lines that are told of a drawing.
 ghost use mathlib.Core.Path.{_≡_};
 ghost use Rattle.lines.specs.Line.{lineOf};
-ghost use Rattle.drawing_text.specs.Verdict.{refusalText, wantedText, noChainText, judgedText, verdictText, clashLines};
+ghost use Rattle.drawing_text.specs.Verdict.{whyText, refusalText, wantedText, noChainText, judgedText, verdictText, clashLines};
+use crate::Found;
+use crate::differing::differ;
 use crate::sentences::plain;
 use crate::sentences::sentence;
 use draw::Drawing;
@@ -14,11 +16,22 @@ use lines::fact;
 use lines::fact_bytes;
 use lines::rejected;
 
-// A refusal: its plain words, then its line.
-pub fn refused(number: u64, opening: u64, size: usize) -> Line
-    ensures { λ r. ⌜ lineOf r ≡ refusalText number opening size ⌝ }
+// Why a file of so many bytes is refused: for 9 what differs from the depth and count wanted, else in plain words.
+fn why_refused(number: u64, size: usize, found: Found, depth: u64, count: u64) -> Line
+    ensures { λ r. ⌜ lineOf r ≡ whyText number size found depth count ⌝ }
 {
-    add_line(plain(number, size), rejected(number, opening))
+    if number == 9 {
+        return differ(found, depth, count);
+    }
+    plain(number, size)
+}
+
+// A refusal: why, then its line.
+pub fn refused(number: u64, opening: u64, size: usize, found: Found, depth: u64, count: u64) -> Line
+    ensures { λ r. ⌜ lineOf r ≡ refusalText number opening size found depth count ⌝ }
+{
+    let why = why_refused(number, size, found, depth, count);
+    add_line(why, rejected(number, opening))
 }
 
 // How much work is wanted.
@@ -51,19 +64,24 @@ fn no_chain(depth: u64, count: u64) -> Line
 }
 
 // Refused or accepted.
-fn judged(drawing: Drawing, depth: u64, count: u64, size: usize) -> Line
-    ensures { λ r. ⌜ lineOf r ≡ judgedText drawing depth count size ⌝ }
+fn judged(drawing: Drawing, depth: u64, count: u64, found: Found, size: usize) -> Line
+    ensures { λ r. ⌜ lineOf r ≡ judgedText drawing depth count found size ⌝ }
 {
     match drawing {
-        Drawing::NotDrawn(why, opening) => refused(base::number(why), opening as u64, size),
+        Drawing::NotDrawn(why, opening) => {
+            refused(base::number(why), opening as u64, size, found, depth, count)
+        }
         Drawing::Chain(nodes) => accepted(depth, count, nodes),
         Drawing::Clash(_, _, _) => no_chain(depth, count),
     }
 }
 
-// All that `verify` prints of a drawing, by the depth and count wanted and the file's size.
-pub fn verdict(drawing: Drawing, depth: u64, count: u64, size: usize) -> Line
-    ensures { λ r. ⌜ lineOf r ≡ verdictText drawing depth count size ⌝ }
+// All that `verify` prints of a drawing, by the depth and count wanted, what the file's head says and the file's size.
+pub fn verdict(drawing: Drawing, depth: u64, count: u64, found: Found, size: usize) -> Line
+    ensures { λ r. ⌜ lineOf r ≡ verdictText drawing depth count found size ⌝ }
 {
-    add_line(wanted(depth, count), judged(drawing, depth, count, size))
+    add_line(
+        wanted(depth, count),
+        judged(drawing, depth, count, found, size),
+    )
 }

@@ -1,26 +1,14 @@
 // A proof written over its room, synced, read back, and renamed only when it is whole.
-ghost use mathlib.Core.Path.{_≡_};
-ghost use Rattle.base.specs.Lists.{sameBytes};
 use crate::folder::sync_folder;
-use crate::part::Part;
+use crate::names::named;
+use crate::part::are_same;
 use crate::part::empty_file;
 use crate::part::is_free;
 use crate::part::write_synced;
 use descriptors::follows;
 use descriptors::read_whole;
-use lines::add;
 use lines::complain;
 use lines::complain_of;
-use lines::empty;
-
-fn are_same(a: &[u8], b: &[u8]) -> bool
-    ensures { λ r. ⌜ r ≡ sameBytes (now (a .entry)) (now (b .entry)) ⌝ }
-{
-    if a.len() != b.len() {
-        return false;
-    }
-    base::same(a, b)
-}
 
 // Whether the file of that name has these bytes and no more.
 fn has_bytes(path: &[u8], bytes: &[u8]) -> bool {
@@ -92,12 +80,9 @@ fn say_where(name: &[u8], err: i32) {
     complain(err, name, b"the finished proof is here")
 }
 
-fn keep_kept(text: &[u8], length: usize, bytes: &[u8], err: i32) {
-    if text.len() < length {
-        return;
-    }
-    if keep_aside(&text[..length], bytes, err) {
-        say_where(&text[..length], err);
+fn keep_kept(name: &[u8], bytes: &[u8], err: i32) {
+    if keep_aside(name, bytes, err) {
+        say_where(name, err);
     }
 }
 
@@ -122,23 +107,22 @@ fn give_name(part: &[u8], proof: &[u8], err: i32) -> bool {
     true
 }
 
-fn keep(fd: i32, text: &[u8], length: usize, proof: &[u8], bytes: &[u8], err: i32) -> bool {
-    if text.len() < length {
-        return false;
+fn keep(fd: i32, part: &[u8], proof: &[u8], bytes: &[u8], err: i32) -> bool {
+    if fill_part(fd, part, bytes, err) {
+        return give_name(part, proof, err);
     }
-    if fill_part(fd, &text[..length], bytes, err) {
-        return give_name(&text[..length], proof, err);
-    }
-    let kept = add(add(empty(), proof), b".kept");
-    let name = kept.text;
-    keep_kept(&name, kept.length, bytes, err);
+    let kept = named(proof, b".kept");
+    let text = kept.text;
+    let length = kept.length;
+    keep_kept(&text[..length], bytes, err);
     false
 }
 
 // Writes the proof over its room, syncs it, renames it and syncs the folder. Answers whether the proof stands under its name;
 // if not, it is told where it is: under its temporary name, or as PROOF.kept.
-pub fn keep_proof(part: Part, proof: &[u8], bytes: &[u8], err: i32) -> bool {
-    let name = part.name;
-    let text = name.text;
-    keep(part.fd, &text, name.length, proof, bytes, err)
+pub fn keep_proof(fd: i32, proof: &[u8], bytes: &[u8], err: i32) -> bool {
+    let part = named(proof, b".part");
+    let text = part.text;
+    let length = part.length;
+    keep(fd, &text[..length], proof, bytes, err)
 }

@@ -1,20 +1,16 @@
-// A file made under a temporary name, with its room taken.
+// PROOF.part: the proof's room on the disk, and at the end the proof before it gets its name.
 ghost use mathlib.Core.Path.{_≡_};
 ghost use Rattle.base.specs.Limits.{maxFile};
 ghost use Rattle.base.specs.Bytes.{zeros};
+ghost use Rattle.base.specs.Lists.{sameBytes};
+ghost use Rattle.files.specs.LeftOver.{isBlank, leftOver};
+use crate::names::named;
 use base::MAX_FILE;
 use base::put;
-use lines::Line;
-use lines::add;
+use descriptors::follows;
+use descriptors::read_whole;
 use lines::complain;
 use lines::complain_of;
-use lines::empty;
-
-// A file under its temporary name: a descriptor, or less than 0.
-pub struct Part {
-    pub fd: i32,
-    pub name: Line,
-}
 
 // A place for the largest proof.
 pub fn empty_file() -> [u8; MAX_FILE]
@@ -24,7 +20,7 @@ pub fn empty_file() -> [u8; MAX_FILE]
 }
 
 // Whether a name is taken: 0 if not, 1 if so, 2 if the system does not tell.
-fn look(path: &[u8]) -> u8 {
+pub fn look(path: &[u8]) -> u8 {
     if 4095 < path.len() {
         return 2;
     }
@@ -54,17 +50,6 @@ pub fn is_free(path: &[u8], err: i32) -> bool {
     true
 }
 
-fn complain_of_part(path: &[u8], error: i32, err: i32) {
-    if error == libc::EEXIST {
-        return complain(
-            err,
-            path,
-            b"there from a run that still works or was killed; remove it if none works",
-        );
-    }
-    complain_of(err, path, error)
-}
-
 // Writes all bytes and waits until the disk has them.
 pub fn write_synced(fd: i32, bytes: &[u8]) -> bool {
     if !io::write_all(fd, bytes) {
@@ -82,33 +67,112 @@ pub fn take_room(fd: i32, size: usize) -> bool {
     write_synced(fd, &zeros[..size])
 }
 
-// Makes a file with its room; one that has no room is removed again.
-fn create_with_room(part: &[u8], size: usize, err: i32) -> i32 {
-    let fd = os::create(part);
+pub fn are_same(a: &[u8], b: &[u8]) -> bool
+    ensures { λ r. ⌜ r ≡ sameBytes (now (a .entry)) (now (b .entry)) ⌝ }
+{
+    if a.len() != b.len() {
+        return false;
+    }
+    base::same(a, b)
+}
+
+fn is_blank(bytes: &[u8]) -> bool
+    ensures { λ r. ⌜ r ≡ isBlank (now (bytes .entry)) ⌝ }
+{
+    let mut i: usize = 0;
+    while i < bytes.len() {
+        if bytes[i] != 0 {
+            return false;
+        }
+        i += 1;
+    }
+    true
+}
+
+// Whether bytes were left by a run that was killed: nothing is in them yet, or they begin as its own file does.
+pub fn is_left_over(bytes: &[u8], head: &[u8]) -> bool
+    ensures { λ r. ⌜ r ≡ leftOver (now (bytes .entry)) (now (head .entry)) ⌝ }
+{
+    if is_blank(bytes) {
+        return true;
+    }
+    let size = head.len();
+    if bytes.len() < size {
+        return are_same(bytes, head);
+    }
+    are_same(&bytes[..size], head)
+}
+
+// How many bytes an open file has that a killed run left, at most so many; one more than that where it is none.
+fn left_size(fd: i32, head: &[u8], size: usize) -> usize {
+    let mut place = empty_file();
+    let input = read_whole(fd, &mut place);
+    let found = input.size;
+    if size < found {
+        return MAX_FILE;
+    }
+    if follows(fd) != 0 {
+        return MAX_FILE;
+    }
+    if !is_left_over(&place[..found], head) {
+        return MAX_FILE;
+    }
+    found
+}
+
+// Goes on with the file that a killed run left, and takes the room that is missing behind it. No byte of it is changed, and no link is
+// followed.
+fn take_over(path: &[u8], head: &[u8], size: usize, err: i32) -> i32 {
+    let fd = os::open_update(path);
     if fd < 0 {
-        complain_of_part(part, os::errno(), err);
+        complain_of(err, path, os::errno());
+        return -1;
+    }
+    let mut found = left_size(fd, head, size);
+    if !descriptors::names(fd, path) {
+        found = MAX_FILE;
+    }
+    if size < found {
+        complain(
+            err,
+            path,
+            b"there already, and not of this report, depth and challenges; it is not overwritten",
+        );
+        libc::close(fd);
+        return -1;
+    }
+    if take_room(fd, size - found) {
+        return fd;
+    }
+    complain_of(err, path, os::errno());
+    libc::close(fd);
+    -1
+}
+
+// Makes a file with its room; one that has no room is removed again.
+fn create_with_room(path: &[u8], head: &[u8], size: usize, err: i32) -> i32 {
+    let fd = os::create(path);
+    if fd < 0 {
+        if os::errno() == libc::EEXIST {
+            return take_over(path, head, size, err);
+        }
+        complain_of(err, path, os::errno());
         return -1;
     }
     if take_room(fd, size) {
         return fd;
     }
-    complain_of(err, part, os::errno());
+    complain_of(err, path, os::errno());
     libc::close(fd);
-    os::unlink(part);
+    os::unlink(path);
     -1
 }
 
-fn create(text: &[u8], length: usize, size: usize, err: i32) -> i32 {
-    if text.len() < length {
-        return -1;
-    }
-    create_with_room(&text[..length], size, err)
-}
-
-// Makes PROOF.part, which must not be there, with room for so many bytes.
-pub fn make_part(proof: &[u8], size: usize, err: i32) -> Part {
-    let name = add(add(empty(), proof), b".part");
+// PROOF.part with room for so many bytes: made, or taken over from a killed run whose proof begins with this head. A descriptor, or less
+// than 0.
+pub fn make_part(proof: &[u8], head: &[u8], size: usize, err: i32) -> i32 {
+    let name = named(proof, b".part");
     let text = name.text;
-    let fd = create(&text, name.length, size, err);
-    Part { fd, name }
+    let length = name.length;
+    create_with_room(&text[..length], head, size, err)
 }

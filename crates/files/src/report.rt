@@ -8,8 +8,11 @@ ghost use Rattle.base.specs.Choice.{both};
 ghost use Rattle.base.specs.Number.{outcomeNumber};
 ghost use Rattle.sha256.specs.Portions.{updateRow, updateState, finishDigest};
 ghost use Rattle.files.specs.Reads.{isDone};
+use crate::names::named;
+use crate::part::are_same;
 use base::Outcome;
 use descriptors::read_once;
+use lines::complain;
 use lines::complain_of;
 use sha256::Hash;
 
@@ -113,6 +116,11 @@ fn not_stated() -> Stated
     }
 }
 
+// Whether the report is standard input.
+fn is_input(path: &[u8]) -> bool {
+    are_same(path, b"-")
+}
+
 // The statement of all that was taken.
 fn state(hash: Hash) -> Stated
     ensures { λ r. ⌜ (r .good ≡ true) × (r .size ≡ hash .taken) × (r .statement ≡ finishDigest hash) ⌝ }
@@ -126,9 +134,66 @@ fn state(hash: Hash) -> Stated
     }
 }
 
+// A report open for reading: `-` is standard input.
+fn open_report(path: &[u8]) -> i32 {
+    if is_input(path) {
+        return libc::STDIN_FILENO;
+    }
+    os::open_read(path)
+}
+
+fn close_report(fd: i32, path: &[u8]) {
+    if !is_input(path) {
+        libc::close(fd);
+    }
+}
+
+// Whether an open file is one of those that a seal writes beside its proof.
+fn is_beside(fd: i32, proof: &[u8], ending: &[u8]) -> bool {
+    let name = named(proof, ending);
+    let text = name.text;
+    let length = name.length;
+    descriptors::names(fd, &text[..length])
+}
+
+fn is_own(fd: i32, proof: &[u8]) -> bool {
+    if is_beside(fd, proof, b".part") {
+        return true;
+    }
+    if is_beside(fd, proof, b".run") {
+        return true;
+    }
+    if is_beside(fd, proof, b".new") {
+        return true;
+    }
+    if is_beside(fd, proof, b".lock") {
+        return true;
+    }
+    is_beside(fd, proof, b".kept")
+}
+
+// Whether the report is no file that a seal of this proof writes; by whatever name it is reached.
+pub fn is_apart(path: &[u8], proof: &[u8], err: i32) -> bool {
+    let fd = open_report(path);
+    if fd < 0 {
+        complain_of(err, path, os::errno());
+        return false;
+    }
+    let own = is_own(fd, proof);
+    close_report(fd, path);
+    if own {
+        complain(
+            err,
+            path,
+            b"the report is a file that sealing this proof writes; give the proof another name",
+        );
+    }
+    !own
+}
+
 // The statement of a report, hashed in portions.
 pub fn state_report(path: &[u8], err: i32) -> Stated {
-    let fd = os::open_read(path);
+    let fd = open_report(path);
     if fd < 0 {
         complain_of(err, path, os::errno());
         return not_stated();
@@ -136,10 +201,10 @@ pub fn state_report(path: &[u8], err: i32) -> Stated {
     let hashed = take_all(fd);
     if !hashed.good {
         complain_of(err, path, os::errno());
-        libc::close(fd);
+        close_report(fd, path);
         return not_stated();
     }
-    libc::close(fd);
+    close_report(fd, path);
     let hash = hashed.hash;
     state(hash)
 }

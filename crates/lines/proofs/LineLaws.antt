@@ -1,17 +1,21 @@
 -- Parts added one after the other.
 use mathlib.Core.Path.{_≡_, refl, sym, ap, _∙_}
-use Prim.Native.Nat.{ℕ, _+_, _*_, _-_, _≤_, _<_}
+use Prim.Native.Nat.{ℕ, _+_, _*_, _-_, _/_, _%_, _≤_, _<_}
 use native.Mathlib.Numerals.{add-one}
 use native.Mathlib.Omega.{arith}
 use mathlib.Core.Bool.{Bool, true, false}
 use mathlib.Core.List.{List, [], _∷_, _++_, append-assoc, append-nil}
-use lib.Dec.{leb}
-use lib.ListN.{length, getD, take, drop, length-append, drop-of-length-le}
+use lib.Dec.{ltb, leb}
+use lib.ListN.{length, getD, take, drop, length-append, length-take, drop-of-length-le}
 use lib.Seq.{take-at, take-all, drop-cons, length-take-le}
 use borrow.Author.Tests.{le-leb, lt-leb}
 use Rattle.base.specs.Choice.{pick}
 use Rattle.base.specs.Bytes.{written}
-use Rattle.lines.specs.Line.{added, hexByte, hexOf, addedHex}
+use Rattle.decimal.specs.Ascii.{ascii}
+use Rattle.decimal.specs.Text.{decimal, field}
+use Rattle.decimal.proofs.Laying.{decimal-short}
+use Rattle.lines.specs.Line.{added, hexByte, hexOf, addedHex, shownByte, addedByte, addedName}
+use Rattle.lines.specs.Texts.{twoText, threeText, percentOf, durationText, shareText, paceText}
 
 pub added-fits : (line part : List ℕ) → length line + length part ≤ 8192 → added line part ≡ line ++ part
 unfolding added
@@ -74,6 +78,25 @@ hex-fits line (b ∷ bytes) h =
     ∙ hex-fits (line ++ hexByte b) bytes (omega arith)
     ∙ append-assoc line (hexByte b) (hexOf bytes)
 
+-- a name, byte by byte
+pub name-turn :
+    (line name : List ℕ) (i : ℕ) → i < length name
+    → addedName line (drop i name) ≡ addedName (addedByte line (getD name i 0)) (drop (i + 1) name)
+name-turn line name i h = rw (add-one i, drop-cons name i 0 h) (unfold addedName in refl)
+
+pub name-end : (line name : List ℕ) (i : ℕ) → length name ≤ i → addedName line (drop i name) ≡ line
+name-end line name i h = rw (drop-of-length-le name h) (unfold addedName in refl)
+
+pub byte-full : (text : List ℕ) (at b : ℕ) → length text ≡ 8192 → 8000 < at → take at text ≡ addedByte (take at text) b
+unfolding addedByte
+byte-full text at b l h = rw (lt-leb (length (take at text)) 8000 (omega (arith, length-take at text)))
+
+pub byte-added :
+    (text part : List ℕ) (at b : ℕ) → length text ≡ 8192 → at ≤ 8000 → part ≡ shownByte b
+    → added (take at text) part ≡ addedByte (take at text) b
+unfolding addedByte
+byte-added text part at b l h e = rw (le-leb (length (take at text)) 8000 (omega (arith, length-take at text)), e)
+
 -- a line that is short so far
 pub record Short (line text : List ℕ) (most : ℕ) : Type 0 where
   pub out : line ≡ text
@@ -103,3 +126,69 @@ more-hex {line} {next} {text} {n} bytes k s e h r =
 
 pub in-threes : (a x b y c z e : List ℕ) → a ++ x ++ b ++ y ++ c ++ z ++ e ≡ (a ++ x) ++ (b ++ y) ++ (c ++ z) ++ e
 in-threes a x b y c z e = simp append-assoc
+
+-- a name and its number as one part
+pub in-field : (line name number end : List ℕ) → line ++ name ++ number ++ end ≡ line ++ (name ++ number) ++ end
+in-field line name number end = ap (λ (l : List ℕ). l ++ end) (append-assoc line name number)
+
+-- ---- how long the parts of a line are
+two-short : (a : List ℕ) (x : ℕ) (b : List ℕ) (y : ℕ) (e : List ℕ) → length (twoText a x b y e) ≤ length a + length b + length e + 40
+two-short a x b y e =
+    omega (
+      arith,
+      decimal-short x,
+      decimal-short y,
+      length-append a (decimal x),
+      length-append b (decimal y),
+      length-append (field a x) (field b y),
+      length-append (field a x ++ field b y) e,
+    )
+
+three-short :
+    (a : List ℕ) (x : ℕ) (b : List ℕ) (y : ℕ) (c : List ℕ) (z : ℕ) (e : List ℕ)
+    → length (threeText a x b y c z e) ≤ length a + length b + length c + length e + 60
+unfolding threeText
+three-short a x b y c z e =
+    omega (
+      arith,
+      two-short a x b y (field c z),
+      decimal-short z,
+      length-append c (decimal z),
+      length-append (field a x ++ field b y) (field c z),
+      length-append (field a x ++ field b y ++ field c z) e,
+    )
+
+pub duration-short : (s : ℕ) → length (durationText s) ≤ 50
+unfolding durationText
+duration-short s = go (ltb s 60) (ltb s 3600) (ltb s 86400)
+  where
+    go : (a b c : Bool)
+        → length
+        (pick a (decimal s ++ ascii " s")
+        (pick b (twoText [] (s / 60) (ascii " min ") (s % 60) (ascii " s"))
+        (pick c (twoText [] (s / 3600) (ascii " h ") (s % 3600 / 60) (ascii " min"))
+        (twoText [] (s / 86400) (ascii " d ") (s % 86400 / 3600) (ascii " h")))))
+        ≤ 50
+    go true b c = omega (arith, decimal-short s, length-append (decimal s) (ascii " s"))
+    go false true c = omega (arith, two-short [] (s / 60) (ascii " min ") (s % 60) (ascii " s"))
+    go false false true = omega (arith, two-short [] (s / 3600) (ascii " h ") (s % 3600 / 60) (ascii " min"))
+    go false false false = omega (arith, two-short [] (s / 86400) (ascii " d ") (s % 86400 / 3600) (ascii " h"))
+
+pub share-short : (made all : ℕ) → length (shareText made all) ≤ 100
+unfolding shareText
+share-short made all =
+    omega (arith, three-short (ascii "labels ") made (ascii " of ") all (ascii ", ") (percentOf made all) (ascii " %"))
+
+pub pace-short : (rate left : ℕ) → length (paceText rate left) ≤ 100
+unfolding paceText
+pace-short rate left =
+    let told : List ℕ = field (ascii ", ") rate in
+    omega (
+      arith,
+      decimal-short rate,
+      duration-short left,
+      length-append (ascii ", ") (decimal rate),
+      length-append told (ascii " a second, "),
+      length-append (told ++ ascii " a second, ") (durationText left),
+      length-append (told ++ ascii " a second, " ++ durationText left) (ascii " left"),
+    )

@@ -1,9 +1,9 @@
 // A line under way, and what is added to it.
 ghost use mathlib.Core.Path.{_≡_};
-ghost use mathlib.Core.List.{[]};
+ghost use mathlib.Core.List.{[], _∷_};
 ghost use Prim.Native.Nat.{_<_};
 ghost use Rattle.decimal.specs.Text.{decimal};
-ghost use Rattle.lines.specs.Line.{lineOf, added, hexByte, addedHex};
+ghost use Rattle.lines.specs.Line.{lineOf, added, hexByte, addedHex, isControl, addedByte, addedName};
 ghost use Rattle.io.specs.Digits.{glyph};
 use crate::Line;
 use base::put;
@@ -82,6 +82,53 @@ pub fn add_hex(line: Line, bytes: &[u8]) -> Line
     while i < bytes.len() {
         let pair = hex_byte(bytes[i]);
         let next = add(current, &pair);
+        current = next;
+        i += 1;
+    }
+    current
+}
+
+fn is_control(byte: u8) -> bool
+    ensures { λ r. ⌜ r ≡ isControl byte ⌝ }
+{
+    if byte < 32 {
+        return true;
+    }
+    byte == 127
+}
+
+// A byte by its number: a backslash, an x and two digits.
+fn escape(byte: u8) -> [u8; 4]
+    ensures { λ r. ⌜ r ≡ 92 ∷ 120 ∷ hexByte byte ⌝ }
+{
+    [92, 120, digit(byte / 16), digit(byte % 16)]
+}
+
+// A byte of a name, shown so that no terminal obeys it.
+fn add_byte(line: Line, byte: u8) -> Line
+    ensures { λ r. ⌜ lineOf r ≡ addedByte (lineOf line) byte ⌝ }
+{
+    if 8000 < line.length {
+        return line;
+    }
+    if is_control(byte) {
+        let shown = escape(byte);
+        return add(line, &shown);
+    }
+    if byte == 92 {
+        return add(line, &[92, 92]);
+    }
+    add(line, &[byte])
+}
+
+// A name, as far as it leaves room for the rest of a message.
+pub fn add_name(line: Line, name: &[u8]) -> Line
+    ensures { λ r. ⌜ lineOf r ≡ addedName (lineOf line) (now (name .entry)) ⌝ }
+{
+    let mut current = line;
+    let mut i: usize = 0;
+    while i < name.len() {
+        let next = add_byte(current, name[i]);
         current = next;
         i += 1;
     }

@@ -1,6 +1,8 @@
 // Lines to a descriptor, each written in one piece.
 use crate::Line;
 use crate::add;
+use crate::add_line;
+use crate::add_name;
 use crate::empty;
 
 fn emit(fd: i32, text: &[u8], length: usize) -> bool {
@@ -20,11 +22,16 @@ pub fn say_text(fd: i32, text: &[u8]) -> bool {
     io::write_all(fd, text)
 }
 
+// One line on a file, by a line that says what is to be said of it.
+pub fn complain_line(fd: i32, path: &[u8], what: Line) {
+    let named = add_name(add(empty(), b"mastdock: "), path);
+    let told = add_line(add(named, b": "), what);
+    say(fd, add(told, b"\n"));
+}
+
 // One line on what is wrong with a file.
 pub fn complain(fd: i32, path: &[u8], what: &[u8]) {
-    let named = add(add(empty(), b"mastdock: "), path);
-    let told = add(add(named, b": "), what);
-    say(fd, add(told, b"\n"));
+    complain_line(fd, path, add(empty(), what))
 }
 
 // The same, by the number of an error of the system.

@@ -3,7 +3,7 @@ ghost use mathlib.Core.Path.{_≡_};
 ghost use Prim.Native.Nat.{_≤_};
 ghost use lib.ListN.{length};
 ghost use Rattle.lines.specs.Line.{lineOf};
-ghost use Rattle.lines.specs.Texts.{factText, bytesText, threeText, percentOf, progressText, acceptedText, rejectedText, clashText};
+ghost use Rattle.lines.specs.Texts.{factText, bytesText, twoText, threeText, acceptedText, rejectedText, clashText};
 use crate::Line;
 use crate::adding::add;
 use crate::adding::add_hex;
@@ -30,8 +30,18 @@ pub fn fact_bytes(name: &[u8], bytes: &[u8]) -> Line
     add(shown, b"\n")
 }
 
+// Two names, each with a number, and an end.
+pub fn two(a: &[u8], x: u64, b: &[u8], y: u64, end: &[u8]) -> Line
+    requires { ⌜ (length (now a) ≤ 1000) × (length (now b) ≤ 1000) × (length (now end) ≤ 1000) ⌝ }
+    ensures { λ r. ⌜ lineOf r ≡ twoText (now (a .entry)) x (now (b .entry)) y (now (end .entry)) ⌝ }
+{
+    let first = add_number(add(empty(), a), x);
+    let second = add_number(add(first, b), y);
+    add(second, end)
+}
+
 // Three names, each with a number, and an end.
-fn three(a: &[u8], x: u64, b: &[u8], y: u64, c: &[u8], z: u64, end: &[u8]) -> Line
+pub fn three(a: &[u8], x: u64, b: &[u8], y: u64, c: &[u8], z: u64, end: &[u8]) -> Line
     requires { ⌜ (length (now a) ≤ 1000) × (length (now b) ≤ 1000) × (length (now c) ≤ 1000) × (length (now end) ≤ 1000) ⌝ }
     ensures { λ r. ⌜ lineOf r ≡ threeText (now (a .entry)) x (now (b .entry)) y (now (c .entry)) z (now (end .entry)) ⌝ }
 {
@@ -39,26 +49,6 @@ fn three(a: &[u8], x: u64, b: &[u8], y: u64, c: &[u8], z: u64, end: &[u8]) -> Li
     let second = add_number(add(first, b), y);
     let third = add_number(add(second, c), z);
     add(third, end)
-}
-
-fn percent(made: u64, all: u64) -> u64
-    ensures { λ r. ⌜ r ≡ percentOf made all ⌝ }
-{
-    if all == 0 {
-        return 0;
-    }
-    if 144115188075855872 <= made {
-        return 0;
-    }
-    100 * made / all
-}
-
-// How many labels are made, of how many, and so how many in a hundred.
-pub fn progress(made: u64, all: u64) -> Line
-    ensures { λ r. ⌜ lineOf r ≡ progressText made all ⌝ }
-{
-    let share = percent(made, all);
-    three(b"labels ", made, b" of ", all, b", ", share, b" %\n")
 }
 
 pub fn accepted(depth: u64, challenges: u64, nodes: u64) -> Line
@@ -78,9 +68,7 @@ pub fn accepted(depth: u64, challenges: u64, nodes: u64) -> Line
 pub fn rejected(number: u64, opening: u64) -> Line
     ensures { λ r. ⌜ lineOf r ≡ rejectedText number opening ⌝ }
 {
-    let first = add_number(add(empty(), b"refused "), number);
-    let second = add_number(add(first, b" "), opening);
-    add(second, b"\n")
+    two(b"refused ", number, b" ", opening, b"\n")
 }
 
 pub fn clash(first: u64, second: u64, level: u64) -> Line

@@ -3,15 +3,15 @@ use crate::make;
 use crate::run;
 use crate::say;
 use crate::streams::show;
-use files::Part;
 use files::keep_proof;
-use files::make_part;
-use files::take_room;
-use lines::add;
-use lines::empty;
 
-fn keep(part: Part, proof: &[u8]) {
-    if keep_proof(part, proof, b"abc", 1) {
+// Room for three bytes.
+fn make_part(proof: &[u8]) -> i32 {
+    files::make_part(proof, b"abc", 3, 1)
+}
+
+fn keep(fd: i32, proof: &[u8]) {
+    if keep_proof(fd, proof, b"abc", 1) {
         say(b"kept\n");
     }
 }
@@ -30,27 +30,27 @@ fn show_size(name: &[u8]) {
 // The room is taken before anything is labelled, and the proof is written over it.
 fn room() {
     say(b"> the room of a proof of three bytes, and the proof\n");
-    let part = make_part(b"room.proof", 3, 1);
+    let fd = make_part(b"room.proof");
     show_size(b"room.proof.part");
-    keep(part, b"room.proof");
+    keep(fd, b"room.proof");
     show(b"room.proof");
     show(b"room.proof.part");
 }
 
 fn taken() {
     say(b"> the name is taken meanwhile\n");
-    let part = make_part(b"taken.proof", 3, 1);
+    let fd = make_part(b"taken.proof");
     make(b"taken.proof", b"made meanwhile", false);
-    keep(part, b"taken.proof");
+    keep(fd, b"taken.proof");
     show(b"taken.proof");
     show(b"taken.proof.part");
 }
 
 fn replace(bytes: &[u8], proof: &[u8], name: &[u8], kept: &[u8]) {
-    let part = make_part(proof, 3, 1);
+    let fd = make_part(proof);
     os::unlink(name);
     make(name, bytes, false);
-    keep(part, proof);
+    keep(fd, proof);
     show(proof);
     show(name);
     show(kept);
@@ -73,32 +73,32 @@ fn replaced() {
     );
 }
 
-// No folder of the name is there.
+// A folder that may not be changed any more.
 fn not_renamed() {
     say(b"> the proof cannot be renamed\n");
-    let part = make_part(b"stays.proof", 3, 1);
-    keep(part, b"none/stays.proof");
-    show(b"stays.proof.part");
+    os::mkdir(b"still");
+    let folder = os::open_read(b"still");
+    let fd = make_part(b"still/x.proof");
+    libc::fchmod(folder, 0o500);
+    keep(fd, b"still/x.proof");
+    show(b"still/x.proof.part");
+    libc::fchmod(folder, 0o700);
+    libc::close(folder);
 }
 
 // A disk with no room, and one that cannot be synced, by devices that answer so.
-fn device(path: &[u8], proof: &[u8]) {
+fn device(path: &[u8], proof: &[u8], kept: &[u8]) {
     let fd = os::open_append(path);
-    if !take_room(fd, 3) {
-        say(b"no room\n");
-    }
-    let name = add(add(empty(), proof), b".part");
-    keep(Part { fd, name }, proof);
+    keep(fd, proof);
     show(proof);
+    show(kept);
 }
 
 fn devices() {
     say(b"> a disk with no room\n");
-    device(b"/dev/full", b"full.proof");
-    show(b"full.proof.kept");
+    device(b"/dev/full", b"full.proof", b"full.proof.kept");
     say(b"> a disk that cannot be synced\n");
-    device(b"/dev/null", b"null.proof");
-    show(b"null.proof.kept");
+    device(b"/dev/null", b"null.proof", b"null.proof.kept");
 }
 
 // A folder that may be changed but not read, and so not synced.

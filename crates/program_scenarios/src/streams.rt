@@ -64,12 +64,15 @@ pub fn apart() {
     run_apart(b"weigh");
 }
 
-// A verdict, a chain and the facts of a seal to a descriptor that can only be read.
+// Every kind of answer to a descriptor that can only be read.
 pub fn not_written() {
     say(b"> standard output cannot be written\n");
     let fd = os::open_read(b"report");
     run_on(b"verify report report.proof", fd, 1);
     run_on(b"chain report report.proof", fd, 1);
+    run_on(b"info report.proof", fd, 1);
+    run_on(b"help", fd, 1);
+    run_on(b"--version", fd, 1);
     run_on(b"seal report unsaid.proof 3 2", fd, 1);
     libc::close(fd);
     run(b"verify report unsaid.proof");

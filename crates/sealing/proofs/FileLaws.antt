@@ -1,52 +1,124 @@
--- A file's calls, from its start on.
+-- An opening in its part of the file, and the file one opening after the other.
 use mathlib.Core.Path.{_≡_, sym, ap, _∙_}
-use Prim.Native.Nat.{ℕ, _+_, _-_, _≤_, min}
-use mathlib.Core.List.{List, _++_}
-use lib.ListN.{length, drop}
-use Rattle.base.specs.Limits.{edition}
-use Rattle.file_head.specs.Layout.{fileSize}
-use Rattle.run_theory.specs.Openings.{HoldsLabels}
-use Rattle.check_theory.specs.TreeFile.{rootOf, treeFile}
-use Rattle.writing.specs.declared.Writing.{Writing}
-use Rattle.writing.specs.Possible.{writtenOf}
-use Rattle.writing.specs.Steps.{Written, started, steps, labelsIn, advanced}
-use Rattle.writing_theory.specs.Filed.{Writable, newFile, labelsAnew}
-use Rattle.writing_theory.proofs.Rows.{started-done}
-use Rattle.writing_theory.proofs.Filing.{file-written}
-use Rattle.writing_theory.proofs.Calls.{file-labels, file-advanced}
+use Prim.Native.Nat.{ℕ, _+_, _-_, _^_, _≤_, _<_}
+use native.Mathlib.Omega.{arith}
+use mathlib.Core.Bool.{Bool, true, false}
+use mathlib.Core.List.{List, _++_, append-assoc, append-nil}
+use lib.ListN.{length, take, drop}
+use lib.Pow.{pow-pos}
+use lib.Seq.{drop-length}
+use Rattle.base.specs.Bytes.{written}
+use Rattle.base.specs.Choice.{pick}
+use Rattle.base.specs.Row.{isDone}
+use Rattle.base.specs.Limits.{edition, maxDepth}
+use Rattle.base.proofs.Parts as parts
+use Rattle.base.proofs.WrittenLaws.{written-over}
+use Rattle.tree.specs.Openings.{openingSize}
+use Rattle.file_head.specs.Challenge.{challengeLeaf, challengeRow, challenged}
+use Rattle.file_head.specs.Layout.{headSize, openingFrom, fileSize}
+use Rattle.file_head.proofs.Leaves.{challengeLeaf-small}
+use Rattle.file_head.proofs.RowLaws.{challenge-done}
+use Rattle.run_theory.specs.Openings.{HoldsLabels, Openable}
+use Rattle.check_theory.specs.TreeFile.{rootOf, openingOf, challengedOpening, treeFile}
+use Rattle.check_theory.proofs.TreeFile.{opening-size}
+use Rattle.writing.specs.Possible.{Room}
+use Rattle.writing.proofs.PartLaws.{part-fits, part-back}
+use Rattle.writing_theory.specs.Filed.{Writable, laid, laidSize}
+use Rattle.writing_theory.proofs.Laid.{size-all, size-from, part-size, part-split, laid-length, laid-next, laid-all}
 
-module _ (statement root : List ℕ) (n m t : ℕ) (store file : List ℕ) (size : length statement ≡ 32)
-    (holds : HoldsLabels edition statement n m store) (fits : Writable n m t (length store) (length file))
-    (is-root : root ≡ rootOf edition statement n)
-    (first : Writing) (begun : List ℕ)
-    (start : first ≡ started statement root n m t store file .writing) (start-file : begun ≡ started statement root n m t store file .file) where
-  pub begins : writtenOf first begun ≡ newFile statement n m t store file
-  begins = rw (start, start-file, is-root) (started-done statement (rootOf edition statement n) n m t store file fits)
+-- a challenge's leaf is in the tree, refused or not
+pub challenged-inside : (statement root : List ℕ) (n i : ℕ) → n ≤ maxDepth → challenged edition n statement root i < 2 ^ n
+unfolding challenged
+challenged-inside statement root n i shallow = by-row (isDone (challengeRow n i))
+  where
+    by-row : (b : Bool) → pick b (challengeLeaf edition n statement root i) 0 < 2 ^ n
+    by-row true = challengeLeaf-small edition n statement root i (omega arith)
+    by-row false = pow-pos n
 
-  module _ (k budget : ℕ) (few : k ≤ labelsAnew n m t) (state : Writing) (here : List ℕ)
-      (is-state : state ≡ steps store k (writtenOf first begun) .writing) (is-file : here ≡ steps store k (writtenOf first begun) .file) where
-    whole : writtenOf state here ≡ steps store k (newFile statement n m t store file)
-    whole = rw (is-state, is-file, begins)
+-- ---- the part of opening i
+module _ (n m t i : ℕ) (store file : List ℕ) (room : Room n m t i (length store) (length file)) (from : ℕ)
+    (at : from ≡ openingFrom n (headSize n t) i) where
+  abbrev part : List ℕ
+  part = take (from + openingSize n - from) (drop from file)
 
-    pub call-labels : labelsIn store (writtenOf state here) budget ≡ min budget (labelsAnew n m t - k)
-    call-labels = ap (λ (s : Written). labelsIn store s budget) whole ∙ file-labels statement n m t store file size holds fits k budget few
+  pub part-inside : from + openingSize n ≤ length file
+  part-inside = rw at (part-fits n t i (room .number .0) (room .number .1) (length file) (room .fileFits))
 
-    pub call-state : advanced store (writtenOf state here) budget ≡ steps store (k + min budget (labelsAnew n m t - k)) (writtenOf first begun)
-    call-state =
-        ap (λ (s : Written). advanced store s budget) whole
-        ∙ file-advanced statement n m t store file size holds fits k budget few ∙ rw (sym begins)
+  part-whole : length part ≡ openingSize n
+  part-whole = ap length (parts.part-size file from (openingSize n)) ∙ parts.part-length file from (openingSize n) part-inside
 
-    -- the writing and the file after a call that reports so many labels
-    module _ (labels : ℕ) (says : labels ≡ labelsIn store (writtenOf state here) budget) where
-      pub next-state :
-          (next : Writing) → next ≡ advanced store (writtenOf state here) budget .writing
-          → next ≡ steps store (k + labels) (writtenOf first begun) .writing
-      next-state next e = e ∙ ap (λ (s : Written). s .writing) call-state ∙ rw (says ∙ call-labels)
+  pub part-openable : (leaf : ℕ) → leaf < 2 ^ n → Openable n m leaf (length store) (length part)
+  part-openable leaf inside =
+      record {
+        depth = room .depth;
+        memory = room .memory;
+        storeFits = room .storeFits;
+        position = inside;
+        outFits = omega (arith, part-whole);
+      }
 
-      pub next-file :
-          (next : List ℕ) → next ≡ advanced store (writtenOf state here) budget .file
-          → next ≡ steps store (k + labels) (writtenOf first begun) .file
-      next-file next e = e ∙ ap (λ (s : Written). s .file) call-state ∙ rw (says ∙ call-labels)
+  -- the opening of its challenge fills it
+  module _ (statement root : List ℕ) (leaf : ℕ) (is : leaf ≡ challenged edition n statement root i) where
+    picked : leaf ≡ challengeLeaf edition n statement root i
+    unfolding challenged
+    picked = is ∙ rw (challenge-done n i (room .depth) (omega (arith, room .number, room .count)))
 
-  pub ends : (k : ℕ) → k ≡ labelsAnew n m t → steps store k (writtenOf first begun) .file ≡ treeFile edition statement n t ++ drop (fileSize n t) file
-  ends k e = rw (e, begins) (file-written statement n m t store file size holds fits)
+    pub part-opened : (opened : List ℕ) → opened ≡ openingOf edition statement n leaf ++ drop (openingSize n) part
+        → take from file ++ (opened ++ drop (from + openingSize n - from) (drop from file))
+        ≡ written file (openingFrom n (headSize n t) i) (openingOf edition statement n (challengeLeaf edition n statement root i))
+    part-opened opened e =
+        let size : from + openingSize n - from ≡ openingSize n = omega arith in
+        let none = ap (λ (k : ℕ). drop k part) (sym part-whole) ∙ drop-length part in
+        let all : opened ≡ openingOf edition statement n leaf =
+        e ∙ ap (λ (l : List ℕ). openingOf edition statement n leaf ++ l) none ∙ append-nil (openingOf edition statement n leaf) in
+        rw (size, part-back file opened from (openingSize n) (ap length all ∙ opening-size edition statement n leaf), all, picked, at)
+
+-- ---- the file after i openings, if its root is the tree's, the store holds the labels and the file had the first of them
+abbrev pub LaidTo : List ℕ → List ℕ → ℕ → ℕ → ℕ → ℕ → List ℕ → List ℕ → ℕ → List ℕ → Type 0
+LaidTo statement root n m t done store first i file =
+    root ≡ rootOf edition statement n
+    → HoldsLabels edition statement n m store
+    → first ≡ laid edition statement n t done ++ drop (laidSize n t done) first
+    → file ≡ laid edition statement n t i ++ drop (laidSize n t i) first
+
+module _ (statement root : List ℕ) (n m t done : ℕ) (store first : List ℕ) where
+  -- one more
+  module _ (size : length statement ≡ 32) (fits : fileSize n t ≤ length first) (i : ℕ) (few : i < t) (file next : List ℕ) where
+    over : written (laid edition statement n t i ++ drop (laidSize n t i) first) (laidSize n t i) (challengedOpening edition statement n (i + 1))
+        ≡ laid edition statement n t (i + 1) ++ drop (laidSize n t (i + 1)) first
+    over =
+        let opening : List ℕ = challengedOpening edition statement n (i + 1) in
+        ap (λ (rest : List ℕ). written (laid edition statement n t i ++ rest) (laidSize n t i) opening) (part-split n t first i)
+        ∙ written-over (laid edition statement n t i) (take (openingSize n) (drop (laidSize n t i) first)) (drop (laidSize n t (i + 1)) first)
+        opening (laidSize n t i) (laid-length edition statement n t i (omega arith) size)
+        (part-size n t first i few fits ∙ sym (opening-size edition statement n _))
+        ∙ sym (append-assoc (laid edition statement n t i) opening (drop (laidSize n t (i + 1)) first))
+        ∙ ap (λ (l : List ℕ). l ++ drop (laidSize n t (i + 1)) first) (laid-next edition statement n t i)
+
+    pub laid-more : LaidTo statement root n m t done store first i file
+        → (HoldsLabels edition statement n m store
+        → next ≡ written file (openingFrom n (headSize n t) (i + 1)) (openingOf edition statement n (challengeLeaf edition n statement root (i + 1))))
+        → LaidTo statement root n m t done store first (i + 1) next
+    laid-more so-far opened is-root holds begun =
+        opened holds ∙ rw (is-root, size-from n t i, so-far is-root holds begun) over
+
+  -- all of them
+  pub laid-whole : (i : ℕ) (file : List ℕ) → i ≡ t → LaidTo statement root n m t done store first i file
+      → root ≡ rootOf edition statement n
+      → HoldsLabels edition statement n m store
+      → first ≡ laid edition statement n t done ++ drop (laidSize n t done) first
+      → file ≡ treeFile edition statement n t ++ drop (fileSize n t) first
+  laid-whole i file e so-far is-root holds begun =
+      so-far is-root holds begun ∙ rw (e, laid-all edition statement n t, size-all n t)
+
+-- an opening of a file that can be written
+pub room-for : (n m t store file i : ℕ) → Writable n m t store file → 1 ≤ i → i ≤ t → Room n m t i store file
+room-for n m t store file i fits some few =
+    record {
+      depth = fits .depth;
+      memory = fits .memory;
+      storeFits = fits .storeFits;
+      number = (some, few);
+      count = fits .count .1;
+      fileFits = fits .fileFits;
+    }

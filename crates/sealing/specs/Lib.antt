@@ -1,1 +1,3 @@
-pub mod Portions
+pub mod Front
+pub mod Resumed
+pub mod TakenUp

@@ -1,40 +1,49 @@
-// The tree labelled.
+// The tree labelled, from wherever its run is.
 ghost use mathlib.Core.Path.{_≡_};
-ghost use Prim.Native.Nat.{_≤_};
 ghost use lib.ListN.{length};
-ghost use Rattle.tree.specs.Walk.{nodesIn};
-ghost use Rattle.run.specs.Steps.{steps};
-ghost use Rattle.run_theory.specs.Runs.{Startable, atStart};
+ghost use Rattle.run.specs.Rows.{continueRow};
+ghost use Rattle.run.specs.Steps.{stamped, steps};
+ghost use Rattle.run_record_theory.specs.Pausing.{remainingOf};
+use crate::PORTION;
+use crate::saving::save_run;
+use base::smaller;
+use progress::Progress;
+use progress::tick;
 use run::Run;
 
-pub fn show_progress(made: u64, all: u64, err: i32) {
-    lines::say(err, lines::progress(made, all));
+// The run at its end, and how far the seal is.
+pub struct Labelled {
+    pub run: Run,
+    pub progress: Progress,
 }
 
-// A run from its start to its end, by calls with one budget.
-pub fn label_tree(
-    statement: [u8; 32],
-    depth: u64,
-    memory: u64,
-    all: u64,
-    portion: u64,
+// A run from where it is to its end, a portion a call. The order's count of challenges and the proof's name are for its checkpoints.
+pub fn label_on(
+    run: Run,
+    count: u64,
     store: &mut [u8],
-    err: i32,
-) -> Run
-    requires { ⌜ Startable depth memory (length (now store)) × (1 ≤ portion) ⌝ }
-    ensures { λ r. ⌜ r ≡ steps (nodesIn depth) (atStart statement depth memory (now (store .entry))) .run ⌝ }
-    ensures { λ _. ⌜ now (store .exit) ≡ steps (nodesIn depth) (atStart statement depth memory (now (store .entry))) .store ⌝ }
+    proof: &[u8],
+    progress: Progress,
+) -> Labelled
+    requires { ⌜ continueRow run (length (now store)) ≡ 0 ⌝ }
+    ensures { λ r. ⌜ r .run ≡ steps (remainingOf (stamped run (now (store .entry)))) (stamped run (now (store .entry))) .run ⌝ }
+    ensures { λ _. ⌜ now (store .exit) ≡ steps (remainingOf (stamped run (now (store .entry)))) (stamped run (now (store .entry))) .store ⌝ }
 {
-    let labels = run::nodes(depth);
-    let started = Run::start(statement, depth, memory, store);
-    let mut state = started.run;
-    let mut made: u64 = 0;
-    while made < labels {
-        let call = state.advance(portion, store);
+    let mut state = run;
+    let mut current = progress;
+    let mut left = run::nodes(run.depth) - run.made;
+    while 0 < left {
+        let budget = smaller(left, PORTION);
+        let call = state.advance(budget, store);
         let next = call.run;
         state = next;
-        made += call.labels;
-        show_progress(made, all, err);
+        left -= budget;
+        let ticked = tick(current, budget);
+        let later = save_run(ticked, next, count, store, proof);
+        current = later;
     }
-    state
+    Labelled {
+        run: state,
+        progress: current,
+    }
 }

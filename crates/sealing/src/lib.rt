@@ -1,67 +1,62 @@
-// Sealing a statement: labels, openings and the proof file, a portion of labels at a time, with progress on a descriptor.
+// Sealing a statement: labels, openings and the proof file, a portion of labels at a time, with progress and checkpoints by the clock.
 mod labelling; // labelling.rt: the tree labelled
-mod opening_all; // opening_all.rt: the openings written
-mod portions; // portions.rt: how many labels in all, and in a portion
+mod opening_all; // opening_all.rt: the openings made
+mod portions; // portions.rt: how many labels in all
+mod resuming; // resuming.rt: a seal taken up from its checkpoint
+mod saving; // saving.rt: checkpoints written when they are due
 
 ghost use mathlib.Core.Path.{_≡_};
-ghost use mathlib.Core.List.{_++_};
-ghost use Prim.Native.Nat.{_+_};
-ghost use lib.ListN.{length, drop};
-ghost use Rattle.base.specs.Limits.{edition};
-ghost use Rattle.tree.specs.Walk.{nodesIn};
+ghost use Prim.Native.Nat.{_≤_};
+ghost use lib.ListN.{length};
+ghost use Rattle.base.specs.Limits.{IsCount};
 ghost use Rattle.file_head.specs.Layout.{fileSize};
-ghost use Rattle.run.specs.Steps.{steps};
-ghost use Rattle.run_theory.specs.Runs.{atStart};
-ghost use Rattle.check_theory.specs.TreeFile.{rootOf, treeFile};
-ghost use Rattle.writing_theory.specs.Filed.{Writable, labelsAnew};
+ghost use Rattle.run.specs.Rows.{continueRow};
+ghost use Rattle.sealing.specs.Front.{Seals};
 use base::label_at;
-use labelling::label_tree;
-use opening_all::write_openings;
+use file_head::write_head;
+use labelling::label_on;
+use opening_all::open_rest;
 pub use portions::all_labels;
-use portions::portion_of;
+use progress::Progress;
+pub use resuming::TakenUp;
+pub use resuming::take_up;
+use run::Run;
+use saving::save_finished;
 
-// The root, and how many labels were made.
+// How many labels are made between two looks at the clock.
+const PORTION: u64 = 16384;
+
+// The root, and how far the seal is.
 pub struct Made {
     pub root: [u8; 32],
-    pub hashes: u64,
+    pub progress: Progress,
 }
 
-// Labels the tree in the store and writes its proof over the front of the file. The descriptor is for progress.
-pub fn make_proof(
-    statement: [u8; 32],
-    depth: u64,
-    memory: u64,
-    challenges: u64,
+// A seal from wherever it is to its end: the labels that the run has yet to make, then the openings after the first `done`, which stand in the
+// file. What is on the way of a start gives the tree's file, whatever the pauses were.
+pub fn seal_on(
+    run: Run,
+    done: u64,
+    count: u64,
     store: &mut [u8],
     file: &mut [u8],
-    err: i32,
+    proof: &[u8],
+    progress: Progress,
 ) -> Made
-    requires { ⌜ Writable depth memory challenges (length (now store)) (length (now file)) ⌝ }
-    ensures { λ r. ⌜ (r .root ≡ rootOf edition statement depth) × (r .hashes ≡ nodesIn depth + labelsAnew depth memory challenges) ⌝ }
-    ensures { λ _. ⌜ now (store .exit) ≡ steps (nodesIn depth) (atStart statement depth memory (now (store .entry))) .store ⌝ }
-    ensures { λ _. ⌜ now (file .exit) ≡ treeFile edition statement depth challenges ++ drop (fileSize depth challenges) (now (file .entry)) ⌝ }
+    requires { ⌜ (continueRow run (length (now store)) ≡ 0) × IsCount count × (done ≤ count) × (fileSize (run .depth) count ≤ length (now file)) ⌝ }
+    ensures { λ r. ⌜ Seals run (now (store .entry)) count done (now (file .entry)) (r .root) (now (file .exit)) ⌝ }
 {
-    let all = all_labels(depth, memory, challenges);
-    let portion = portion_of(all);
-    let run = label_tree(statement, depth, memory, all, portion, store, err);
-    let held = run.held;
+    let labelled = label_on(run, count, store, proof, progress);
+    let finished = labelled.run;
+    let current = labelled.progress;
+    let held = finished.held;
     let root = label_at(&held, 0);
-    let made = run.made;
-    let anew = write_openings(
-        statement,
-        root,
-        depth,
-        memory,
-        challenges,
-        made,
-        all,
-        portion,
-        store,
-        file,
-        err,
-    );
+    let statement = run.statement;
+    write_head(statement, root, run.depth, count, file);
+    let opening = save_finished(current, finished, count, done, store, file, proof);
+    let ended = open_rest(finished, root, count, done, store, file, proof, opening);
     Made {
         root,
-        hashes: made + anew,
+        progress: ended,
     }
 }

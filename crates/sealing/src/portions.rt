@@ -1,10 +1,9 @@
-// How many labels a proof takes, and how many are made between two lines of progress.
+// How many labels a seal takes.
 ghost use mathlib.Core.Path.{_≡_};
 ghost use Prim.Native.Nat.{_+_, _^_, _≤_, _<_};
 ghost use Rattle.base.specs.Limits.{maxDepth, maxChallenges};
 ghost use Rattle.tree.specs.Walk.{nodesIn};
 ghost use Rattle.writing_theory.specs.Filed.{labelsAnew};
-ghost use Rattle.sealing.specs.Portions.{portionOf};
 
 // The labels of the tree, and those made anew for the openings.
 pub fn all_labels(depth: u64, memory: u64, challenges: u64) -> u64
@@ -12,15 +11,4 @@ pub fn all_labels(depth: u64, memory: u64, challenges: u64) -> u64
     ensures { λ r. ⌜ (r ≡ nodesIn depth + labelsAnew depth memory challenges) × (r < 2 ^ 50) ⌝ }
 {
     run::nodes(depth) + challenges * opening::nodes_anew(depth, memory)
-}
-
-// A hundredth of all, and a quarter of a million at least.
-pub fn portion_of(all: u64) -> u64
-    ensures { λ r. ⌜ r ≡ portionOf all ⌝ }
-{
-    let hundredth = all / 100 + 1;
-    if hundredth < 262144 {
-        return 262144;
-    }
-    hundredth
 }

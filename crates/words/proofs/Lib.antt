@@ -1,3 +1,4 @@
 pub mod WordLaws
 pub mod ValueLaws
+pub mod PartsLaws
 pub mod OrderLaws

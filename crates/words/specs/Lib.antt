@@ -1,3 +1,4 @@
 pub mod Parting
 pub mod Values
+pub mod Parts
 pub mod Orders

@@ -1,60 +1,51 @@
--- What the words ask for, and the first thing that is wrong with them.
-use Prim.Native.Nat.{ℕ, min}
+-- What the words ask for, and the first thing that is wrong with them. The words are those of specs/Parts.antt.
+use Prim.Native.Nat.{ℕ, _+_, min}
 use mathlib.Core.Bool.{Bool}
 use mathlib.Core.List.{List, [], _∷_}
 use lib.Dec.{ltb, eqb}
 use lib.ListN.{length}
 use Rattle.base.specs.Choice.{pick, both}
-use Rattle.base.specs.Lists.{sameBytes}
 use Rattle.base.specs.Limits.{maxDepth, maxMemory, maxChallenges}
 use Rattle.base.specs.Row.{outside, memoryOver, either}
-use Rattle.words.specs.Parting.{wordAt, wordCount}
+use Rattle.words.specs.Parting.{wordAt}
+use Rattle.words.specs.Parts.{sealKind, verifyKind, chainKind, infoKind, versionKind, asksHelp, partsOf, reportIn, proofIn}
 use Rattle.words.specs.Values.{valueOf}
+use Rattle.words.specs.declared.Parts.{Parts}
 use Rattle.words.specs.declared.Problem.{Problem}
 use Rattle.words.specs.declared.Problem.the-variants.{NoWord, UnknownWord, Missing, Surplus, NoPath, LongPath, Depth, Challenges, Memory}
+use Rattle.words.specs.declared.Problem.the-variants.{Seconds}
 use Rattle.words.specs.declared.Words.{Words}
 use Rattle.words.specs.declared.Words.the-variants.{Right, Wrong}
 use Rattle.words.specs.declared.Order.{Order}
-use Rattle.words.specs.declared.Order.the-variants.{Seal, Verify, VerifyAs, Chain, Refuse}
+use Rattle.words.specs.declared.Order.the-variants.{Seal, Verify, VerifyAs, VerifyAtLeast, Chain, Info, Help, Version, Refuse}
 
 -- the first condition of a row that holds gives its problem
 abbrev pub firstOf : List (Bool × Problem) → Words
 firstOf [] = Right
 firstOf (check ∷ row) = pick (check .0) (Wrong (check .1)) (firstOf row)
 
--- `seal`, `verify`, `chain`
-abbrev pub sealWord : List ℕ
-sealWord = 115 ∷ 101 ∷ 97 ∷ 108 ∷ []
-
-abbrev pub verifyWord : List ℕ
-verifyWord = 118 ∷ 101 ∷ 114 ∷ 105 ∷ 102 ∷ 121 ∷ []
-
-abbrev pub chainWord : List ℕ
-chainWord = 99 ∷ 104 ∷ 97 ∷ 105 ∷ 110 ∷ []
-
--- 1 to 3 for these words, 0 for any other
-unfoldable pub kindOf : List ℕ → ℕ
-kindOf word = pick (sameBytes word sealWord) 1 (pick (sameBytes word verifyWord) 2 (pick (sameBytes word chainWord) 3 0))
-
--- `seal` has 4 to 6 words with itself, `verify` 3 or 5, `chain` 3
+-- ---- how many operands: `seal` has 3 to 5, `verify` 2 or 4, and 2 with `--at-least`, `chain` 2, `info` 1
 unfoldable pub fewest : ℕ → ℕ
-fewest kind = pick (eqb kind 1) 4 3
+fewest kind = pick (eqb kind sealKind) 3 (pick (eqb kind infoKind) 1 2)
 
-unfoldable pub most : ℕ → ℕ
-most kind = pick (eqb kind 1) 6 (pick (eqb kind 2) 5 3)
+unfoldable pub most : ℕ → ℕ → ℕ
+most kind option =
+    pick (eqb kind sealKind) 5
+    (pick (eqb kind infoKind) 1
+    (pick (both (eqb kind verifyKind) (eqb option 0)) 4 2))
 
-unfoldable pub wordRow : ℕ → ℕ → Words
-wordRow kind all =
+unfoldable pub wordRow : Parts → Words
+wordRow p =
     firstOf
-    ((eqb all 0, NoWord)
-    ∷ (eqb kind 0, UnknownWord)
-    ∷ (ltb all (fewest kind), Missing)
-    ∷ (ltb (most kind) all, Surplus)
-    ∷ (both (eqb kind 2) (eqb all 4), Missing)
+    ((eqb (p .all) 0, NoWord)
+    ∷ (eqb (p .kind) 0, UnknownWord)
+    ∷ (ltb (p .count) (fewest (p .kind)), Missing)
+    ∷ (ltb (most (p .kind) (p .option)) (p .count), Surplus)
+    ∷ (both (eqb (p .kind) verifyKind) (eqb (p .count) 3), Missing)
     ∷ []
     )
 
--- so that `.part` can follow in the 4,095 bytes that a path has at most
+-- ---- the paths, by their lengths: `.part` can follow in the 4,095 bytes that a path has at most
 abbrev pub maxPath : ℕ
 maxPath = 4090
 
@@ -63,6 +54,11 @@ pathRow report proof =
     firstOf
     ((either (eqb report 0) (eqb proof 0), NoPath) ∷ (either (ltb maxPath report) (ltb maxPath proof), LongPath) ∷ [])
 
+-- `info` has a PROOF alone
+unfoldable pub pathsRow : ℕ → ℕ → ℕ → Words
+pathsRow kind report proof = pick (eqb kind infoKind) (pathRow proof proof) (pathRow report proof)
+
+-- ---- the numbers
 unfoldable pub sealRow : ℕ → ℕ → ℕ → Words
 sealRow n t m =
     firstOf
@@ -72,6 +68,12 @@ sealRow n t m =
     ∷ []
     )
 
+abbrev pub maxSeconds : ℕ
+maxSeconds = 3600
+
+unfoldable pub secondsRow : ℕ → Words
+secondsRow s = firstOf ((ltb maxSeconds s, Seconds) ∷ [])
+
 unfoldable pub wantedRow : ℕ → ℕ → Words
 wantedRow n t = firstOf ((outside 1 maxDepth n, Depth) ∷ (outside 1 maxChallenges t, Challenges) ∷ [])
 
@@ -79,33 +81,53 @@ abbrev pub orderIf : Words → Order → Order
 orderIf Right order = order
 orderIf (Wrong problem) order = Refuse problem
 
--- 'challenges default to 150, the paper's figure, the memory level to the smaller of depth and 14', its limit (W-209)
-abbrev pub challengesIn : List ℕ → ℕ → ℕ
-challengesIn line all = pick (ltb all 5) 150 (valueOf (wordAt 4 line))
+-- ---- `seal`: 'challenges default to 150, the paper's figure, the memory level to the smaller of depth and 14', its limit (W-209);
+-- 60 seconds between checkpoints
+unfoldable pub depthIn : List ℕ → Parts → ℕ
+depthIn line p = valueOf (wordAt (p .first + 2) line)
 
-abbrev pub memoryIn : List ℕ → ℕ → ℕ → ℕ
-memoryIn line all n = pick (ltb all 6) (min n maxMemory) (valueOf (wordAt 5 line))
+unfoldable pub challengesIn : List ℕ → Parts → ℕ
+challengesIn line p = pick (ltb (p .count) 4) 150 (valueOf (wordAt (p .first + 3) line))
 
-abbrev pub sealed : ℕ → ℕ → ℕ → Order
-sealed n t m = orderIf (sealRow n t m) (Seal n t m)
+unfoldable pub memoryIn : List ℕ → Parts → ℕ → ℕ
+memoryIn line p n = pick (ltb (p .count) 5) (min n maxMemory) (valueOf (wordAt (p .first + 4) line))
 
-unfoldable pub sealOrder : List ℕ → ℕ → Order
-sealOrder line all =
-    sealed (valueOf (wordAt 3 line)) (challengesIn line all) (memoryIn line all (valueOf (wordAt 3 line)))
+unfoldable pub secondsIn : List ℕ → Parts → ℕ
+secondsIn line p = pick (eqb (p .option) 0) 60 (valueOf (wordAt (p .option + 1) line))
 
-abbrev pub wanted : ℕ → ℕ → Order
+unfoldable pub timed : ℕ → ℕ → ℕ → ℕ → Order
+timed n t m s = orderIf (secondsRow s) (Seal n t m s)
+
+unfoldable pub sealed : ℕ → ℕ → ℕ → ℕ → Order
+sealed n t m s = orderIf (sealRow n t m) (timed n t m s)
+
+unfoldable pub sealOrder : List ℕ → Parts → Order
+sealOrder line p =
+    sealed (depthIn line p) (challengesIn line p) (memoryIn line p (depthIn line p)) (secondsIn line p)
+
+-- ---- `verify`: 'depth and count wanted default to those of the head'; `--at-least` says the least of both
+unfoldable pub wanted : ℕ → ℕ → Order
 wanted n t = orderIf (wantedRow n t) (VerifyAs n t)
 
--- 'depth and count wanted default to those of the head'
-unfoldable pub verifyOrder : List ℕ → ℕ → Order
-verifyOrder line all = pick (ltb all 4) Verify (wanted (valueOf (wordAt 3 line)) (valueOf (wordAt 4 line)))
+unfoldable pub wantedLeast : ℕ → ℕ → Order
+wantedLeast n t = orderIf (wantedRow n t) (VerifyAtLeast n t)
 
-unfoldable pub asked : List ℕ → ℕ → ℕ → Order
-asked line kind all = pick (eqb kind 1) (sealOrder line all) (pick (eqb kind 2) (verifyOrder line all) Chain)
+unfoldable pub verifyOrder : List ℕ → Parts → Order
+verifyOrder line p =
+    pick (eqb (p .option) 0)
+    (pick (ltb (p .count) 3) Verify (wanted (depthIn line p) (valueOf (wordAt (p .first + 3) line))))
+    (wantedLeast (valueOf (wordAt (p .option + 1) line)) (valueOf (wordAt (p .option + 2) line)))
+
+unfoldable pub asked : List ℕ → Parts → Order
+asked line p =
+    pick (eqb (p .kind) sealKind) (sealOrder line p)
+    (pick (eqb (p .kind) verifyKind) (verifyOrder line p)
+    (pick (eqb (p .kind) chainKind) Chain Info))
 
 -- all that the words say
 unfoldable pub orderOf : List ℕ → Order
 orderOf line =
-    let all : ℕ = wordCount line in
-    let kind : ℕ = kindOf (wordAt 0 line) in
-    orderIf (wordRow kind all) (orderIf (pathRow (length (wordAt 1 line)) (length (wordAt 2 line))) (asked line kind all))
+    let p : Parts = partsOf line in
+    pick (asksHelp line (p .kind)) Help
+    (pick (eqb (p .kind) versionKind) Version
+    (orderIf (wordRow p) (orderIf (pathsRow (p .kind) (length (reportIn line)) (length (proofIn line))) (asked line p))))

@@ -10,7 +10,4 @@ slice-aggregate-command : tie.Need-slice-aggregate-command
 slice-aggregate-command c = sym (length-take-le _ _ (omega arith))
 
 pub run-spec : {M : Type 1} → statement M
-run-spec =
-    tie.close
-    (tie.spec
-    slice-aggregate-command (λ c κs. search needs) (λ c. search needs) (λ c. search needs))
+run-spec = tie.close (tie.spec (λ c. search needs) slice-aggregate-command (λ c κs. search needs) (λ c. search needs))

@@ -7,7 +7,7 @@ use Rattle.commands.proofs.arguments.run_arguments.Statement.{statement
 use Rattle.commands.proofs.arguments.run_arguments.Tie as tie
 
 abbrev Inv-loop : tie.InvT-loop
-Inv-loop out err line₀ count at₀ i₀ line at i = length line ≡ 32768
+Inv-loop out err line₀ count at₀ i₀ line at i = length line ≡ 40960
 
 abbrev μ-loop : tie.MeasureT-loop
 μ-loop out err line₀ count at₀ i₀ line at i = count - i

@@ -20,12 +20,12 @@ put-drawing-requires c κs =
     let empty-text = c .before .before in
     let draw = empty-text .before .before in
     let empty-list = draw .before .before in
-    let wanted-in = empty-list .before in
-    let a = wanted-in .before .before .args in
-    let w = wanted-in .wanted-in .result in
+    let found-in = empty-list .before in
+    let a = found-in .before .before .args in
+    let found = found-in .found-in .result in
     let d = draw .draw in (
-      chain-in (a .file .now) (a .statement) (w .depth) (w .count) _ (empty-list .empty-list .result) _ (places empty-list) (d .ensures .0)
-          (d .ensures .1 .0) (omega (arith, d .kept)),
+      chain-in (a .file .now) (a .statement) (found .depth) (found .count) _ (empty-list .empty-list .result) _ (places empty-list)
+          (d .ensures .0) (d .ensures .1 .0) (omega (arith, d .kept)),
       omega (arith, room empty-text),
     )
 
@@ -35,4 +35,4 @@ tell-chain-spec =
     (tie.spec
     (λ c κs. search needs) (λ c κs. search needs) (λ c. search needs) (λ c κs. search needs) (λ c κs. search needs)
     (λ c. search needs) (λ c. search needs) put-drawing-requires (λ c. search needs) (λ c κs. search needs)
-    (λ c. search needs))
+    (λ c κs. search needs) (λ c. search needs))

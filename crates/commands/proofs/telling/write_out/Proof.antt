@@ -14,4 +14,4 @@ write-out-spec =
     tie.close
     (tie.spec
     (λ c. search needs) slice-aggregate-say-text (λ c κs. search needs) (λ c. search needs) (λ c. search needs)
-    (λ c κs. search needs) (λ c. search needs) (λ c. search needs))
+    (λ c. search needs) (λ c κs. search needs) (λ c. search needs))

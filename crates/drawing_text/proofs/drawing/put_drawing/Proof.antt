@@ -2,6 +2,7 @@
 use mathlib.Core.Path.{sym, ap, _∙_}
 use lib.Seq.{length-take-le}
 use Rattle.draw.specs.Drawing.{drawnChain}
+use Rattle.drawing_text.proofs.HeadsLaws.{found-told}
 use Rattle.drawing_text.proofs.ChainLaws.{refused-wrote, chain-wrote, clash-wrote}
 use borrow.Author.Needs.{needs}
 use Rattle.drawing_text.proofs.drawing.put_drawing.Statement.{statement}
@@ -20,24 +21,29 @@ put-chain-requires c κs =
 
 returns : tie.Need-returns
 returns c =
-    refused-wrote _ _ _ _ _ _ _ _ _ _ _ _ (c .before .before .before .before .before .before .before .drawing .given .1)
-    (c .before .before .before .before .before .number .ensures) (c .before .before .before .before .refused .ensures)
-    (c .before .before .put-line .ensures)
+    let put-line = c .before .before in
+    let refused = put-line .before .before in
+    let found-in = refused .before .before in
+    let drawing = found-in .before .before in
+    let found = found-in .found-in .ensures in
+    refused-wrote _ _ _ _ _ _ _ _ _ _ _ _ _ _ _ _ (drawing .drawing .given .1) (refused .before .number .ensures)
+    (found-told _ _ _ (found .0) (found .1 .0) (found .1 .1)) (refused .refused .ensures) (put-line .put-line .ensures)
 
 returns-2 : tie.Need-returns-2
 returns-2 c =
-    chain-wrote _ _ _ _ _ _ _ _ _ (c .before .before .before .before .before .before .drawing2 .given .1)
+    chain-wrote _ _ _ _ _ _ _ _ _ _ _ _ (c .before .before .before .before .before .before .drawing2 .given .1)
     (c .before .before .put-chain .ensures)
 
 returns-3 : tie.Need-returns-3
 returns-3 c =
-    clash-wrote _ _ _ _ _ _ _ _ _ _ _ _ (c .before .before .before .before .before .before .before .before .drawing3 .given .1)
+    clash-wrote _ _ _ _ _ _ _ _ _ _ _ _ _ _ _ (c .before .before .before .before .before .before .before .before .drawing3 .given .1)
     (c .before .before .before .before .clash-lines .ensures) (c .before .before .put-line2 .ensures)
 
 pub put-drawing-spec : {M : Type 1} → statement M
 put-drawing-spec =
     tie.close
     (tie.spec
-    (λ c. search needs) (λ c κs. search needs) (λ c. search needs) (λ c κs. search needs) (λ c κs. search needs)
-    (λ c. search needs) slice-aggregate-put-chain put-chain-requires (λ c. search needs) (λ c κs. search needs)
-    (λ c κs. search needs) (λ c. search needs) returns (λ c. search needs) returns-2 (λ c. search needs) returns-3)
+    (λ c. search needs) (λ c κs. search needs) (λ c κs. search needs) (λ c. search needs) (λ c κs. search needs)
+    (λ c κs. search needs) (λ c. search needs) slice-aggregate-put-chain put-chain-requires (λ c. search needs)
+    (λ c κs. search needs) (λ c κs. search needs) (λ c. search needs) returns (λ c. search needs) returns-2
+    (λ c. search needs) returns-3)

@@ -1,5 +1,5 @@
 -- `drawing_text::sentences::sentence` meets its contract.
-use Rattle.drawing_text.proofs.TellingLaws.{one}
+use Rattle.drawing_text.proofs.TwoLines.{one}
 use borrow.Author.Needs.{needs}
 use Rattle.drawing_text.proofs.sentences.sentence.Statement.{statement}
 use Rattle.drawing_text.proofs.sentences.sentence.Tie as tie

@@ -5,7 +5,8 @@ use Rattle.drawing_text.proofs.telling.refused.Statement.{statement}
 use Rattle.drawing_text.proofs.telling.refused.Tie as tie
 
 returns : tie.Need-returns
-returns c = refusal-told _ _ _ (c .add-line .ensures) (c .before .before .plain .ensures) (c .before .rejected .ensures)
+returns c =
+    refusal-told _ _ _ _ _ _ (c .add-line .ensures) (c .before .before .why-refused .ensures) (c .before .rejected .ensures)
 
 pub refused-spec : {M : Type 1} → statement M
 refused-spec =

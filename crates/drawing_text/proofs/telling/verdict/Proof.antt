@@ -5,7 +5,7 @@ use Rattle.drawing_text.proofs.telling.verdict.Statement.{statement}
 use Rattle.drawing_text.proofs.telling.verdict.Tie as tie
 
 returns : tie.Need-returns
-returns c = verdict-told _ _ _ _ (c .add-line .ensures) (c .before .before .wanted .ensures) (c .before .judged .ensures)
+returns c = verdict-told _ _ _ _ _ (c .add-line .ensures) (c .before .before .wanted .ensures) (c .before .judged .ensures)
 
 pub verdict-spec : {M : Type 1} → statement M
 verdict-spec =

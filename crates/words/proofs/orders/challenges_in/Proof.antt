@@ -1,16 +1,20 @@
 -- `words::orders::challenges_in` meets its contract.
 use borrow.Author.Tests.{lt-ltb, le-ltb}
-use mathlib.Core.Path.{ap, _∙_}
-use Rattle.words.specs.Values.{valueOf}
+use Rattle.words.specs.Orders.{challengesIn}
 use borrow.Author.Needs.{needs}
 use Rattle.words.proofs.orders.challenges_in.Statement.{statement}
 use Rattle.words.proofs.orders.challenges_in.Tie as tie
 
 returns : tie.Need-returns
-returns c = rw (lt-ltb _ 5 (c .if1 .taken))
+unfolding challengesIn
+returns c = rw (lt-ltb _ 4 (c .if1 .taken))
 
 returns-2 : tie.Need-returns-2
-returns-2 c = rw (le-ltb _ 5 (c .before .before .if1 .left)) (c .value .ensures ∙ ap valueOf (c .before .word .ensures))
+unfolding challengesIn
+returns-2 c = rw (le-ltb _ 4 (c .before .before .if1 .left)) (c .number .ensures)
 
 pub challenges-in-spec : {M : Type 1} → statement M
-challenges-in-spec = tie.close (tie.spec returns (λ c κs. search needs) (λ c κs. search needs) returns-2)
+challenges-in-spec =
+    tie.close
+    (tie.spec
+    returns (λ c. search needs) (λ c κs. search needs) returns-2)

@@ -1,0 +1,3 @@
+pub mod OpeningsLaws
+pub mod ReadingLaws
+pub mod WritingLaws

@@ -1,0 +1,71 @@
+-- `commands::sealed::carry` meets its contract: a run that is not refused has the bounds that its counts ask for.
+use mathlib.Core.Path.{_≡_, sym}
+use Prim.Native.Nat.{_≤_}
+use native.Mathlib.Omega.{arith}
+use lib.ListN.{length}
+use lib.Seq.{length-take-le}
+use Rattle.run.proofs.RowLaws.{may-go-on, Possible}
+use Rattle.commands.proofs.SealLaws.{goes-inside}
+use borrow.Author.Needs.{needs}
+use Rattle.commands.proofs.sealed.carry.Statement.{statement}
+use Rattle.commands.proofs.sealed.carry.Tie as tie
+
+bounds : (c : tie.Start) → Possible (c .args .run .depth) (c .args .run .memory) (c .args .run .made)
+bounds c = may-go-on (c .args .run) _ (c .pre .0) .possible
+
+level : (c : tie.Start) → c .args .run .memory ≤ c .args .run .depth
+level c = goes-inside (c .args .run) _ (c .pre .0)
+
+file-size-requires : tie.Need-file-size-requires
+file-size-requires c κs = let start = c .before .before .before in (bounds start .depth, start .pre .1 .1)
+
+all-labels-requires : tie.Need-all-labels-requires
+all-labels-requires c κs =
+    let start = c .before .before .before .before .before .before .before .before .before in
+    (bounds start .depth, level start, start .pre .1 .1)
+
+all-labels-requires-2 : tie.Need-all-labels-requires-2
+all-labels-requires-2 c κs =
+    let start = c .before .before .before .before .before .before .before .before .before .before in
+    (bounds start .depth, level start, omega (arith, start .pre .1 .1, start .pre .2))
+
+nodes-requires : tie.Need-nodes-requires
+nodes-requires c κs = bounds (c .before .before .before .before .before .before .before .before .before .before .before) .depth
+
+sub-made : tie.Need-sub-made
+sub-made c =
+    let nodes = c .before in
+    let start = nodes .before .before .before .before .before .before .before .before .before .before .before .before in
+    omega (arith, bounds start .made-few, nodes .nodes .ensures)
+
+abbrev part-made : tie.After-seal-on → tie.After-take-part
+part-made c = c .before .before .before .before .before .before .before .before .before .before .before
+
+abbrev entry : tie.After-seal-on → tie.Start
+entry c = part-made c .before .before .before .before .before .before
+
+-- the file is as long as it was
+room : (c : tie.After-seal-on) → length (c .seal-on .last .1 .1 .1 .1 .0) ≡ length (entry c .args .file .now)
+room c = omega (arith, c .seal-on .kept, part-made c .take-part .kept)
+
+-- the proof fits it
+fits : (c : tie.After-seal-on) → part-made c .before .before .file-size .result ≤ length (c .seal-on .last .1 .1 .1 .1 .0)
+fits c = omega (arith, room c, entry c .pre .3, part-made c .before .before .file-size .ensures)
+
+slice-reshare-prefix-keep : tie.Need-slice-reshare-prefix-keep
+slice-reshare-prefix-keep c = fits (c .before .before .before .before .before .before)
+
+slice-aggregate-keep : tie.Need-slice-aggregate-keep
+slice-aggregate-keep c = sym (length-take-le _ _ (fits (c .before .before .before .before .before .before .before)))
+
+same-length-3 : tie.Need-same-length-3
+same-length-3 c = omega (arith, room (c .before .before .before .before .before .before .before .before))
+
+pub carry-spec : {M : Type 1} → statement M
+carry-spec =
+    tie.close
+    (tie.spec
+    file-size-requires (λ c κs. search needs) (λ c. search needs) (λ c. search needs) all-labels-requires
+    all-labels-requires-2 nodes-requires sub-made (λ c. search needs) (λ c κs. search needs) (λ c κs. search needs)
+    (λ c κs. search needs) slice-reshare-prefix-keep slice-aggregate-keep (λ c κs. search needs) (λ c. search needs)
+    same-length-3 (λ c. search needs))

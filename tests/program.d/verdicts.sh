@@ -1,0 +1,79 @@
+# What `verify`, `chain` and `info` say of proofs that are right, of other work, damaged, or none.
+accepted='^accepted depth 12 challenges 150 chain [0-9]+$'
+cp "$(unbroken 12)" q
+size=$(stat -c %s q)
+
+answers 0 "$accepted" verify report.txt q
+answers 0 "$accepted" verify report.txt q 12 150
+answers 0 "$accepted" verify report.txt q --at-least 12 150
+answers 0 "$accepted" verify --at-least 12 150 report.txt q
+answers 0 "$accepted" verify report.txt q --at-least 1 1
+answers 0 '^0 0$' chain report.txt q
+answers 0 . info q
+check "info tells the depth" has_line "$out" 'depth.* 12\b'
+check "info tells the challenges" has_line "$out" 'challenges.* 150\b'
+check "info tells the statement" has_line "$out" "$(sha256sum <report.txt | cut -d ' ' -f 1)"
+
+# The proofs that everything else here is compared with are those of the model in tests/model.
+if command -v python3 >/dev/null; then
+  model='import sys, mastdock as m; sys.stdout.buffer.write(m.Tree(m.sha(sys.stdin.buffer.read()), int(sys.argv[1])).file(150))'
+  for depth in 1 12 16 18; do
+    PYTHONPATH=$top/tests/model python3 -B -c "$model" "$depth" <report.txt >"$work/model"
+    check "depth $depth: the proof is the model's" cmp -s "$work/model" "$(unbroken "$depth")"
+  done
+else
+  echo "   no python3 here: proofs are not compared with the model's"
+fi
+
+# Report and proof from pipes.
+answers 0 "$accepted" verify - q <report.txt
+answers 0 '^0 0$' chain - q <report.txt
+answers 1 '^refused 9 0$' verify - q <other.txt
+answers 0 "$accepted" verify - q 12 150 < <(cat report.txt)
+answers 0 "$accepted" verify report.txt <(cat q) --at-least 12 150
+
+# Another report, or other work than is wanted: the line before the last names what differs, and not what does not.
+differs() { # NAMED UNNAMED WORDS...
+  local named=$1 unnamed=$2
+  shift 2
+  answers 1 '^refused 9 0$' verify "$@"
+  tail -n 2 "$out" | head -n 1 >"$work/line"
+  check "verify $*: names $named" has_line "$work/line" "$named"
+  check "verify $*: does not name $unnamed" is_same "$(grep -Ec -- "$unnamed" "$work/line")" 0
+}
+differs 'report' 'depth|challenges' other.txt q
+differs 'report' 'depth|challenges' other.txt q 12 150
+differs 'depth' 'report|challenges' report.txt q 13 150
+differs 'depth' 'report|challenges' report.txt q 11 150
+differs 'challenges' 'report|depth' report.txt q 12 149
+differs 'depth' 'report|challenges' report.txt q --at-least 13 150
+differs 'challenges' 'report|depth' report.txt q --at-least 12 151
+differs 'depth' 'report|challenges' report.txt q --at-least 40 1
+answers 1 '^refused 9 0$' chain other.txt q
+
+# Damaged proofs, and files that are none.
+refused() { # WHAT INFO_STATUS
+  answers 1 '^refused [0-9]+ [0-9]+$' verify report.txt bad
+  check "$1: verify says why" is_same "$(tail -n 2 "$out" | head -n 1 | grep -Ec '^(refused|depth|challenges) ')" 0
+  answers 1 '^refused [0-9]+ [0-9]+$' chain report.txt bad
+  run info bad
+  check "$1: status $2 of info" has_status "$2"
+}
+: >bad && refused "an empty file" 1
+cp report.txt bad && refused "a text" 1
+head -c $((size - 1)) q >bad && refused "a proof cut by a byte" 1
+{ cat q && echo; } >bad && refused "a proof with a byte more" 1
+change() { # FILE PLACE: one byte becomes another
+  local byte
+  byte=$(od -An -tu1 -j "$2" -N 1 "$1")
+  # shellcheck disable=SC2059
+  printf "\\$(printf %o $((byte ^ 1)))" | dd of="$1" bs=1 seek="$2" conv=notrunc status=none
+}
+for _ in 1 2 3 4 5 6 7 8 9 10; do
+  draw $((size - 4))
+  cp q bad && change bad $((drawn + 4)) && refused "byte $((drawn + 4)) changed" 0
+done
+head -c 300000 /dev/zero >bad
+refuses 2 'larger than any proof' verify report.txt bad
+refuses 2 'larger than any proof' info bad
+check "nothing was made" is_same "$(names)" './bad ./other.txt ./q ./report.txt '
