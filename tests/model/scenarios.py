@@ -66,8 +66,8 @@ def share(made, total):
 def other_order(run, t, statement, n, count, m):
     """What a checkpoint's order has that is not so ordered."""
     differ = ["of another report"] if run.statement != statement else []
-    pairs = ("depth", run.n, n), ("challenges", t, count), ("memory level", run.m, m)
-    return differ + [f"of {name} {found}, not {wanted}" for name, found, wanted in pairs if found != wanted]
+    pairs = ("of depth {}", run.n, n), ("with {} challenges", t, count), ("of memory level {}", run.m, m)
+    return differ + [f"{name.format(found)}, not {wanted}" for name, found, wanted in pairs if found != wanted]
 
 
 def place(run, done, t):
@@ -108,7 +108,7 @@ def taken_up(folder, proof, statement, n, t, m):
 def seal_text(folder, statement, proof, n, t, m):
     labels, anew = 2 ** (n + 1) - 1, t * md.nodes_anew(n, m)
     err = f"mastdock: memory level {m} makes {anew} labels anew for the openings, more than the {labels} of the tree\n" if anew > labels else ""
-    if folder.is_foreign(proof + ".new", md.MARK):
+    if set(folder.files.get(proof + ".lock", b"")) - set(b"\0 \n0123456789") or folder.is_foreign(proof + ".new", md.MARK):
         return "", err, UNTRIED
     lines, made, file = taken_up(folder, proof, statement, n, t, m)
     err += lines
@@ -118,7 +118,7 @@ def seal_text(folder, statement, proof, n, t, m):
         return "", err, UNTRIED
     err += share(made, labels + anew) + share(labels + anew, labels + anew)
     if md.check_code(file, statement, n, t):
-        return "", err, REFUSED
+        return "", err + f"mastdock: {proof}.run: its labels are not the report's; remove it to begin anew\n", REFUSED
     for ending in BESIDE[:4]:
         folder.files.pop(proof + ending, None)
     folder.files[proof] = file

@@ -22,9 +22,9 @@ fn sentence(text: &[u8]) -> Line {
 }
 
 // What a number of the checkpoint's order is, and what is ordered now.
-fn other(name: &[u8], is: u64, ordered: u64) -> Line {
-    let found = add_number(add(add(empty(), b"of "), name), is);
-    add_number(add(found, b", not "), ordered)
+fn other(before: &[u8], is: u64, after: &[u8], ordered: u64) -> Line {
+    let found = add_number(add(empty(), before), is);
+    add_number(add(found, after), ordered)
 }
 
 fn refuse(proof: &[u8], why: &[u8], err: i32) -> u8 {
@@ -33,11 +33,11 @@ fn refuse(proof: &[u8], why: &[u8], err: i32) -> u8 {
 }
 
 // Whether a number differs, and a line if so.
-fn differs(proof: &[u8], name: &[u8], is: u64, ordered: u64, err: i32) -> bool {
+fn differs(proof: &[u8], before: &[u8], is: u64, after: &[u8], ordered: u64, err: i32) -> bool {
     if is == ordered {
         return false;
     }
-    say_of_run(proof, other(name, is, ordered), err);
+    say_of_run(proof, other(before, is, after, ordered), err);
     true
 }
 
@@ -54,13 +54,35 @@ fn is_other(taken: TakenUp, statement: [u8; 32], ordered: Ordered, proof: &[u8],
         say_of_run(proof, sentence(b"of another report"), err);
         other = true;
     }
-    if differs(proof, b"depth ", run.depth, ordered.depth, err) {
+    if differs(
+        proof,
+        b"of depth ",
+        run.depth,
+        b", not ",
+        ordered.depth,
+        err,
+    ) {
         other = true;
     }
-    if differs(proof, b"challenges ", taken.count, ordered.count, err) {
+    let count = taken.count;
+    if differs(
+        proof,
+        b"with ",
+        count,
+        b" challenges, not ",
+        ordered.count,
+        err,
+    ) {
         other = true;
     }
-    if differs(proof, b"memory level ", run.memory, ordered.memory, err) {
+    if differs(
+        proof,
+        b"of memory level ",
+        run.memory,
+        b", not ",
+        ordered.memory,
+        err,
+    ) {
         other = true;
     }
     other

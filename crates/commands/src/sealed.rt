@@ -16,7 +16,10 @@ use file_head::write_head;
 use files::keep_proof;
 use files::make_part;
 use files::remove_run;
+use files::say_of_run;
+use lines::add;
 use lines::complain;
+use lines::empty;
 use lines::fact;
 use lines::fact_bytes;
 use lines::say;
@@ -89,11 +92,11 @@ fn keep(
 ) -> u8 {
     if !is_good(run, count, resumed, file) {
         libc::close(fd);
-        complain(
-            err,
-            proof,
-            b"the checkpoint is not of a run over this report; remove PROOF.run to begin anew",
+        let why = add(
+            empty(),
+            b"its labels are not the report's; remove it to begin anew",
         );
+        say_of_run(proof, why, err);
         return REFUSED;
     }
     if !keep_proof(fd, proof, file, err) {

@@ -6,6 +6,7 @@ use crate::part::empty_file;
 use descriptors::Process;
 use descriptors::are_same;
 use descriptors::behind;
+use descriptors::follows;
 use descriptors::number_at;
 use descriptors::process_at;
 use descriptors::read_whole;
@@ -49,8 +50,9 @@ fn works(process: Process) -> bool {
     are_same(there, process)
 }
 
+// The line feed before it ends a line that a power cut broke off.
 fn process_line(process: Process) -> Line {
-    let numbered = add_number(empty(), process.number);
+    let numbered = add_number(add(empty(), b"\n"), process.number);
     add(add_number(add(numbered, b" "), process.start), b"\n")
 }
 
@@ -94,7 +96,52 @@ fn reads_first(path: &[u8], own: Process) -> bool {
     is_first(&place[..size], own)
 }
 
-// Appends this process's line. The file is made where it is missing.
+// Whether a byte stands in a lock: a digit, a blank, a line feed, or a zero that a power cut left.
+fn is_of_lock(byte: u8) -> bool {
+    if byte == 0 {
+        return true;
+    }
+    if byte == 10 {
+        return true;
+    }
+    if byte == 32 {
+        return true;
+    }
+    if byte < 48 {
+        return false;
+    }
+    byte <= 57
+}
+
+fn are_of_lock(bytes: &[u8]) -> bool {
+    let mut i: usize = 0;
+    while i < bytes.len() {
+        if !is_of_lock(bytes[i]) {
+            return false;
+        }
+        i += 1;
+    }
+    true
+}
+
+// Whether no file is there, or a lock.
+fn is_lock(path: &[u8]) -> bool {
+    let fd = os::open_read(path);
+    if fd < 0 {
+        return true;
+    }
+    let mut place = empty_file();
+    let input = read_whole(fd, &mut place);
+    let more = follows(fd);
+    libc::close(fd);
+    if more != 0 {
+        return false;
+    }
+    let size = input.size;
+    are_of_lock(&place[..size])
+}
+
+// The file for this process's line. It is made where it is missing.
 fn open_lock(path: &[u8]) -> i32 {
     let made = os::create(path);
     if 0 <= made {
@@ -125,6 +172,14 @@ fn hold_at(path: &[u8], err: i32) -> Holding {
             err,
             b"/proc/self/stat",
             b"cannot be read: it tells whether another run works on this proof",
+        );
+        return Holding::Failed;
+    }
+    if !is_lock(path) {
+        complain(
+            err,
+            path,
+            b"there already, and no lock; it is left as it is",
         );
         return Holding::Failed;
     }

@@ -76,7 +76,7 @@ pub fn are_same(a: &[u8], b: &[u8]) -> bool
     base::same(a, b)
 }
 
-fn is_blank(bytes: &[u8]) -> bool
+pub fn is_blank(bytes: &[u8]) -> bool
     ensures { λ r. ⌜ r ≡ isBlank (now (bytes .entry)) ⌝ }
 {
     let mut i: usize = 0;
@@ -103,19 +103,22 @@ pub fn is_left_over(bytes: &[u8], head: &[u8]) -> bool
     are_same(&bytes[..size], head)
 }
 
-// How many bytes an open file has that a killed run left, at most so many; one more than that where it is none.
+// More bytes than any proof has.
+const NOT_LEFT: usize = MAX_FILE + 1;
+
+// How many bytes an open file has that a killed run left, at most so many; NOT_LEFT where it is none.
 fn left_size(fd: i32, head: &[u8], size: usize) -> usize {
     let mut place = empty_file();
     let input = read_whole(fd, &mut place);
     let found = input.size;
     if size < found {
-        return MAX_FILE;
+        return NOT_LEFT;
     }
     if follows(fd) != 0 {
-        return MAX_FILE;
+        return NOT_LEFT;
     }
     if !is_left_over(&place[..found], head) {
-        return MAX_FILE;
+        return NOT_LEFT;
     }
     found
 }
@@ -130,7 +133,7 @@ fn take_over(path: &[u8], head: &[u8], size: usize, err: i32) -> i32 {
     }
     let mut found = left_size(fd, head, size);
     if !descriptors::names(fd, path) {
-        found = MAX_FILE;
+        found = NOT_LEFT;
     }
     if size < found {
         complain(

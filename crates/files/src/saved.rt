@@ -2,9 +2,10 @@
 use crate::folder::sync_folder;
 use crate::names::named;
 use crate::names::remove;
+use crate::part::is_blank;
 use crate::part::is_left_over;
 use crate::part::look;
-use descriptors::follows;
+use descriptors::read_once;
 use descriptors::read_whole;
 use lines::Line;
 use lines::complain;
@@ -18,6 +19,34 @@ pub enum There {
     Unread,
 }
 
+// Whether the rest of an open file has no byte but zeros, in at most so many reads as any checkpoint takes.
+fn rest_is_blank(fd: i32) -> bool {
+    let mut turns: u64 = 1000000;
+    while 0 < turns {
+        let mut place = io::buffer();
+        let given = read_once(fd, &mut place);
+        let size = given.size;
+        if size == 0 {
+            return !given.failed;
+        }
+        if !is_blank(&place[..size]) {
+            return false;
+        }
+        turns -= 1;
+    }
+    false
+}
+
+fn is_open_ours(fd: i32, mark: &[u8]) -> bool {
+    let mut place = io::buffer();
+    let input = read_whole(fd, &mut place);
+    let size = input.size;
+    if is_blank(&place[..size]) {
+        return rest_is_blank(fd);
+    }
+    is_left_over(&place[..size], mark)
+}
+
 // Whether PROOF.new is free, or left by a killed run: blank, or with the mark of a checkpoint.
 fn is_new_ours(path: &[u8], mark: &[u8], err: i32) -> bool {
     if look(path) == 0 {
@@ -28,11 +57,9 @@ fn is_new_ours(path: &[u8], mark: &[u8], err: i32) -> bool {
         complain_of(err, path, os::errno());
         return false;
     }
-    let mut place = io::buffer();
-    let input = read_whole(fd, &mut place);
+    let ours = is_open_ours(fd, mark);
     libc::close(fd);
-    let size = input.size;
-    if is_left_over(&place[..size], mark) {
+    if ours {
         return true;
     }
     complain(
@@ -125,20 +152,15 @@ fn load_at(path: &[u8], place: &mut [u8], err: i32) -> There {
         return There::Unread;
     }
     let input = read_whole(fd, place);
-    let more = follows(fd);
     libc::close(fd);
     if input.failed {
         complain_of(err, path, os::errno());
         return There::Unread;
     }
-    if more != 0 {
-        complain(err, path, b"larger than any checkpoint");
-        return There::Unread;
-    }
     There::Bytes(input.size)
 }
 
-// Reads PROOF.run into a place that holds any checkpoint.
+// Reads PROOF.run into a place that holds any checkpoint. What stands behind so many bytes is none of it.
 pub fn load_run(proof: &[u8], place: &mut [u8], err: i32) -> There {
     let name = named(proof, b".run");
     let text = name.text;
