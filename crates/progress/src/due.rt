@@ -8,7 +8,15 @@ pub fn is_due(progress: Progress) -> bool {
     progress.every <= since(milliseconds(), progress.kept)
 }
 
-// Once all labels are made: after five seconds, or the interval if that is shorter.
+// When the last label is made: at once, if this run has worked for five seconds, or for the interval if that is shorter.
+pub fn is_due_after_labels(progress: Progress) -> bool {
+    if is_due(progress) {
+        return true;
+    }
+    5000 <= since(milliseconds(), progress.start)
+}
+
+// While openings are made and no checkpoint of the finished run is there: five seconds after the last try, or the interval.
 pub fn is_due_at_end(progress: Progress) -> bool {
     if is_due(progress) {
         return true;

@@ -5,6 +5,7 @@ mod telling; // telling.rt: what is told, and when
 
 pub use due::appended;
 pub use due::is_due;
+pub use due::is_due_after_labels;
 pub use due::is_due_at_end;
 pub use due::is_sync_due;
 pub use due::saved;

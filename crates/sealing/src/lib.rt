@@ -21,7 +21,7 @@ use progress::Progress;
 pub use resuming::TakenUp;
 pub use resuming::take_up;
 use run::Run;
-use saving::save_finished;
+use saving::save_after_labels;
 
 // How many labels are made between two looks at the clock.
 const PORTION: u64 = 16384;
@@ -53,7 +53,7 @@ pub fn seal_on(
     let root = label_at(&held, 0);
     let statement = run.statement;
     write_head(statement, root, run.depth, count, file);
-    let opening = save_finished(current, finished, count, done, store, file, proof);
+    let opening = save_after_labels(current, finished, count, done, store, file, proof);
     let ended = open_rest(finished, root, count, done, store, file, proof, opening);
     Made {
         root,

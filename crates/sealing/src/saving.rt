@@ -9,6 +9,7 @@ use file_head::file_size;
 use progress::Progress;
 use progress::appended;
 use progress::is_due;
+use progress::is_due_after_labels;
 use progress::is_due_at_end;
 use progress::is_sync_due;
 use progress::saved;
@@ -77,7 +78,8 @@ fn opening_start(depth: u64, count: u64, i: u64) -> usize {
 }
 
 // The checkpoint of the finished run with the first i openings, if it is due.
-pub fn save_finished(
+fn save_finished(
+    due: bool,
     progress: Progress,
     run: Run,
     count: u64,
@@ -88,7 +90,7 @@ pub fn save_finished(
 ) -> Progress
     requires { ⌜ run .made ≡ nodesIn (run .depth) ⌝ }
 {
-    if !is_due_at_end(progress) {
+    if !due {
         return progress;
     }
     let from = opening_end(run.depth, count, 0);
@@ -104,6 +106,22 @@ pub fn save_finished(
     saved(progress, good)
 }
 
+// All labels are made, and i openings.
+pub fn save_after_labels(
+    progress: Progress,
+    run: Run,
+    count: u64,
+    i: u64,
+    store: &[u8],
+    file: &[u8],
+    proof: &[u8],
+) -> Progress
+    requires { ⌜ run .made ≡ nodesIn (run .depth) ⌝ }
+{
+    let due = is_due_after_labels(progress);
+    save_finished(due, progress, run, count, i, store, file, proof)
+}
+
 // Opening i goes behind the checkpoint of the finished run; where that is not there yet it is written when it is due.
 pub fn save_opening(
     progress: Progress,
@@ -117,7 +135,8 @@ pub fn save_opening(
     requires { ⌜ run .made ≡ nodesIn (run .depth) ⌝ }
 {
     if !progress.ended {
-        return save_finished(progress, run, count, i, store, file, proof);
+        let due = is_due_at_end(progress);
+        return save_finished(due, progress, run, count, i, store, file, proof);
     }
     let from = opening_start(run.depth, count, i);
     let end = opening_end(run.depth, count, i);

@@ -28,8 +28,8 @@ labelled head = let label-at = head .before .before .before in label-at .before 
 abbrev start : tie.After-label-on → tie.Start
 start label-on = label-on .before .before .before .before .before
 
-save-finished-requires : tie.Need-save-finished-requires
-save-finished-requires c κs =
+save-after-labels-requires : tie.Need-save-after-labels-requires
+save-after-labels-requires c κs =
     let label-on = labelled (c .before .before .before .before) in
     let a = start label-on in
     end-made (a .args .run) (a .args .store .now) (a .pre .0) _ _ (label-on .label-on .ensures .0) (label-on .label-on .ensures .1)
@@ -70,5 +70,5 @@ pub seal-on-spec : {M : Type 1} → statement M
 seal-on-spec =
     tie.close
     (tie.spec
-    (λ c κs. search needs) slice-aggregate-label-at label-at-requires (λ c κs. search needs) save-finished-requires open-rest-requires same-length
+    (λ c κs. search needs) slice-aggregate-label-at label-at-requires (λ c κs. search needs) save-after-labels-requires open-rest-requires same-length
     same-length-2 returns)
