@@ -300,7 +300,7 @@ over taken more =
     }
 
 -- what stands beside the one refusal
-beside-refused {ℓ} : {A : Type ℓ} (t : Bool) (number : ℕ) (x y : A) → 1 ≤ pick t number 0 → pick t x y ≡ x
+pub beside-refused {ℓ} : {A : Type ℓ} (t : Bool) (number : ℕ) (x y : A) → 1 ≤ pick t number 0 → pick t x y ≡ x
 beside-refused true number x y some = refl
 beside-refused false number x y some = absurd (omega arith)
 

@@ -38,7 +38,7 @@ use Rattle.demands.proofs.Carrying.{startable, run-started}
 use Rattle.demands.proofs.MemoryLimit.{level-refused}
 
 -- ---- possible runs, and runs whose unused places are zero
-has-arrays : (run : Run) → length (run .statement) ≡ 32 → length (run .held) ≡ 1312 → HasArrays run
+pub has-arrays : (run : Run) → length (run .statement) ≡ 32 → length (run .held) ≡ 1312 → HasArrays run
 has-arrays run statement places = record { statementSize = omega (arith, statement); placesSize = omega (arith, places) }
 
 unused-tidy : (run : Run) → UnusedZero run → tidied run ≡ run

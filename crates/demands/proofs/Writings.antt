@@ -14,6 +14,7 @@ use Rattle.base.specs.Bytes.{zeros, written}
 use Rattle.base.proofs.ChoiceLaws.{both-false}
 use Rattle.base.proofs.Copying.{length-written}
 use Rattle.machine.specs.Machines as machines
+use Rattle.machine.specs.Machines.{Goes}
 use Rattle.base.proofs.ChoiceLaws.{lt-or-le}
 use Rattle.tree.specs.Openings.{openingSize}
 use Rattle.opening.specs.declared.Opening.{Opening}
@@ -256,10 +257,14 @@ module _
       (behind-place t (r .number) (r .made) (nodesAnew n m) (r .few) (omega (arith, r .under, r .few))
       ∙ ap (λ (j : ℕ). t * nodesAnew n m - j) (r .sum))
 
+  pub file-goes : Goes (writingMachine store) start (t * nodesAnew n m)
+  unfolding writingMachine
+  file-goes = record { done = goes-on; left = left-at }
+
   pub writing-ends : WritingEnds statement root n m t store file
   unfolding writingMachine
   writing-ends =
       record {
         starts = write-done n m t (length store) (length file) writable;
-        ends = carried-out (writingMachine store) start (t * nodesAnew n m) (record { done = goes-on; left = left-at });
+        ends = carried-out (writingMachine store) start (t * nodesAnew n m) file-goes;
       }

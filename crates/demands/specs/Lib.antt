@@ -5,3 +5,4 @@ pub mod Demand3
 pub mod EmptyPlan
 pub mod MemoryLimit
 pub mod Pausing
+pub mod Blocks

@@ -38,13 +38,16 @@ module _ (height level position made l p : ℕ) (few : made < nodesIn height) (i
   pub next-level : (level ≤ l) × (l ≤ level + height)
   next-level = let s : Inside height (node level position) (node l p) = next-inside in omega (arith, inside-level s)
 
-  -- Its position's one-bits are the subtree's and those of its place in the subtree.
-  pub next-ones : ones p ≡ ones position + ones (p % 2 ^ (l - level))
-  next-ones =
+  -- its way passes the subtree's node
+  pub next-way : p / 2 ^ (l - level) ≡ position
+  next-way =
       let s : Inside height (node level position) (node l p) = next-inside in
       let e : s .depth ≡ l - level = omega (arith, inside-level s) in
-      let up : p / 2 ^ (l - level) ≡ position = rw e at (inside-way s) in
-      rw up at (ones-split p (l - level))
+      rw e at (inside-way s)
+
+  -- Its position's one-bits are the subtree's and those of its place in the subtree.
+  pub next-ones : ones p ≡ ones position + ones (p % 2 ^ (l - level))
+  next-ones = rw next-way at (ones-split p (l - level))
 
   pub next-few : position < 2 ^ level → ones p ≤ l
   next-few inside = omega (arith, next-ones, next-level, ones-le level position inside, place-le (l - level) p)

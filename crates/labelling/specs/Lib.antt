@@ -1,3 +1,4 @@
 pub mod Step
 pub mod Rule
 pub mod Buffer
+pub mod Blocks

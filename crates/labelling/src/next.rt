@@ -11,22 +11,26 @@ ghost use Rattle.tree.specs.Walk.{nodesIn};
 ghost use Rattle.tree.specs.Labels.{labelBy, inLabels};
 ghost use Rattle.labelling.specs.Rule.{stampRule};
 ghost use Rattle.labelling.specs.Step.{nextNode, nextLabel, heldWith};
+ghost use Rattle.labelling.specs.Blocks.{nextBlocks, mostBlocks};
 use crate::rule::label;
+use crate::rule::label_blocks;
 use crate::walk::Place;
 use crate::walk::next_node;
 use base::put;
 
-// A node with its label.
+// A node with its label, and the blocks that were compressed for it.
 pub struct Labelled {
     pub level: u64,
     pub position: u64,
     pub label: [u8; 32],
+    pub blocks: u64,
 }
 
-// The place of a node's label among the held ones, this many levels below the subtree's own node.
+// The place of a node's label among the held ones, this many levels below the subtree's own node. A leaf's in the whole tree is the number
+// of its parents.
 fn place(below: u64, position: u64) -> usize
     requires { ⌜ below ≤ maxDepth ⌝ }
-    ensures { λ r. ⌜ r ≡ ones (position % 2 ^ below) ⌝ }
+    ensures { λ r. ⌜ (r ≡ ones (position % 2 ^ below)) × (r ≤ below) ⌝ }
 {
     let mask = (1u64 << below) - 1;
     u64::count_ones(position & mask) as usize
@@ -111,15 +115,19 @@ pub fn label_next(
     ensures { λ r. ⌜ node (r .level) (r .position) ≡ nextNode height (node level position) made ⌝ }
     ensures { λ r. ⌜ r .label ≡ nextLabel edition statement height (node level position) (now (front .entry)) (now (held .entry)) made ⌝ }
     ensures { λ r. ⌜ now (held .exit) ≡ heldWith height (node level position) (now (held .entry)) (node (r .level) (r .position)) (r .label) ⌝ }
+    ensures { λ r. ⌜ (r .blocks ≡ nextBlocks edition statement height (node level position) (now (front .entry)) (now (held .entry)) made)
+        × (r .blocks ≤ mostBlocks) ⌝ }
 {
     let w = next_node(height, level, position, made);
     let depth = level + height;
     if w.level == depth {
         let label = label_leaf(edition, depth, statement, w, front, held);
+        let parents = place(depth, w.position);
         Labelled {
             level: w.level,
             position: w.position,
             label,
+            blocks: label_blocks(parents),
         }
     } else {
         let at = 32 * place(w.level - level, w.position);
@@ -128,6 +136,7 @@ pub fn label_next(
             level: w.level,
             position: w.position,
             label,
+            blocks: label_blocks(2),
         }
     }
 }

@@ -4,12 +4,14 @@ ghost use mathlib.Core.List.{_++_};
 ghost use Prim.Native.Nat.{_+_, _-_, _*_, _%_, _≤_};
 ghost use lib.ListN.{length, take};
 ghost use Rattle.base.specs.Limits.{maxDepth, maxLabelInput};
+ghost use Rattle.sha256.specs.Padding.{blocksOf};
 ghost use Rattle.sha256.specs.Digest.{digest};
 ghost use Rattle.tree.specs.Nodes.{node};
 ghost use Rattle.tree.specs.Labels.{labelBy, tag, documentInput, inLabels};
 ghost use Rattle.base.specs.Bytes.{zeros};
 ghost use Rattle.labelling.specs.Rule.{stampRule};
 ghost use Rattle.labelling.specs.Buffer.{inputSpace, paddedIn};
+ghost use Rattle.labelling.specs.Blocks.{mostBlocks};
 use base::HELD_SIZE;
 use base::big_endian;
 use base::put;
@@ -31,6 +33,14 @@ fn hash_front(input: &mut [u8], len: usize) -> [u8; 32]
     put(input, len, &[128]);
     put(input, end - 8, &count);
     digest_padded(&input[..end])
+}
+
+// The blocks that `label` compresses for a node with so many parents.
+pub fn label_blocks(parents: usize) -> u64
+    requires { ⌜ parents ≤ maxDepth ⌝ }
+    ensures { λ r. ⌜ (r ≡ blocksOf (41 + 32 * parents)) × (r ≤ mostBlocks) ⌝ }
+{
+    block_count(41 + 32 * parents) as u64
 }
 
 // The byte after the statement, by the edition and the depth.

@@ -44,6 +44,12 @@ module _ {S : Type 0} (machine : Machine S) where
     unfolding costOf
     cost-last k s = rw (add-one k)
 
+    -- the same of a loop that adds up what each step costs
+    pub cost-more :
+        (k : ℕ) (s t : S) (spent more : ℕ) → steps machine k s ≡ t → spent ≡ costOf machine cost k s → more ≡ cost t
+        → spent + more ≡ costOf machine cost (k + 1) s
+    cost-more k s t spent more at e f = omega (arith, cost-last k s, e, f, ap cost at)
+
     pub cost-add :
         (j k : ℕ) (s : S) → costOf machine cost k s + costOf machine cost j (steps machine k s) ≡ costOf machine cost (k + j) s
     unfolding costOf
@@ -100,3 +106,7 @@ module _ {S : Type 0} (machine : Machine S) where
     pub advanced-by : (k : ℕ) → k ≡ doneIn machine s budget → steps machine k s ≡ advanced machine s budget
     unfolding advanced
     advanced-by k e = rw e
+
+    pub cost-by : (cost : S → ℕ) (k spent : ℕ) → k ≡ doneIn machine s budget → spent ≡ costOf machine cost k s → spent ≡ costIn machine cost s budget
+    unfolding costIn
+    cost-by cost k spent e f = rw (← e) f

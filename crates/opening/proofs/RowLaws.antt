@@ -5,7 +5,7 @@ use mathlib.Core.List.{List}
 use Prim.Native.Nat.{ℕ, _-_, _^_, _≤_, min}
 use native.Mathlib.Omega.{arith}
 use borrow.Author.Tests.{ltb-false, leb-false}
-use lib.Dec.{leb}
+use lib.Dec.{ltb, leb, lit≤}
 use lib.ListN.{length}
 use Rattle.base.specs.Limits.{maxDepth}
 use Rattle.base.specs.Row.{outside, either, isDone, memoryOver}
@@ -16,13 +16,14 @@ use Rattle.tree.specs.Store.{storeSize}
 use Rattle.tree.specs.Openings.{openingSize}
 use Rattle.run.specs.Rows.{impossible}
 use Rattle.run.proofs.RowLaws.{not-impossible}
+use Rattle.base.proofs.RowLaws.{passed}
 use Rattle.base.proofs.Ranges.{depth-some, depth-inside, memory-below, memory-inside, neither}
 use Rattle.opening.specs.declared.Opening.{Opening}
 use Rattle.opening.specs.Rows.{nodesAnew, openRow, reopenRow}
 use Rattle.opening_places.specs.Possible.{Possible}
 use Rattle.opening.specs.Names.{openOf}
 use Rattle.opening_places.specs.Places.{copiedAll}
-use Rattle.opening.specs.Steps.{newOpening, noOpening, started, startedOut, openingMachine, steps, labelsIn, advanced}
+use Rattle.opening.specs.Steps.{newOpening, noOpening, started, startedOut, openingMachine, steps, labelsIn, stepBlocks, blocksOver, blocksIn, advanced}
 
 -- the number of nodes, as it is computed
 pub anew-nodes : (n m : ℕ) → nodesIn (n - m) - 1 ≡ nodesAnew n m
@@ -55,6 +56,19 @@ can-be n m made leaf e =
     let (d, o, k) = not-impossible n m made (nodesAnew n m) i in
     (possible n m leaf d o l, ltb-false (nodesAnew n m) made k)
 
+-- what a row of 0 tells
+pub continue-ready : (o : Opening) (store out : ℕ) → reopenRow o store out ≡ 0
+    → Ready (o .depth) (o .memory) (o .leaf) store out × (o .made ≤ nodesAnew (o .depth) (o .memory))
+unfolding reopenRow
+continue-ready o store out e =
+    let n = o .depth in
+    let m = o .memory in
+    let (i, e₁) = passed (either (impossible n m (o .made) (nodesAnew n m)) (leb (2 ^ n) (o .leaf))) 4 _ (lit≤ tt) e in
+    let (s, e₂) = passed (ltb store (storeSize m)) 3 _ (lit≤ tt) e₁ in
+    let (p, e₃) = passed (ltb out (openingSize n)) 7 0 (lit≤ tt) e₂ in
+    let (q, k) = can-be n m (o .made) (o .leaf) i in
+    (record { possible = q; room = ltb-false store (storeSize m) s; outRoom = ltb-false out (openingSize n) p }, k)
+
 module _ (statement : List ℕ) (n m leaf : ℕ) (store out : List ℕ) where
   pub start-done : openRow n m leaf (length store) (length out) ≡ 0
       → (newOpening statement n m leaf ≡ started statement n m leaf (length store) (length out))
@@ -84,6 +98,13 @@ module _ (o : Opening) (store out : List ℕ) (budget : ℕ) where
       let f : steps store k (openOf o out) ≡ advanced store (openOf o out) budget =
       machines.advanced-by (openingMachine store) (openOf o out) budget k e in
       (rw (← f) a, rw (← f) b)
+
+  pub blocks-by : (k blocks : ℕ) → k ≡ labelsIn store (openOf o out) budget → blocks ≡ blocksOver store k (openOf o out)
+      → blocks ≡ blocksIn store (openOf o out) budget
+  blocks-by = machines.cost-by (openingMachine store) (openOf o out) budget (stepBlocks store)
+
+  pub no-blocks : 0 ≡ labelsIn store (openOf o out) budget → 0 ≡ blocksIn store (openOf o out) budget
+  no-blocks e = sym (machines.costs-nothing (openingMachine store) (openOf o out) budget (stepBlocks store) (sym e))
 
   pub unchanged : 0 ≡ labelsIn store (openOf o out) budget
       → (o ≡ advanced store (openOf o out) budget .opening) × (out ≡ advanced store (openOf o out) budget .out)

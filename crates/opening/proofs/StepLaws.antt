@@ -1,5 +1,5 @@
 -- The next node below the leaf's ancestor on level m, and one step more.
-use mathlib.Core.Path.{_≡_, ap₂, _∙_}
+use mathlib.Core.Path.{_≡_, ap, ap₂, _∙_}
 use mathlib.Core.List.{List}
 use Prim.Native.Nat.{ℕ, zero, suc, _+_, _-_, _^_, _≤_, _<_}
 use native.Mathlib.Nat.{add-zero}
@@ -12,9 +12,9 @@ use Rattle.tree.specs.Walk.{nodesIn}
 use Rattle.tree.proofs.Order.{Place, placeOf, place-top, order-placed}
 use Rattle.labelling.specs.Step.{nextNode, heldWith}
 use Rattle.opening.specs.Rows.{nodesAnew}
-use Rattle.opening.specs.Names.{openingOf, openOf, nextAnew, labelAnew}
+use Rattle.opening.specs.Names.{openingOf, openOf, nextAnew, labelAnew, blocksAnew}
 use Rattle.opening_places.specs.Places.{ancestor, placed, front}
-use Rattle.opening.specs.Steps.{Open, stepped, openingMachine, steps}
+use Rattle.opening.specs.Steps.{Open, stepped, openingMachine, steps, anewBlocks, stepBlocks}
 
 -- the ancestor's own label is not made anew
 pub anew-few : (n m k : ℕ) → k < nodesAnew n m → k + 1 < nodesIn (n - m)
@@ -63,3 +63,8 @@ module _ (store : List ℕ) (s : Open) (i : ℕ) (statement : List ℕ) (n m lea
   steps-more held′ out′ e f =
       let a : made + (i + 1) ≡ made + i + 1 = omega arith in
       rw (a, step-last (openingMachine store) i s, before, e, f, read)
+
+  pub step-blocks : (blocks : ℕ) → blocks ≡ blocksAnew statement n m leaf aboves held (made + i)
+      → blocks ≡ stepBlocks store (openOf (openingOf statement n m leaf (made + i) held) out)
+  unfolding anewBlocks
+  step-blocks blocks e = e ∙ ap (λ (x : List ℕ). blocksAnew statement n m leaf x held (made + i)) read

@@ -12,6 +12,7 @@ use Rattle.machine.specs.Machines.{Machine}
 use Rattle.tree.specs.Nodes.{Node}
 use Rattle.tree.specs.Labels.{Label}
 use Rattle.labelling.specs.Step.{nextNode, nextLabel, heldWith}
+use Rattle.labelling.specs.Blocks.{nextBlocks}
 use Rattle.opening_places.specs.Places.{ancestor, placed, copiedAll, front}
 use Rattle.opening.specs.declared.Opening.{Opening}
 use Rattle.opening.specs.Rows.{nodesAnew, openRow, reopenRow}
@@ -72,6 +73,21 @@ steps store k s = machines.steps (openingMachine store) k s
 -- the smaller of the budget and what remains; a refused call labels none
 abbrev pub labelsIn : List ℕ → Open → ℕ → ℕ
 labelsIn store s budget = machines.doneIn (openingMachine store) s budget
+
+-- W-207: the blocks of the next label made anew, and those of the labels that a call makes
+unfoldable pub anewBlocks : List ℕ → Opening → ℕ
+anewBlocks store o =
+    nextBlocks edition (o .statement) (o .depth - o .memory) (ancestor (o .depth) (o .leaf) (o .memory))
+    (front (o .depth) (o .memory) (o .leaf) store) (o .held) (o .made)
+
+abbrev pub stepBlocks : List ℕ → Open → ℕ
+stepBlocks store s = anewBlocks store (s .opening)
+
+abbrev pub blocksOver : List ℕ → ℕ → Open → ℕ
+blocksOver store k s = machines.costOf (openingMachine store) (stepBlocks store) k s
+
+abbrev pub blocksIn : List ℕ → Open → ℕ → ℕ
+blocksIn store s budget = machines.costIn (openingMachine store) (stepBlocks store) s budget
 
 -- the opening and its output after a call
 abbrev pub advanced : List ℕ → Open → ℕ → Open

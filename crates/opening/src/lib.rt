@@ -3,11 +3,13 @@ mod checks; // checks.rt: what may be started and continued
 mod labels; // labels.rt: one step, and several
 
 ghost use mathlib.Core.Path.{_≡_};
+ghost use Prim.Native.Nat.{_*_, _≤_};
 ghost use lib.ListN.{length};
 ghost use Rattle.base.specs.Number.{outcomeNumber};
+ghost use Rattle.labelling.specs.Blocks.{mostBlocks};
 ghost use Rattle.opening.specs.Rows.{openRow, reopenRow};
 ghost use Rattle.opening.specs.Names.{openOf};
-ghost use Rattle.opening.specs.Steps.{newOpening, started, startedOut, labelsIn, advanced};
+ghost use Rattle.opening.specs.Steps.{newOpening, started, startedOut, labelsIn, blocksIn, advanced};
 use base::HELD_SIZE;
 use base::Outcome;
 use base::smaller;
@@ -35,10 +37,11 @@ pub struct Started {
     pub opening: Opening,
 }
 
-// What a call did: its outcome, the labels it made, and the opening as it now is.
+// What a call did: its outcome, the labels it made, the 64-byte blocks compressed for them, and the opening as it now is.
 pub struct Advanced {
     pub outcome: Outcome,
     pub labels: u64,
+    pub blocks: u64,
     pub opening: Opening,
 }
 
@@ -88,6 +91,7 @@ impl Opening {
     pub fn advance(self, budget: u64, store: &[u8], out: &mut [u8]) -> Advanced
         ensures { λ r. ⌜ outcomeNumber (r .outcome) ≡ reopenRow self (length (now (store .entry))) (length (now (out .entry))) ⌝ }
         ensures { λ r. ⌜ r .labels ≡ labelsIn (now (store .entry)) (openOf self (now (out .entry))) budget ⌝ }
+        ensures { λ r. ⌜ (r .blocks ≡ blocksIn (now (store .entry)) (openOf self (now (out .entry))) budget) × (r .blocks ≤ mostBlocks * r .labels) ⌝ }
         ensures { λ r. ⌜ r .opening ≡ advanced (now (store .entry)) (openOf self (now (out .entry))) budget .opening ⌝ }
         ensures { λ r. ⌜ now (out .exit) ≡ advanced (now (store .entry)) (openOf self (now (out .entry))) budget .out ⌝ }
     {
@@ -96,16 +100,19 @@ impl Opening {
             Outcome::Done => {
                 let left = nodes_anew(self.depth, self.memory) - self.made;
                 let labels = smaller(budget, left);
-                let opening = label_many(self, labels, store, out);
+                let moved = label_many(self, labels, store, out);
+                let opening = moved.opening;
                 Advanced {
                     outcome,
                     labels,
+                    blocks: moved.blocks,
                     opening,
                 }
             }
             Outcome::Refused(_) => Advanced {
                 outcome,
                 labels: 0,
+                blocks: 0,
                 opening: self,
             },
         }

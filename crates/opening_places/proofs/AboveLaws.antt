@@ -2,7 +2,7 @@
 use mathlib.Core.Path.{_≡_, refl, ap, _∙_}
 use mathlib.Core.Bool.{Bool, true, false}
 use mathlib.Core.List.{List, [], _∷_, _++_, map, append-nil, map-append}
-use Prim.Native.Nat.{ℕ, suc, _+_, _-_, _*_, _/_, _%_, _^_, _≤_, _<_}
+use Prim.Native.Nat.{ℕ, zero, suc, _+_, _-_, _*_, _/_, _%_, _^_, _≤_, _<_}
 use native.Mathlib.Nat.{add-zero, div-eq-of-lt}
 use native.Mathlib.Numerals.{add-one}
 use native.Mathlib.Omega.{arith}
@@ -15,8 +15,9 @@ use Rattle.base.proofs.BytesLaws.{joined-append}
 use Rattle.base.proofs.ChoiceLaws.{is-odd, is-even, odd-true, odd-false}
 use Rattle.base.proofs.Zeros.{filled-more}
 use Rattle.tree.specs.Nodes.{node, leftSiblings}
-use Rattle.tree.specs.Store.{slot}
+use Rattle.tree.specs.Store.{slot, storeSize}
 use Rattle.tree.proofs.InputLengths.{ones-zero}
+use Rattle.tree.proofs.Slots.{slot-inside}
 use Rattle.tree.proofs.OpeningLaws.{halved}
 use Rattle.opening_places.specs.Places.{labelIn, front}
 use Rattle.opening_places.specs.Possible.{leftLabel, frontSize}
@@ -83,6 +84,23 @@ above-more n leaf l store len len′ bytes bytes′ level room fits so e f =
       whole = rw (front-more n leaf l store level) (length-append (front n l leaf store) (leftLabel store (l + 1) p) ∙ omega (arith, so .whole));
       counted = omega (arith, ones-more n leaf l level, so .counted);
     }
+
+-- the length of the labels of levels 1 to l, whatever the store holds
+pub front-length : (n leaf m : ℕ) (store : List ℕ) → m ≤ n → leaf < 2 ^ n → storeSize m ≤ length store
+    → (l : ℕ) → l ≤ m → length (front n l leaf store) ≡ 32 * ones (leaf / 2 ^ (n - l))
+front-length n leaf m store le inside enough zero low = let none = above-none n leaf store inside in none .whole ∙ none .counted
+front-length n leaf m store le inside enough (suc l) low =
+    let p : ℕ = leaf / 2 ^ (n - (l + 1)) in
+    let inTree : p < 2 ^ (l + 1) = way-inside n leaf (l + 1) (omega arith) inside in
+    let fits : slot (node (l + 1) p) ≤ length store = omega (arith, slot-inside m (node (l + 1) p) (omega arith, inTree)) in
+    rw (← add-one l, front-more n leaf l store (omega arith))
+    (length-append (front n l leaf store) (leftLabel store (l + 1) p)
+    ∙ omega (
+      arith,
+      left-size store (l + 1) p (odd p) refl fits,
+      ones-more n leaf l (omega arith),
+      front-length n leaf m store le inside enough l (omega arith),
+    ))
 
 -- they fit, and are the first of the bytes
 pub above-few : (n leaf m len : ℕ) → m ≤ n → leaf < 2 ^ n → len ≡ 32 * ones (leaf / 2 ^ (n - m)) → len ≤ 32 * m

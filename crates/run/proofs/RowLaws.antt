@@ -20,7 +20,7 @@ use Rattle.tree.specs.Walk.{nodesIn}
 use Rattle.tree.specs.Store.{storeSize}
 use Rattle.run.specs.declared.Run.{Run}
 use Rattle.run.specs.Rows.{startChecks, impossible, startRow, continueRow}
-use Rattle.run.specs.Steps.{newRun, noRun, started, stamped, steps, labelsIn, advanced, runMachine}
+use Rattle.run.specs.Steps.{newRun, noRun, started, stamped, steps, labelsIn, stepBlocks, blocksOver, blocksIn, advanced, runMachine}
 
 module _ (n m store : ℕ) where
   pub start-depth : startRow n m store ≡ 0 → IsDepth n
@@ -95,6 +95,13 @@ module _ (run : Run) (store : List ℕ) (budget : ℕ) where
   advanced-by k run' store' e a b =
       let f : steps k (stamped run store) ≡ advanced (stamped run store) budget = machines.advanced-by runMachine (stamped run store) budget k e in
       (rw (← f) a, rw (← f) b)
+
+  pub blocks-by : (k blocks : ℕ) → k ≡ labelsIn (stamped run store) budget → blocks ≡ blocksOver k (stamped run store)
+      → blocks ≡ blocksIn (stamped run store) budget
+  blocks-by = machines.cost-by runMachine (stamped run store) budget stepBlocks
+
+  pub no-blocks : 0 ≡ labelsIn (stamped run store) budget → 0 ≡ blocksIn (stamped run store) budget
+  no-blocks e = sym (machines.costs-nothing runMachine (stamped run store) budget stepBlocks (sym e))
 
   pub unchanged : 0 ≡ labelsIn (stamped run store) budget
       → (run ≡ advanced (stamped run store) budget .run) × (store ≡ advanced (stamped run store) budget .store)

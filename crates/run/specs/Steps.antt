@@ -14,6 +14,7 @@ use Rattle.tree.specs.Walk.{nodesIn}
 use Rattle.tree.specs.Labels.{Label}
 use Rattle.tree.specs.Store.{slot}
 use Rattle.labelling.specs.Step.{nextNode, nextLabel, heldWith}
+use Rattle.labelling.specs.Blocks.{nextBlocks}
 use Rattle.run.specs.declared.Run.{Run}
 use Rattle.run.specs.Rows.{startRow, continueRow}
 
@@ -77,6 +78,16 @@ steps k s = machines.steps runMachine k s
 -- 'A call with a budget labels exactly the smaller of the budget and what remains'; a refused one labels none.
 abbrev pub labelsIn : Stamped → ℕ → ℕ
 labelsIn s budget = machines.doneIn runMachine s budget
+
+-- W-207: the blocks of the next label, and 'the sum over exactly the labels they made in that call'
+unfoldable pub stepBlocks : Stamped → ℕ
+stepBlocks s = let r : Run = s .run in nextBlocks edition (r .statement) (r .depth) root [] (r .held) (r .made)
+
+abbrev pub blocksOver : ℕ → Stamped → ℕ
+blocksOver k s = machines.costOf runMachine stepBlocks k s
+
+abbrev pub blocksIn : Stamped → ℕ → ℕ
+blocksIn s budget = machines.costIn runMachine stepBlocks s budget
 
 -- the run and its store after a call
 abbrev pub advanced : Stamped → ℕ → Stamped

@@ -3,10 +3,12 @@ mod checks; // checks.rt: what may be started and continued
 mod labels; // labels.rt: one step, and several
 
 ghost use mathlib.Core.Path.{_≡_};
+ghost use Prim.Native.Nat.{_*_, _≤_};
 ghost use lib.ListN.{length};
 ghost use Rattle.base.specs.Number.{outcomeNumber};
+ghost use Rattle.labelling.specs.Blocks.{mostBlocks};
 ghost use Rattle.run.specs.Rows.{startRow, continueRow};
-ghost use Rattle.run.specs.Steps.{newRun, started, stamped, labelsIn, advanced};
+ghost use Rattle.run.specs.Steps.{newRun, started, stamped, labelsIn, blocksIn, advanced};
 use base::HELD_SIZE;
 use base::Outcome;
 use base::smaller;
@@ -33,10 +35,11 @@ pub struct Started {
     pub run: Run,
 }
 
-// What a call did: its outcome, the labels it made, and the run as it now is.
+// What a call did: its outcome, the labels it made, the 64-byte blocks compressed for them, and the run as it now is.
 pub struct Advanced {
     pub outcome: Outcome,
     pub labels: u64,
+    pub blocks: u64,
     pub run: Run,
 }
 
@@ -77,6 +80,7 @@ impl Run {
     pub fn advance(self, budget: u64, store: &mut [u8]) -> Advanced
         ensures { λ r. ⌜ outcomeNumber (r .outcome) ≡ continueRow self (length (now (store .entry))) ⌝ }
         ensures { λ r. ⌜ r .labels ≡ labelsIn (stamped self (now (store .entry))) budget ⌝ }
+        ensures { λ r. ⌜ (r .blocks ≡ blocksIn (stamped self (now (store .entry))) budget) × (r .blocks ≤ mostBlocks * r .labels) ⌝ }
         ensures { λ r. ⌜ r .run ≡ advanced (stamped self (now (store .entry))) budget .run ⌝ }
         ensures { λ r. ⌜ now (store .exit) ≡ advanced (stamped self (now (store .entry))) budget .store ⌝ }
     {
@@ -85,16 +89,19 @@ impl Run {
             Outcome::Done => {
                 let left = nodes(self.depth) - self.made;
                 let labels = smaller(budget, left);
-                let run = label_many(self, labels, store);
+                let moved = label_many(self, labels, store);
+                let run = moved.run;
                 Advanced {
                     outcome,
                     labels,
+                    blocks: moved.blocks,
                     run,
                 }
             }
             Outcome::Refused(_) => Advanced {
                 outcome,
                 labels: 0,
+                blocks: 0,
                 run: self,
             },
         }
@@ -104,6 +111,7 @@ impl Run {
     pub fn step(self, store: &mut [u8]) -> Advanced
         ensures { λ r. ⌜ outcomeNumber (r .outcome) ≡ continueRow self (length (now (store .entry))) ⌝ }
         ensures { λ r. ⌜ r .labels ≡ labelsIn (stamped self (now (store .entry))) 1 ⌝ }
+        ensures { λ r. ⌜ (r .blocks ≡ blocksIn (stamped self (now (store .entry))) 1) × (r .blocks ≤ mostBlocks * r .labels) ⌝ }
         ensures { λ r. ⌜ r .run ≡ advanced (stamped self (now (store .entry))) 1 .run ⌝ }
         ensures { λ r. ⌜ now (store .exit) ≡ advanced (stamped self (now (store .entry))) 1 .store ⌝ }
     {

@@ -1,5 +1,5 @@
 -- What a state has taken, with the padding pushed after it, gives the digest of FIPS 180-4.
-use Prim.Native.Nat.{ℕ, _+_, _*_, _%_}
+use Prim.Native.Nat.{ℕ, _+_, _*_, _/_, _%_}
 use mathlib.Core.Path.{_≡_, refl, sym, ap, _∙_}
 use mathlib.Core.List.{List, _++_}
 use native.Mathlib.Nat.{zero-add}
@@ -11,8 +11,8 @@ use Rattle.compression.specs.declared.Words.{Words}
 use Rattle.compression.specs.Constants.{initial}
 use Rattle.base.specs.Bytes.{bigEndian, zeros}
 use Rattle.base.proofs.BytesLaws.{length-bigEndian}
-use Rattle.sha256.specs.Padding.{zeroBytes, padding, padded, blocks}
-use Rattle.sha256.specs.Digest.{hashAfter, digestOf, digest}
+use Rattle.sha256.specs.Padding.{zeroBytes, padding, padded, blocksOf, blocks}
+use Rattle.sha256.specs.Digest.{blocksHashed, hashAfter, digestOf, digest}
 use Rattle.sha256.specs.Portions.{newHash, pushedAll}
 use Rattle.sha256.proofs.Pushing.{pushedAll-append, pushedAll-taken, pushedAll-blocks, pushedAll-cleared, pushedAll-closed}
 
@@ -33,13 +33,16 @@ pushed-padding s size =
     (omega (arith, length-padding (s .taken)))
     (omega (arith, length-padding (s .taken)))
 
--- a padded message is whole blocks
-length-padded : (m : List ℕ) → length (padded m) ≡ 64 * blocks (padded m)
+-- a padded message is whole blocks, as many as its length gives
+padded-size : (m : List ℕ) → length (padded m) ≡ length m + (zeroBytes (length m) + 9)
 unfolding padded
-length-padded m =
-    let n : length (m ++ padding (length m)) ≡ length m + (zeroBytes (length m) + 9) =
-    length-append m (padding (length m)) ∙ ap (λ (k : ℕ). length m + k) (length-padding (length m)) in
-    omega arith
+padded-size m = length-append m (padding (length m)) ∙ ap (λ (k : ℕ). length m + k) (length-padding (length m))
+
+length-padded : (m : List ℕ) → length (padded m) ≡ 64 * blocks (padded m)
+length-padded m = omega (arith, padded-size m)
+
+pub blocks-hashed : (m : List ℕ) → blocksHashed m ≡ blocksOf (length m)
+blocks-hashed m = ap (λ (k : ℕ). k / 64) (padded-size m) ∙ omega arith
 
 pub digest-pushed : (m : List ℕ) → digestOf (pushedAll (pushedAll newHash m) (padding (pushedAll newHash m .taken)) .words) ≡ digest m
 unfolding digest padded

@@ -3,5 +3,6 @@ pub mod Blocks
 pub mod Pushing
 pub mod Digests
 pub mod Portions
+pub mod Compressions
 pub mod Padded
 pub mod Examples

@@ -6,9 +6,10 @@ use native.Mathlib.Omega.{arith}
 use borrow.Author.Tests.{lt-leb}
 use lib.ListN.{length, length-append}
 use Rattle.sha256.specs.declared.Hash.{Hash}
-use Rattle.sha256.specs.Digest.{digest}
+use Rattle.sha256.specs.Padding.{blocksOf}
+use Rattle.sha256.specs.Digest.{blocksHashed, digest}
 use Rattle.base.specs.Limits.{maxHashed}
-use Rattle.sha256.specs.Portions.{newHash, pushedAll, updateRow, updateState, updatedAll, AllDone, finishRow, finishDigest}
+use Rattle.sha256.specs.Portions.{newHash, pushedAll, updateRow, updateState, updatedAll, AllDone, finishRow, finishBlocks, finishDigest, digestBlocks}
 use Rattle.sha256.proofs.Pushing.{pushedAll-append, pushedAll-taken}
 use Rattle.sha256.proofs.Digests.{digest-pushed}
 
@@ -24,7 +25,7 @@ state-done s part h = rw (lt-leb (maxHashed + 1) (s .taken + length part) (omega
 
 -- ---- portions one after another
 
-taken-done : (s : Hash) (part : List ℕ) → s .taken + length part ≤ maxHashed → updateState s part .taken ≡ s .taken + length part
+pub taken-done : (s : Hash) (part : List ℕ) → s .taken + length part ≤ maxHashed → updateState s part .taken ≡ s .taken + length part
 taken-done s part h = ap (λ (t : Hash). t .taken) (state-done s part h) ∙ pushedAll-taken s part
 
 pub portions-done : (s : Hash) (parts : List (List ℕ)) → s .taken + length (flatten parts) ≤ maxHashed → AllDone s parts
@@ -56,6 +57,16 @@ pub finish-digest : (m : List ℕ) → length m ≤ maxHashed → finishDigest (
 unfolding finishDigest
 finish-digest m h =
     rw (lt-leb (maxHashed + 1) (pushedAll newHash m .taken + 0) (omega (arith, pushedAll-taken newHash m))) (digest-pushed m)
+
+-- ---- the blocks
+
+pub finish-counted : (s : Hash) → s .taken ≤ maxHashed → finishBlocks s ≡ blocksOf (s .taken)
+unfolding finishBlocks
+finish-counted s h = rw (lt-leb (maxHashed + 1) (s .taken + 0) (omega arith))
+
+pub digest-counted : (m : List ℕ) → length m ≤ maxHashed → digestBlocks m ≡ blocksHashed m
+unfolding digestBlocks
+digest-counted m h = rw (lt-leb (maxHashed + 1) (0 + length m) (omega arith))
 
 -- ---- the theorem
 

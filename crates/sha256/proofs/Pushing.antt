@@ -37,7 +37,7 @@ pick-taken : (t : Bool) (x y : Hash) (n : ℕ) → x .taken ≡ n → y .taken �
 pick-taken true x y n p q = p
 pick-taken false x y n p q = q
 
-pushed-taken : (s : Hash) (byte : ℕ) → pushed s byte .taken ≡ s .taken + 1
+pub pushed-taken : (s : Hash) (byte : ℕ) → pushed s byte .taken ≡ s .taken + 1
 unfolding pushed
 pushed-taken s byte = pick-taken (eqb (s .taken % 64) 63) _ _ _ refl refl
 

@@ -23,6 +23,10 @@ digestOf v =
     bigEndian 4 (v .a) ++ bigEndian 4 (v .b) ++ bigEndian 4 (v .c) ++ bigEndian 4 (v .d) ++
     bigEndian 4 (v .e) ++ bigEndian 4 (v .f) ++ bigEndian 4 (v .g) ++ bigEndian 4 (v .h)
 
+-- the blocks that are compressed for a message
+abbrev pub blocksHashed : List ℕ → ℕ
+blocksHashed message = blocks (padded message)
+
 -- SHA-256
 unfoldable pub digest : List ℕ → List ℕ
-digest message = let m : List ℕ = padded message in digestOf (hashAfter initial m (blocks m))
+digest message = digestOf (hashAfter initial (padded message) (blocksHashed message))

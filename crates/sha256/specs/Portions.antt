@@ -12,9 +12,9 @@ use Rattle.base.specs.Row.{firstOf}
 use Rattle.compression.specs.declared.Words.{Words}
 use Rattle.sha256.specs.declared.Hash.{Hash}
 use Rattle.compression.specs.Constants.{initial}
-use Rattle.sha256.specs.Padding.{padding, words}
+use Rattle.sha256.specs.Padding.{padding, blocksOf, words}
 use Rattle.compression.specs.Compression.{compressed}
-use Rattle.sha256.specs.Digest.{digestOf, digest}
+use Rattle.sha256.specs.Digest.{digestOf, digest, blocksHashed}
 
 -- a state whose tail is empty
 abbrev pub cleared : Words → ℕ → Hash
@@ -36,6 +36,11 @@ unfoldable pub pushedAll : Hash → List ℕ → Hash
 pushedAll s [] = s
 pushedAll s (byte ∷ bytes) = pushedAll (pushed s byte) bytes
 
+-- how often `pushed` compresses a full tail
+unfoldable pub compressions : Hash → List ℕ → ℕ
+compressions s [] = 0
+compressions s (byte ∷ bytes) = pick (eqb (s .taken % 64) 63) 1 0 + compressions (pushed s byte) bytes
+
 -- 5: over 2^61 − 1 bytes in all
 abbrev pub tooMany : Hash → ℕ → Bool
 tooMany s more = leb (maxHashed + 1) (s .taken + more)
@@ -56,12 +61,21 @@ unfoldable pub AllDone : Hash → List (List ℕ) → Type 0
 AllDone s [] = Unit
 AllDone s (part ∷ parts) = (updateRow s part ≡ 0) × AllDone (updateState s part) parts
 
+-- the compressions of all portions
+unfoldable pub compressionsAll : Hash → List (List ℕ) → ℕ
+compressionsAll s [] = 0
+compressionsAll s (part ∷ parts) = compressions s part + compressionsAll (updateState s part) parts
+
 -- row 'Hashing', the end: its number, and the digest, 32 zero bytes where it is refused
 unfoldable pub finishRow : Hash → ℕ
 finishRow s = firstOf ((tooMany s 0, 5) ∷ [])
 
 unfoldable pub finishDigest : Hash → List ℕ
 finishDigest s = pick (tooMany s 0) (zeros 32) (digestOf (pushedAll s (padding (s .taken)) .words))
+
+-- W-207: the message's blocks, those compressed with its portions and those compressed at the end; 0 where it is refused
+unfoldable pub finishBlocks : Hash → ℕ
+finishBlocks s = pick (tooMany s 0) 0 (blocksOf (s .taken))
 
 -- the end hands the state back as it was, refused or not
 abbrev pub finishState : Hash → Hash
@@ -73,3 +87,7 @@ digestRow message = firstOf ((tooMany newHash (length message), 5) ∷ [])
 
 unfoldable pub digestAnswer : List ℕ → List ℕ
 digestAnswer message = pick (tooMany newHash (length message)) (zeros 32) (digest message)
+
+-- W-207: its blocks, 0 where it is refused
+unfoldable pub digestBlocks : List ℕ → ℕ
+digestBlocks message = pick (tooMany newHash (length message)) 0 (blocksHashed message)

@@ -12,7 +12,7 @@ ghost use Rattle.sha256.specs.Padding.{blocks};
 ghost use Rattle.sha256.specs.Digest.{hashAfter, digestOf};
 ghost use Rattle.base.specs.Limits.{maxHashed};
 ghost use Rattle.base.specs.Number.{outcomeNumber};
-ghost use Rattle.sha256.specs.Portions.{newHash, updateRow, updateState, finishRow, finishDigest, finishState, digestRow, digestAnswer};
+ghost use Rattle.sha256.specs.Portions.{newHash, updateRow, updateState, finishRow, finishBlocks, finishDigest, finishState, digestRow, digestBlocks, digestAnswer};
 use absorb::absorb;
 use base::Outcome;
 use base::Refusal;
@@ -39,16 +39,18 @@ pub struct Updated {
     pub hash: Hash,
 }
 
-// The end's outcome, the digest, and the state as it was.
+// The end's outcome, the blocks of the whole message, the digest, and the state as it was.
 pub struct Finished {
     pub outcome: Outcome,
+    pub blocks: u64,
     pub digest: [u8; 32],
     pub hash: Hash,
 }
 
-// The outcome of one call, and the digest: 32 zero bytes, if refused.
+// The outcome of one call, the message's blocks, and the digest: 0 and 32 zero bytes, if refused.
 pub struct Digested {
     pub outcome: Outcome,
+    pub blocks: u64,
     pub digest: [u8; 32],
 }
 
@@ -100,19 +102,23 @@ impl Hash {
 
     // The digest of all that was taken.
     pub fn finish(self) -> Finished
-        ensures { λ r. ⌜ (outcomeNumber (r .outcome) ≡ finishRow self) × ((r .digest ≡ finishDigest self) × (r .hash ≡ finishState self)) ⌝ }
+        ensures { λ r. ⌜ (outcomeNumber (r .outcome) ≡ finishRow self) × (r .blocks ≡ finishBlocks self) ⌝ }
+        ensures { λ r. ⌜ (r .digest ≡ finishDigest self) × (r .hash ≡ finishState self) ⌝ }
     {
         if too_many(self.taken, 0) {
             let digest = [0u8; 32];
             return Finished {
                 outcome: Outcome::Refused(Refusal::TooManyBytes),
+                blocks: 0,
                 digest,
                 hash: self,
             };
         }
+        let blocks = block_count(self.taken as usize) as u64;
         let digest = closed(self);
         Finished {
             outcome: Outcome::Done,
+            blocks,
             digest,
             hash: self,
         }
@@ -121,20 +127,24 @@ impl Hash {
 
 // The digest of a whole message.
 pub fn digest(message: &[u8]) -> Digested
-    ensures { λ r. ⌜ (outcomeNumber (r .outcome) ≡ digestRow (now (message .entry))) × (r .digest ≡ digestAnswer (now (message .entry))) ⌝ }
+    ensures { λ r. ⌜ (outcomeNumber (r .outcome) ≡ digestRow (now (message .entry))) × (r .blocks ≡ digestBlocks (now (message .entry))) ⌝ }
+    ensures { λ r. ⌜ r .digest ≡ digestAnswer (now (message .entry)) ⌝ }
 {
     if too_many(0, message.len()) {
         let digest = [0u8; 32];
         return Digested {
             outcome: Outcome::Refused(Refusal::TooManyBytes),
+            blocks: 0,
             digest,
         };
     }
     let at = 64 * (message.len() / 64);
     let words = absorb(INITIAL, message);
     let digest = digest_after(words, &message[at..], message.len() as u64);
+    let blocks = block_count(message.len()) as u64;
     Digested {
         outcome: Outcome::Done,
+        blocks,
         digest,
     }
 }

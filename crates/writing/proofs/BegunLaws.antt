@@ -19,10 +19,10 @@ use Rattle.run_theory.proofs.OpeningCalls.{started-fits, startedOut-fits}
 use Rattle.file_head.proofs.Leaves.{challengeLeaf-small}
 use Rattle.file_head.proofs.RowLaws.{challenge-done, head-done}
 use Rattle.writing.specs.declared.Writing.{Writing}
-use Rattle.writing.specs.Possible.{Room, Ready, writingOf, writtenOf, labelled}
+use Rattle.writing.specs.Possible.{Room, Ready, writingOf, writtenOf, labelled, labelledBlocks}
 use Rattle.writing.specs.Steps.{Written, begun, followed, newWriting}
 use Rattle.writing.proofs.PartLaws.{part-fits, part-back}
-use Rattle.writing.proofs.OpenLaws.{advanced-all}
+use Rattle.writing.proofs.OpenLaws.{labels-all, advanced-all, blocks-all}
 
 -- an opening over its part can be started and continued
 part-openable :
@@ -99,12 +99,21 @@ module _
   under-there : part ≡ take (openingSize n) (drop (openingFrom n (headSize n (w .count)) (w .number)) file)
   under-there = lent ∙ part-size file from (openingSize n) ∙ rw at
 
+  under-openable : Openable n (w .opening .memory) (w .opening .leaf) (length store) (length part)
+  under-openable =
+      rw under-there
+      (part-openable n (w .opening .memory) (w .count) (w .number) store file (w .opening .leaf) (ready .room) (ready .position))
+
   all-made : openings.advanced store (openOf (w .opening) part) k ≡ openings.steps store k (openOf (w .opening) part)
-  all-made =
-      advanced-all store (w .opening) part k
-      (rw under-there
-      (part-openable n (w .opening .memory) (w .count) (w .number) store file (w .opening .leaf) (ready .room) (ready .position)))
-      few
+  all-made = advanced-all store (w .opening) part k under-openable few
+
+  pub labelled-count : openings.labelsIn store (openOf (w .opening) part) k ≡ k
+  labelled-count = labels-all store (w .opening) part k under-openable few
+
+  pub labelled-blocks : openings.blocksIn store (openOf (w .opening) part) k ≡ labelledBlocks store k (writtenOf w file)
+  labelled-blocks =
+      blocks-all store (w .opening) part k under-openable few
+      ∙ ap (λ (x : List ℕ). openings.blocksOver store k (openOf (w .opening) x)) under-there
 
   pub labelled-writing : writingOf (w .root) (w .count) (w .number) o ≡ labelled store k (writtenOf w file) .writing
   unfolding labelled

@@ -2,20 +2,22 @@
 use mathlib.Core.Path.{_≡_, refl, sym, ap, _∙_}
 use mathlib.Core.Bool.{Bool, true, false}
 use mathlib.Core.List.{List}
-use Prim.Native.Nat.{ℕ, zero, suc, _+_, _-_, _*_, _≤_, _<_, min}
-use native.Mathlib.Nat.{add-zero, suc-mul}
+use Prim.Native.Nat.{ℕ, zero, suc, _+_, _-_, _*_, _^_, _≤_, _<_, min}
+use native.Mathlib.Nat.{add-zero, suc-mul, mul-le-mul-right}
 use native.Mathlib.Omega.{arith}
 use borrow.Author.Tests.{eqb-true, ltb-true}
 use lib.Dec.{ltb, eqb}
 use lib.ListN.{length}
 use Rattle.base.specs.Choice.{both}
 use Rattle.base.proofs.ChoiceLaws.{both-first, both-second}
-use Rattle.machine.proofs.StepLaws.{no-step, steps-add}
+use Rattle.base.specs.Limits.{maxChallenges}
+use Rattle.machine.proofs.StepLaws.{no-step, steps-add, cost-none, cost-add}
 use Rattle.opening.specs.declared.Opening.{Opening}
 use Rattle.opening.specs.Rows.{nodesAnew}
+use Rattle.opening.proofs.StepLaws.{anew-small}
 use Rattle.writing.specs.declared.Writing.{Writing}
 use Rattle.writing.specs.Possible.{Room, Ready, GoesOn, writingOf, writtenOf, labelled}
-use Rattle.writing.specs.Steps.{Written, begun, mayFollow, followed, remaining, writingMachine, steps}
+use Rattle.writing.specs.Steps.{Written, begun, mayFollow, followed, remaining, writingMachine, steps, stepBlocks, blocksOver}
 use Rattle.writing.proofs.BegunLaws.{begun-ready}
 use Rattle.writing.proofs.StepLaws.{followed-stays, under-left, steps-labelled, labelled-ready, labelled-remaining}
 
@@ -192,6 +194,16 @@ some-labelled store file w ready (suc k) some few w₁ w₂ file₁ file₂ e₁
       ),
     )
 
+-- few openings, each of few labels
+pub remaining-few : (w : Writing) (store file : ℕ) → Ready w store file → remaining w < 2 ^ 56
+remaining-few w store file r =
+    let anew : ℕ = nodesAnew (w .opening .depth) (w .opening .memory) in
+    omega (
+      arith,
+      mul-le-mul-right {m = w .count - w .number} {n = maxChallenges} anew (omega (arith, r .room .count)),
+      anew-small (w .opening .depth) (w .opening .memory) (r .room .depth .1),
+    )
+
 -- ---- labels opening after opening: what is left to make gives the same
 pub record Labelling (store file₀ : List ℕ) (w₀ : Writing) (labels : ℕ) (file : List ℕ) (w : Writing) (left : ℕ) : Type 0 where
   pub ready : Ready w (length store) (length file₀)
@@ -223,6 +235,23 @@ module _
         few = omega (arith, on .fewer, so-far .few);
         same = rw (e, f) (steps-add (writingMachine store) (left - k) k (writtenOf w file) ∙ rw all (so-far .same));
       }
+
+  -- the blocks so far and those of what is left
+  pub labelling-cost :
+      (k : ℕ) (w′ : Writing) (file′ : List ℕ) (all blocks more : ℕ) → k ≤ left → w′ ≡ steps store k (writtenOf w file) .writing
+      → file′ ≡ steps store k (writtenOf w file) .file → more ≡ blocksOver store k (writtenOf w file)
+      → blocks + blocksOver store left (writtenOf w file) ≡ all → blocks + more + blocksOver store (left - k) (writtenOf w′ file′) ≡ all
+  labelling-cost k w′ file′ all blocks more small e f is so =
+      let both : k + (left - k) ≡ left = omega arith in
+      let split : blocksOver store k (writtenOf w file) + blocksOver store (left - k) (steps store k (writtenOf w file))
+      ≡ blocksOver store left (writtenOf w file) =
+      rw both at (cost-add (writingMachine store) (stepBlocks store) (left - k) k (writtenOf w file)) in
+      rw (both-known e f) (omega (arith, split, is, so))
+
+  pub labelling-counted :
+      left ≡ 0 → (all blocks : ℕ) → blocks + blocksOver store left (writtenOf w file) ≡ all → blocks ≡ all
+  labelling-counted none all blocks so =
+      omega (arith, cost-none (writingMachine store) (stepBlocks store) (writtenOf w file), rw none at so)
 
   pub labelling-done :
       left ≡ 0 → (w ≡ steps store labels (writtenOf w₀ file₀) .writing) × (file ≡ steps store labels (writtenOf w₀ file₀) .file)

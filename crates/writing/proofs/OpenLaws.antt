@@ -1,5 +1,5 @@
 -- Several steps of any opening: what they keep, and that the output keeps its length.
-use mathlib.Core.Path.{_≡_, refl, sym, _∙_}
+use mathlib.Core.Path.{_≡_, refl, sym, ap, _∙_}
 use mathlib.Core.Bool.{Bool, true, false}
 use mathlib.Core.List.{List}
 use Prim.Native.Nat.{ℕ, zero, suc, _+_, _-_, _*_, _≤_, _<_}
@@ -18,9 +18,9 @@ use Rattle.labelling.specs.Step.{nextNode, nextLabel}
 use Rattle.sha256.proofs.Digests.{digest-length}
 use Rattle.opening.specs.declared.Opening.{Opening}
 use Rattle.opening.specs.Rows.{nodesAnew}
-use Rattle.opening.specs.Names.{openOf}
+use Rattle.opening.specs.Names.{openingOf, openOf}
 use Rattle.opening_places.specs.Places.{ancestor, beside, placed, front}
-use Rattle.opening.specs.Steps.{Open, stepped, openingMachine, steps, labelsIn, advanced}
+use Rattle.opening.specs.Steps.{Open, stepped, openingMachine, steps, labelsIn, blocksOver, blocksIn, advanced}
 use Rattle.opening.proofs.StepLaws.{anew-few, next-below}
 use Rattle.run_theory.specs.Openings.{Openable}
 use Rattle.run_theory.proofs.OpeningCalls.{reopen-fits}
@@ -43,6 +43,11 @@ module _ (store : List ℕ) (s : Open) where
   pub open-more : (k : ℕ) → steps store (suc k) s ≡ stepped store (steps store k s)
   unfolding machines.steps openingMachine
   open-more k = refl
+
+  pub statement-kept : (k : ℕ) → steps store k s .opening .statement ≡ s .opening .statement
+  unfolding machines.steps openingMachine stepped
+  statement-kept zero = refl
+  statement-kept (suc k) = statement-kept k
 
   pub depth-kept : (k : ℕ) → steps store k s .opening .depth ≡ s .opening .depth
   unfolding machines.steps openingMachine stepped
@@ -69,6 +74,15 @@ module _ (store : List ℕ) (s : Open) where
       → nodesAnew (steps store k s .opening .depth) (steps store k s .opening .memory)
       ≡ nodesAnew (s .opening .depth) (s .opening .memory)
   anew-kept k = rw (depth-kept k, memory-kept k)
+
+  -- the opening by its fields
+  pub opening-after :
+      (k : ℕ)
+      → steps store k s .opening
+      ≡ openingOf (s .opening .statement) (s .opening .depth) (s .opening .memory) (s .opening .leaf) (s .opening .made + k)
+      (steps store k s .opening .held)
+  opening-after k =
+      λ i. openingOf (statement-kept k i) (depth-kept k i) (memory-kept k i) (leaf-kept k i) (made-after k i) (steps store k s .opening .held)
 
 -- one step of an opening that has a node left
 stepped-length :
@@ -101,10 +115,14 @@ steps-length store s (suc k) few deep fits =
 module _
     (store : List ℕ) (o : Opening) (out : List ℕ) (k : ℕ) (fits : Openable (o .depth) (o .memory) (o .leaf) (length store) (length out))
     (few : o .made + k ≤ nodesAnew (o .depth) (o .memory)) where
-  labels-all : labelsIn store (openOf o out) k ≡ k
+  pub labels-all : labelsIn store (openOf o out) k ≡ k
   unfolding openingMachine
   labels-all =
       done-some (openingMachine store) (openOf o out) k (reopen-fits o (length store) (length out) fits (omega arith)) ∙ omega arith
 
   pub advanced-all : advanced store (openOf o out) k ≡ steps store k (openOf o out)
   advanced-all = sym (advanced-by (openingMachine store) (openOf o out) k k (sym labels-all))
+
+  pub blocks-all : blocksIn store (openOf o out) k ≡ blocksOver store k (openOf o out)
+  unfolding machines.costIn
+  blocks-all = ap (λ (j : ℕ). blocksOver store j (openOf o out)) labels-all

@@ -22,6 +22,7 @@ use Rattle.file_head.specs.Layout.{headRow}
 use Rattle.writing.specs.Rows.{fileChecks, writeRow, rewriteRow}
 use Rattle.writing.specs.Possible.{stateOutside, writtenOf}
 use Rattle.writing.specs.Steps.{mayFollow, newWriting, noWriting, started, remaining, writingMachine, steps, labelsIn, advanced}
+use Rattle.writing.specs.Steps.{stepBlocks, blocksOver, blocksIn}
 
 -- a start's row is that of a run's start and that of the head
 pub both-done : (n m t store file : ℕ) → writeRow n m t store file ≡ 0 → (startRow n m store ≡ 0) × (headRow n t file ≡ 0)
@@ -95,6 +96,14 @@ module _ (w : Writing) (store file : List ℕ) (budget : ℕ) where
       let f : steps store k (writtenOf w file) ≡ advanced store (writtenOf w file) budget =
       machines.advanced-by (writingMachine store) (writtenOf w file) budget k e in
       (rw (← f) a, rw (← f) b)
+
+  pub blocks-by :
+      (k blocks : ℕ) → k ≡ labelsIn store (writtenOf w file) budget → blocks ≡ blocksOver store k (writtenOf w file)
+      → blocks ≡ blocksIn store (writtenOf w file) budget
+  blocks-by = machines.cost-by (writingMachine store) (writtenOf w file) budget (stepBlocks store)
+
+  pub no-blocks : 0 ≡ labelsIn store (writtenOf w file) budget → 0 ≡ blocksIn store (writtenOf w file) budget
+  no-blocks e = sym (machines.costs-nothing (writingMachine store) (writtenOf w file) budget (stepBlocks store) (sym e))
 
   pub unchanged :
       0 ≡ labelsIn store (writtenOf w file) budget

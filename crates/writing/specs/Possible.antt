@@ -52,10 +52,17 @@ pub record GoesOn (w w′ : Writing) (k store file : ℕ) : Type 0 where
   pub under : mayFollow w′ ≡ false
   pub fewer : remaining w′ + k ≡ remaining w
 
--- k labels of the opening under way in its part of the file, and nothing begun
+-- the opening under way, in its part of the file
+abbrev pub underWay : Written → openings.Open
+underWay s = let w : Writing = s .writing in openOf (w .opening) (partOf (w .opening .depth) (w .count) (w .number) (s .file))
+
+-- k labels of the opening under way, and nothing begun
 unfoldable pub labelled : List ℕ → ℕ → Written → Written
 labelled store k s =
     let w : Writing = s .writing in
-    let n : ℕ = w .opening .depth in
-    let o : openings.Open = openings.steps store k (openOf (w .opening) (partOf n (w .count) (w .number) (s .file))) in
-    writtenOf (writingOf (w .root) (w .count) (w .number) (o .opening)) (withPart n (w .count) (w .number) (s .file) (o .out))
+    let o : openings.Open = openings.steps store k (underWay s) in
+    writtenOf (writingOf (w .root) (w .count) (w .number) (o .opening)) (withPart (w .opening .depth) (w .count) (w .number) (s .file) (o .out))
+
+-- their blocks
+abbrev pub labelledBlocks : List ℕ → ℕ → Written → ℕ
+labelledBlocks store k s = openings.blocksOver store k (underWay s)

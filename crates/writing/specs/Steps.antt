@@ -106,6 +106,16 @@ steps store k s = machines.steps (writingMachine store) k s
 abbrev pub labelsIn : List ℕ → Written → ℕ → ℕ
 labelsIn store s budget = machines.doneIn (writingMachine store) s budget
 
+-- W-207: the blocks of the next label of the opening under way, and those of the labels that a call makes
+abbrev pub stepBlocks : List ℕ → Written → ℕ
+stepBlocks store s = openings.anewBlocks store (s .writing .opening)
+
+abbrev pub blocksOver : List ℕ → ℕ → Written → ℕ
+blocksOver store k s = machines.costOf (writingMachine store) (stepBlocks store) k s
+
+abbrev pub blocksIn : List ℕ → Written → ℕ → ℕ
+blocksIn store s budget = machines.costIn (writingMachine store) (stepBlocks store) s budget
+
 -- the writing and its file after a call
 abbrev pub advanced : List ℕ → Written → ℕ → Written
 advanced store s budget = machines.advanced (writingMachine store) s budget

@@ -1,15 +1,17 @@
 // Labels made opening after opening: when one is done the next is begun.
 ghost use mathlib.Core.Path.{_≡_};
-ghost use Prim.Native.Nat.{_+_, _≤_};
+ghost use Prim.Native.Nat.{_+_, _*_, _≤_};
 ghost use mathlib.Core.Bool.{false};
 ghost use lib.Dec.{ltb, eqb};
 ghost use lib.ListN.{length};
 ghost use Rattle.base.specs.Limits.{maxDepth, maxChallenges};
 ghost use Rattle.base.specs.Choice.{both};
+ghost use Rattle.labelling.specs.Blocks.{mostBlocks};
 ghost use Rattle.opening.specs.Rows.{nodesAnew};
 ghost use Rattle.writing.specs.Possible.{Room, Ready, GoesOn, writtenOf};
-ghost use Rattle.writing.specs.Steps.{mayFollow, followed, newWriting, steps, remaining};
+ghost use Rattle.writing.specs.Steps.{mayFollow, followed, newWriting, steps, blocksOver, remaining};
 use crate::Writing;
+use crate::parts::Moved;
 use crate::parts::begin;
 use crate::parts::label_part;
 use base::smaller;
@@ -81,15 +83,21 @@ pub fn write_first(
 }
 
 // Some labels of the opening under way; then the next is begun if it is done.
-fn label_some(writing: Writing, labels: u64, store: &[u8], file: &mut [u8]) -> Writing
+fn label_some(writing: Writing, labels: u64, store: &[u8], file: &mut [u8]) -> Moved
     requires { ⌜ Ready writing (length (now store)) (length (now file)) × (1 ≤ labels) ⌝ }
     requires { ⌜ writing .opening .made + labels ≤ nodesAnew (writing .opening .depth) (writing .opening .memory) ⌝ }
-    ensures { λ r. ⌜ r ≡ steps (now (store .entry)) labels (writtenOf writing (now (file .entry))) .writing ⌝ }
+    ensures { λ r. ⌜ r .writing ≡ steps (now (store .entry)) labels (writtenOf writing (now (file .entry))) .writing ⌝ }
     ensures { λ _. ⌜ now (file .exit) ≡ steps (now (store .entry)) labels (writtenOf writing (now (file .entry))) .file ⌝ }
-    ensures { λ r. ⌜ GoesOn writing r labels (length (now (store .entry))) (length (now (file .entry))) ⌝ }
+    ensures { λ r. ⌜ GoesOn writing (r .writing) labels (length (now (store .entry))) (length (now (file .entry))) ⌝ }
+    ensures { λ r. ⌜ (r .blocks ≡ blocksOver (now (store .entry)) labels (writtenOf writing (now (file .entry)))) × (r .blocks ≤ mostBlocks * labels) ⌝ }
 {
-    let under = label_part(writing, labels, store, file);
-    follow(under, store, file)
+    let part = label_part(writing, labels, store, file);
+    let under = part.writing;
+    let writing = follow(under, store, file);
+    Moved {
+        writing,
+        blocks: part.blocks,
+    }
 }
 
 // The labels that remain: of the opening under way, and of those after it.
@@ -105,21 +113,28 @@ pub fn labels_left(writing: Writing) -> u64
 }
 
 // As many labels as are asked for. Its caller knows that they are left.
-pub fn label_many(writing: Writing, labels: u64, store: &[u8], file: &mut [u8]) -> Writing
+pub fn label_many(writing: Writing, labels: u64, store: &[u8], file: &mut [u8]) -> Moved
     requires { ⌜ Ready writing (length (now store)) (length (now file)) × (mayFollow writing ≡ false) ⌝ }
     requires { ⌜ labels ≤ remaining writing ⌝ }
-    ensures { λ r. ⌜ r ≡ steps (now (store .entry)) labels (writtenOf writing (now (file .entry))) .writing ⌝ }
+    ensures { λ r. ⌜ r .writing ≡ steps (now (store .entry)) labels (writtenOf writing (now (file .entry))) .writing ⌝ }
     ensures { λ _. ⌜ now (file .exit) ≡ steps (now (store .entry)) labels (writtenOf writing (now (file .entry))) .file ⌝ }
+    ensures { λ r. ⌜ (r .blocks ≡ blocksOver (now (store .entry)) labels (writtenOf writing (now (file .entry)))) × (r .blocks ≤ mostBlocks * labels) ⌝ }
 {
     let mut current = writing;
+    let mut blocks = 0;
     let mut left = labels;
     while 0 < left {
         let under = current.opening;
         let anew = nodes_anew(under.depth, under.memory);
         let chunk = smaller(left, anew - under.made);
-        let next = label_some(current, chunk, store, file);
+        let some = label_some(current, chunk, store, file);
+        let next = some.writing;
         current = next;
+        blocks += some.blocks;
         left -= chunk;
     }
-    current
+    Moved {
+        writing: current,
+        blocks,
+    }
 }

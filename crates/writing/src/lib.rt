@@ -4,11 +4,13 @@ mod labels; // labels.rt: labels made opening after opening
 mod parts; // parts.rt: an opening in its part of the file
 
 ghost use mathlib.Core.Path.{_≡_};
+ghost use Prim.Native.Nat.{_*_, _≤_};
 ghost use lib.ListN.{length};
 ghost use Rattle.base.specs.Number.{outcomeNumber};
+ghost use Rattle.labelling.specs.Blocks.{mostBlocks};
 ghost use Rattle.writing.specs.Rows.{writeRow, rewriteRow};
 ghost use Rattle.writing.specs.Possible.{writtenOf};
-ghost use Rattle.writing.specs.Steps.{noWriting, started, labelsIn, advanced};
+ghost use Rattle.writing.specs.Steps.{noWriting, started, labelsIn, blocksIn, advanced};
 use base::HELD_SIZE;
 use base::Outcome;
 use base::smaller;
@@ -34,10 +36,11 @@ pub struct Started {
     pub writing: Writing,
 }
 
-// What a call did: its outcome, the labels it made, and the writing as it now is.
+// What a call did: its outcome, the labels it made, the 64-byte blocks compressed for them, and the writing as it now is.
 pub struct Advanced {
     pub outcome: Outcome,
     pub labels: u64,
+    pub blocks: u64,
     pub writing: Writing,
 }
 
@@ -95,6 +98,7 @@ impl Writing {
     pub fn advance(self, budget: u64, store: &[u8], file: &mut [u8]) -> Advanced
         ensures { λ r. ⌜ outcomeNumber (r .outcome) ≡ rewriteRow self (length (now (store .entry))) (length (now (file .entry))) ⌝ }
         ensures { λ r. ⌜ r .labels ≡ labelsIn (now (store .entry)) (writtenOf self (now (file .entry))) budget ⌝ }
+        ensures { λ r. ⌜ (r .blocks ≡ blocksIn (now (store .entry)) (writtenOf self (now (file .entry))) budget) × (r .blocks ≤ mostBlocks * r .labels) ⌝ }
         ensures { λ r. ⌜ r .writing ≡ advanced (now (store .entry)) (writtenOf self (now (file .entry))) budget .writing ⌝ }
         ensures { λ _. ⌜ now (file .exit) ≡ advanced (now (store .entry)) (writtenOf self (now (file .entry))) budget .file ⌝ }
     {
@@ -102,16 +106,19 @@ impl Writing {
         match outcome {
             Outcome::Done => {
                 let made = smaller(budget, labels_left(self));
-                let writing = label_many(self, made, store, file);
+                let moved = label_many(self, made, store, file);
+                let writing = moved.writing;
                 Advanced {
                     outcome,
                     labels: made,
+                    blocks: moved.blocks,
                     writing,
                 }
             }
             Outcome::Refused(_) => Advanced {
                 outcome,
                 labels: 0,
+                blocks: 0,
                 writing: self,
             },
         }

@@ -1,12 +1,13 @@
 // An opening in its part of the file: begun, and labelled.
 ghost use mathlib.Core.Path.{_≡_};
-ghost use Prim.Native.Nat.{_+_, _≤_};
+ghost use Prim.Native.Nat.{_+_, _*_, _≤_};
 ghost use lib.ListN.{length};
 ghost use Rattle.base.specs.Limits.{maxDepth, maxChallenges};
 ghost use Rattle.tree.specs.Openings.{openingSize};
+ghost use Rattle.labelling.specs.Blocks.{mostBlocks};
 ghost use Rattle.opening.specs.Rows.{nodesAnew};
 ghost use Rattle.file_head.specs.Layout.{headSize, openingFrom, fileSize};
-ghost use Rattle.writing.specs.Possible.{Room, Ready, writtenOf, labelled};
+ghost use Rattle.writing.specs.Possible.{Room, Ready, writtenOf, labelled, labelledBlocks};
 ghost use Rattle.writing.specs.Steps.{begun};
 use crate::Writing;
 use file_head::challenge;
@@ -51,12 +52,20 @@ pub fn begin(
     started.opening
 }
 
+// A writing, and the blocks of the labels that were made.
+pub struct Moved {
+    pub writing: Writing,
+    pub blocks: u64,
+}
+
 // Makes labels of the opening under way. Its caller knows that they are left.
-pub fn label_part(writing: Writing, labels: u64, store: &[u8], file: &mut [u8]) -> Writing
+pub fn label_part(writing: Writing, labels: u64, store: &[u8], file: &mut [u8]) -> Moved
     requires { ⌜ Ready writing (length (now store)) (length (now file)) ⌝ }
     requires { ⌜ writing .opening .made + labels ≤ nodesAnew (writing .opening .depth) (writing .opening .memory) ⌝ }
-    ensures { λ r. ⌜ r ≡ labelled (now (store .entry)) labels (writtenOf writing (now (file .entry))) .writing ⌝ }
+    ensures { λ r. ⌜ r .writing ≡ labelled (now (store .entry)) labels (writtenOf writing (now (file .entry))) .writing ⌝ }
     ensures { λ _. ⌜ now (file .exit) ≡ labelled (now (store .entry)) labels (writtenOf writing (now (file .entry))) .file ⌝ }
+    ensures { λ r. ⌜ (r .blocks ≡ labelledBlocks (now (store .entry)) labels (writtenOf writing (now (file .entry))))
+        × (r .blocks ≤ mostBlocks * labels) ⌝ }
 {
     let root = writing.root;
     let count = writing.count;
@@ -66,10 +75,14 @@ pub fn label_part(writing: Writing, labels: u64, store: &[u8], file: &mut [u8]) 
     let end = from + (32 * (under.depth + 1)) as usize;
     let done = under.advance(labels, store, &mut file[from..end]);
     let opening = done.opening;
-    Writing {
+    let writing = Writing {
         root,
         count,
         number,
         opening,
+    };
+    Moved {
+        writing,
+        blocks: done.blocks,
     }
 }

@@ -1,9 +1,11 @@
 -- `labelling::next::label_next` meets its contract: the next node lies in the subtree, and each kind of node has its law.
-use mathlib.Core.Path.{_∙_}
+use mathlib.Core.Path.{_≡_, _∙_}
 use Prim.Native.Nat.{_+_, _-_, _≤_}
 use native.Mathlib.Omega.{arith}
 use borrow.Author.Needs.{needs}
-use Rattle.labelling.proofs.OneStep.{place-le, next-level, next-ones, next-few, leaf-label, leaf-held, inner-label, inner-held}
+use lib.ListN.{length}
+use Rattle.labelling.proofs.OneStep.{next-level, next-ones, next-few, leaf-label, leaf-held, inner-label, inner-held}
+use Rattle.labelling.proofs.BlockLaws.{leaf-blocks, inner-blocks}
 use Rattle.labelling.proofs.next.label_next.Statement.{statement}
 use Rattle.labelling.proofs.next.label_next.Tie as tie
 
@@ -17,20 +19,6 @@ at-level c =
     let a = entry .args in
     next-level (a .height) (a .level) (a .position) (a .made) (c .next-node .result .level) (c .next-node .result .position)
     (entry .pre .0 .2) (c .next-node .ensures)
-
--- an inner node's place is below its level within the subtree
-at-place :
-    (c : tie.After-place)
-    → c .place .result ≤ c .before .before .before .before .next-node .result .level -
-    c .before .before .before .before .before .before .before .args .level
-at-place c =
-    let next-node = c .before .before .before .before .next-node in
-    omega (
-      arith,
-      c .place .ensures,
-      place-le (next-node .result .level - c .before .before .before .before .before .before .before .args .level)
-          (next-node .result .position),
-    )
 
 label-leaf-requires : tie.Need-label-leaf-requires
 label-leaf-requires c κs =
@@ -53,24 +41,32 @@ label-leaf-requires c κs =
 sub-place : tie.Need-sub-place
 sub-place c = omega (arith, at-level (c .before .before .before))
 
-place-requires : tie.Need-place-requires
+place-requires : tie.Need-place-requires-2
 place-requires c κs = omega (arith, at-level (c .before .before .before))
 
 mul-at : tie.Need-mul-at
-mul-at c = omega (arith, at-level (c .before .before .before .before), at-place c)
+mul-at c = omega (arith, at-level (c .before .before .before .before), c .place2 .ensures .1)
 
 label-inner-requires : tie.Need-label-inner-requires
 label-inner-requires c κs =
     omega (
       arith,
       at-level (c .before .before .before .before .before),
-      at-place (c .before),
+      c .before .place2 .ensures .1,
       c .before .before .before .before .before .before .before .before .pre,
     )
 
+label-blocks-requires : tie.Need-label-blocks-requires
+label-blocks-requires c κs =
+    omega (arith, c .place .ensures .1, c .before .before .before .before .before .before .before .before .before .before .pre .0 .0)
+
+-- the statement is an array
+statement-size : (s : tie.Start) → length (s .args .statement) ≡ 32
+statement-size s = search needs
+
 returns : tie.Need-returns
 returns c =
-    let label-leaf = c .before .before in
+    let label-leaf = c .before .before .before .before in
     let at-if1 = label-leaf .before .before in
     let next-node = at-if1 .before .before in
     let s = next-node .before .before .before in
@@ -82,33 +78,51 @@ returns c =
             ∙ leaf-label (s .args .height) (s .args .level) (s .args .position) (s .args .made) (w .result .level)
             (w .result .position) (s .pre .0 .2) (w .ensures) (s .args .edition) (s .args .statement) (s .args .front .now) (s .args .held .now)
             (if1 .taken) (s .pre .1 .0),
-        label-leaf .label-leaf .ensures .1
-            ∙ leaf-held (s .args .height) (s .args .level) (s .args .position) (s .args .made) (w .result .level)
-            (w .result .position) (s .pre .0 .2) (w .ensures) (s .args .edition) (s .args .statement) (s .args .front .now) (s .args .held .now)
-            (if1 .taken) (s .pre .1 .0) (label-leaf .label-leaf .result),
+        (
+          label-leaf .label-leaf .ensures .1
+              ∙ leaf-held (s .args .height) (s .args .level) (s .args .position) (s .args .made) (w .result .level)
+              (w .result .position) (s .pre .0 .2) (w .ensures) (s .args .edition) (s .args .statement) (s .args .front .now)
+              (s .args .held .now) (if1 .taken) (s .pre .1 .0) (label-leaf .label-leaf .result),
+          (
+            c .label-blocks .ensures .0
+                ∙ leaf-blocks (s .args .height) (s .args .level) (s .args .position) (s .args .made) (w .result .level)
+                (w .result .position) (s .pre .0 .2) (w .ensures) (s .pre .0 .1) (s .args .edition) (s .args .statement)
+                (s .args .front .now) (s .args .held .now) (statement-size s) (s .pre .0 .0) (s .pre .1 .0) (s .pre .1 .1) (if1 .taken) _ (c .before .place .ensures .0),
+            c .label-blocks .ensures .1,
+          ),
+        ),
       ),
     )
 
 returns-2 : tie.Need-returns-2
 returns-2 c =
-    let label-inner = c .before .before in
+    let label-inner = c .before .before .before in
     let at-place = label-inner .before .before in
     let at-if1 = at-place .before .before in
     let next-node = at-if1 .before .before in
     let s = next-node .before .before .before in
     let if1 = at-if1 .if1 in
-    let place = at-place .place in
+    let place = at-place .place2 in
     let w = next-node .next-node in (
       w .ensures,
       (
         label-inner .label-inner .ensures .0
             ∙ inner-label (s .args .height) (s .args .level) (s .args .position) (s .args .made) (w .result .level)
             (w .result .position) (s .pre .0 .2) (w .ensures) (s .args .edition) (s .args .statement) (s .args .front .now) (s .args .held .now)
-            (if1 .left) _ (place .ensures),
-        label-inner .label-inner .ensures .1
-            ∙ inner-held (s .args .height) (s .args .level) (s .args .position) (s .args .made) (w .result .level)
-            (w .result .position) (s .pre .0 .2) (w .ensures) (s .args .edition) (s .args .statement) (s .args .front .now) (s .args .held .now)
-            (if1 .left) _ (place .ensures) (label-inner .label-inner .result),
+            (if1 .left) _ (place .ensures .0),
+        (
+          label-inner .label-inner .ensures .1
+              ∙ inner-held (s .args .height) (s .args .level) (s .args .position) (s .args .made) (w .result .level)
+              (w .result .position) (s .pre .0 .2) (w .ensures) (s .args .edition) (s .args .statement) (s .args .front .now)
+              (s .args .held .now) (if1 .left) _ (place .ensures .0) (label-inner .label-inner .result),
+          (
+            c .label-blocks2 .ensures .0
+                ∙ inner-blocks (s .args .height) (s .args .level) (s .args .position) (s .args .made) (w .result .level)
+                (w .result .position) (s .pre .0 .2) (w .ensures) (s .pre .0 .1) (s .args .edition) (s .args .statement)
+                (s .args .front .now) (s .args .held .now) (statement-size s) (s .pre .0 .0) (s .pre .1 .0) (s .pre .1 .1) (if1 .left),
+            c .label-blocks2 .ensures .1,
+          ),
+        ),
       ),
     )
 
@@ -116,5 +130,5 @@ pub label-next-spec : {M : Type 1} → statement M
 label-next-spec =
     tie.close
     (tie.spec
-    (λ c κs. search needs) (λ c. search needs) label-leaf-requires sub-place place-requires mul-at label-inner-requires
-    (λ c. search needs) returns (λ c. search needs) returns-2)
+    (λ c κs. search needs) (λ c. search needs) label-leaf-requires (λ c κs. search needs) label-blocks-requires sub-place
+    place-requires mul-at label-inner-requires (λ c κs. search needs) (λ c. search needs) returns (λ c. search needs) returns-2)

@@ -14,7 +14,9 @@ cast-result : tie.Need-cast-result
 cast-result c = omega (arith, masked (c .args .below) (c .args .position) (c .pre), place-le (c .args .below) (c .args .position))
 
 returns : tie.Need-returns
-returns c = masked (c .args .below) (c .args .position) (c .pre)
+returns c =
+    let e = masked (c .args .below) (c .args .position) (c .pre) in
+    (e, omega (arith, e, place-le (c .args .below) (c .args .position)))
 
 pub place-spec : {M : Type 1} → statement M
 place-spec = tie.close (tie.spec (λ c. search needs) sub-mask cast-result returns)

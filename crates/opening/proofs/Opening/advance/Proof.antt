@@ -1,34 +1,14 @@
 -- `opening::Opening::advance` meets its contract, by the answer: an opening that may be continued has room for its labels.
 use mathlib.Core.Path.{_≡_, ap, _∙_}
-use Prim.Native.Nat.{ℕ, _^_, _-_, _≤_, min}
+use Prim.Native.Nat.{ℕ, _-_, _≤_, min}
 use native.Mathlib.Omega.{arith}
-use borrow.Author.Tests.{ltb-false}
 use borrow.Author.Needs.{needs}
-use lib.Dec.{ltb, leb, lit≤}
 use lib.ListN.{length}
-use Rattle.base.specs.Row.{either}
-use Rattle.tree.specs.Store.{storeSize}
-use Rattle.tree.specs.Openings.{openingSize}
-use Rattle.run.specs.Rows.{impossible}
-use Rattle.base.proofs.RowLaws.{passed, is-done, is-refused}
+use Rattle.base.proofs.RowLaws.{is-done, is-refused}
 use Rattle.opening.specs.Rows.{nodesAnew, reopenRow}
-use Rattle.opening.specs.declared.Opening.{Opening}
-use Rattle.opening.proofs.RowLaws.{Ready, can-be, labels-done, labels-refused, advanced-by, unchanged}
+use Rattle.opening.proofs.RowLaws.{Ready, continue-ready, labels-done, labels-refused, advanced-by, blocks-by, no-blocks, unchanged}
 use Rattle.opening.proofs.Opening.advance.Statement.{statement}
 use Rattle.opening.proofs.Opening.advance.Tie as tie
-
--- what a row of 0 tells
-continue-ready : (o : Opening) (store out : ℕ) → reopenRow o store out ≡ 0
-    → Ready (o .depth) (o .memory) (o .leaf) store out × (o .made ≤ nodesAnew (o .depth) (o .memory))
-unfolding reopenRow
-continue-ready o store out e =
-    let n = o .depth in
-    let m = o .memory in
-    let (i, e₁) = passed (either (impossible n m (o .made) (nodesAnew n m)) (leb (2 ^ n) (o .leaf))) 4 _ (lit≤ tt) e in
-    let (s, e₂) = passed (ltb store (storeSize m)) 3 _ (lit≤ tt) e₁ in
-    let (p, e₃) = passed (ltb out (openingSize n)) 7 0 (lit≤ tt) e₂ in
-    let (q, k) = can-be n m (o .made) (o .leaf) i in
-    (record { possible = q; room = ltb-false store (storeSize m) s; outRoom = ltb-false out (openingSize n) p }, k)
 
 -- the row's answer, and what is known if it is 0
 abbrev row : tie.Start → ℕ
@@ -59,7 +39,7 @@ label-many-requires c κs =
 
 returns : tie.Need-returns
 returns c =
-    let label-many = c .before .before in
+    let label-many = c .before .before .before in
     let smaller = label-many .before .before in
     let nodes-anew = smaller .before .before in
     let may-continue = nodes-anew .before .before .before in
@@ -71,15 +51,29 @@ returns c =
     ∙ ap (λ (x : ℕ). min (a .budget) (x - a .self .made)) (nodes-anew .nodes-anew .ensures)
     ∙ labels-done (a .self) (a .store .now) (a .out .now) (a .budget) (done (nodes-anew .before)) in (
       may-continue .may-continue .ensures,
-      (k, advanced-by (a .self) (a .store .now) (a .out .now) (a .budget) _ _ _ k (e .0) (e .1)),
+      (
+        k,
+        (
+          (blocks-by (a .self) (a .store .now) (a .out .now) (a .budget) _ _ k (e .1 .1 .0), e .1 .1 .1),
+          advanced-by (a .self) (a .store .now) (a .out .now) (a .budget) _ _ _ k (e .0) (e .1 .0),
+        ),
+      ),
     )
 
 returns-2 : tie.Need-returns-2
 returns-2 c =
     let a = c .before .before .before .before .before .args in
     let s = c .before .before .may-continue in
-    let z = labels-refused (a .self) (a .store .now) (a .out .now) (a .budget) (is-refused _ _ _ (s .ensures) (c .enum-told2 .given .1)) in
-    (s .ensures, (z, unchanged (a .self) (a .store .now) (a .out .now) (a .budget) z))
+    let z = labels-refused (a .self) (a .store .now) (a .out .now) (a .budget) (is-refused _ _ _ (s .ensures) (c .enum-told2 .given .1)) in (
+      s .ensures,
+      (
+        z,
+        (
+          (no-blocks (a .self) (a .store .now) (a .out .now) (a .budget) z, omega arith),
+          unchanged (a .self) (a .store .now) (a .out .now) (a .budget) z,
+        ),
+      ),
+    )
 
 pub advance-spec : {M : Type 1} → statement M
 advance-spec =

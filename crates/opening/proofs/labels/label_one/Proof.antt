@@ -34,7 +34,8 @@ put-label-requires c κs =
 returns : tie.Need-returns
 returns c =
     let w = c .before .before .before .before .before .before .before .before .label-next .ensures in
-    one-step _ _ _ _ _ _ _ _ _ _ _ _ (w .0) (w .1 .0) (w .1 .1) (c .before .before .put-label .ensures)
+    let (held, out) = one-step _ _ _ _ _ _ _ _ _ _ _ _ (w .0) (w .1 .0) (w .1 .1 .0) (c .before .before .put-label .ensures) in
+    (held, (out, w .1 .1 .1))
 
 pub label-one-spec : {M : Type 1} → statement M
 label-one-spec =

@@ -5,7 +5,7 @@ use native.Mathlib.Omega.{arith}
 use borrow.Author.Needs.{needs}
 use lib.ListN.{length}
 use Rattle.base.proofs.RowLaws.{is-done, is-refused}
-use Rattle.run.proofs.RowLaws.{Whole, may-go-on, labels-done, labels-refused, advanced-by, unchanged}
+use Rattle.run.proofs.RowLaws.{Whole, may-go-on, labels-done, labels-refused, advanced-by, blocks-by, no-blocks, unchanged}
 use Rattle.run.proofs.Run.advance.Statement.{statement}
 use Rattle.run.proofs.Run.advance.Tie as tie
 
@@ -30,7 +30,7 @@ label-many-requires c κs =
 
 returns : tie.Need-returns
 returns c =
-    let label-many = c .before .before in
+    let label-many = c .before .before .before in
     let smaller = label-many .before .before in
     let nodes = smaller .before .before in
     let enum-told = nodes .before in
@@ -38,6 +38,7 @@ returns c =
     let s = may-continue .before .before in
     let a = s .args in
     let o = may-continue .may-continue in
+    let e = label-many .label-many .ensures in
     let k =
     smaller .smaller .ensures
     ∙ ap (λ (x : ℕ). min (a .budget) (x - a .self .made)) (nodes .nodes .ensures)
@@ -46,8 +47,10 @@ returns c =
       o .ensures,
       (
         k,
-        advanced-by (a .self) (a .store .now) (a .budget) _ _ _ k (label-many .label-many .ensures .0)
-            (label-many .label-many .ensures .1),
+        (
+          (blocks-by (a .self) (a .store .now) (a .budget) _ _ k (e .1 .1 .0), e .1 .1 .1),
+          advanced-by (a .self) (a .store .now) (a .budget) _ _ _ k (e .0) (e .1 .0),
+        ),
       ),
     )
 
@@ -56,7 +59,7 @@ returns-2 c =
     let a = c .before .before .before .before .args in
     let o = c .before .before .may-continue in
     let z = labels-refused (a .self) (a .store .now) (a .budget) (is-refused _ _ _ (o .ensures) (c .enum-told2 .given .1)) in
-    (o .ensures, (z, unchanged (a .self) (a .store .now) (a .budget) z))
+    (o .ensures, (z, ((no-blocks (a .self) (a .store .now) (a .budget) z, omega arith), unchanged (a .self) (a .store .now) (a .budget) z)))
 
 pub advance-spec : {M : Type 1} → statement M
 advance-spec =

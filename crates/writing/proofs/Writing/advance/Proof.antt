@@ -14,7 +14,7 @@ use lib.ListN.{length}
 use Rattle.writing.specs.Rows.{rewriteRow}
 use Rattle.writing.specs.Possible.{Ready, stateOutside, writtenOf}
 use Rattle.writing.specs.Steps.{mayFollow, labelsIn}
-use Rattle.writing.proofs.RowLaws.{Bounded, state-bounds, labels-done, labels-refused, advanced-by, unchanged}
+use Rattle.writing.proofs.RowLaws.{Bounded, state-bounds, labels-done, labels-refused, advanced-by, blocks-by, no-blocks, unchanged}
 use borrow.Author.Needs.{needs}
 use Rattle.writing.proofs.Writing.advance.Statement.{statement}
 use Rattle.writing.proofs.Writing.advance.Tie as tie
@@ -71,8 +71,9 @@ label-many-requires c κs =
 
 returns : tie.Need-returns
 returns c =
-    let m = c .before .before in
+    let m = c .before .before .before in
     let k = m .before .before in
+    let l = m .label-many .ensures in
     let t = k .before .before in
     let a = t .before .before .before .before .before .args in
     let e : k .smaller .result ≡ labelsIn (a .store .now) (writtenOf (a .self) (a .file .now)) (a .budget) =
@@ -81,8 +82,10 @@ returns c =
       t .before .before .may-continue .ensures,
       (
         e,
-        advanced-by (a .self) (a .store .now) (a .file .now) (a .budget) _ _ _ e (m .label-many .ensures .0)
-            (m .label-many .ensures .1),
+        (
+          (blocks-by (a .self) (a .store .now) (a .file .now) (a .budget) _ _ e (l .1 .1 .0), l .1 .1 .1),
+          advanced-by (a .self) (a .store .now) (a .file .now) (a .budget) _ _ _ e (l .0) (l .1 .0),
+        ),
       ),
     )
 
@@ -92,8 +95,16 @@ returns-2 c =
     let a = m .before .before .before .args in
     let z =
     labels-refused (a .self) (a .store .now) (a .file .now) (a .budget)
-    (is-refused _ _ _ (m .may-continue .ensures) (c .enum-told2 .given .1)) in
-    (m .may-continue .ensures, (z, unchanged (a .self) (a .store .now) (a .file .now) (a .budget) z))
+    (is-refused _ _ _ (m .may-continue .ensures) (c .enum-told2 .given .1)) in (
+      m .may-continue .ensures,
+      (
+        z,
+        (
+          (no-blocks (a .self) (a .store .now) (a .file .now) (a .budget) z, omega arith),
+          unchanged (a .self) (a .store .now) (a .file .now) (a .budget) z,
+        ),
+      ),
+    )
 
 pub advance-spec : {M : Type 1} → statement M
 advance-spec =

@@ -1,11 +1,11 @@
 -- `writing::parts::label_part` meets its contract: the call in the part is not refused, and its budget is left.
 use borrow.Author.Needs.{needs}
-use mathlib.Core.Path.{refl}
+use mathlib.Core.Path.{refl, _∙_}
 use Prim.Native.Nat.{_+_, _≤_}
 use native.Mathlib.Omega.{arith}
 use lib.ListN.{length}
 use Rattle.tree.specs.Openings.{openingSize}
-use Rattle.writing.proofs.BegunLaws.{labelled-writing, labelled-file}
+use Rattle.writing.proofs.BegunLaws.{labelled-writing, labelled-file, labelled-count, labelled-blocks}
 use Rattle.writing.proofs.parts.label_part.Statement.{statement}
 use Rattle.writing.proofs.parts.label_part.Tie as tie
 
@@ -28,11 +28,25 @@ returns c =
     let p = c .before .before .before .before .before .before in
     let s = p .before .before .before .before .before in
     let a = s .args in
-    let o = c .before .before .before .advance in (
+    let o = c .before .before .before .advance in
+    let (made, put) = o .ensures .1 .1 .1 in
+    let kept = o .kept .1 .1 .1 .0 in
+    let few =
+    o .ensures .1 .0
+    ∙ labelled-count (a .writing) (a .store .now) (a .file .now) (s .pre .0) (a .labels) (p .part-start .result) (s .pre .1)
+    (p .part-start .ensures .0) _ refl _ _ made put kept in (
       labelled-writing (a .writing) (a .store .now) (a .file .now) (s .pre .0) (a .labels) (p .part-start .result) (s .pre .1)
-          (p .part-start .ensures .0) _ refl _ _ (o .ensures .1 .1 .0) (o .ensures .1 .1 .1) (o .kept .1 .1 .1 .0),
-      labelled-file (a .writing) (a .store .now) (a .file .now) (s .pre .0) (a .labels) (p .part-start .result) (s .pre .1)
-          (p .part-start .ensures .0) _ refl _ _ (o .ensures .1 .1 .0) (o .ensures .1 .1 .1) (o .kept .1 .1 .1 .0),
+          (p .part-start .ensures .0) _ refl _ _ made put kept,
+      (
+        labelled-file (a .writing) (a .store .now) (a .file .now) (s .pre .0) (a .labels) (p .part-start .result) (s .pre .1)
+            (p .part-start .ensures .0) _ refl _ _ made put kept,
+        (
+          o .ensures .1 .1 .0 .0
+              ∙ labelled-blocks (a .writing) (a .store .now) (a .file .now) (s .pre .0) (a .labels) (p .part-start .result) (s .pre .1)
+              (p .part-start .ensures .0) _ refl _ _ made put kept,
+          rw few at (o .ensures .1 .1 .0 .1),
+        ),
+      ),
     )
 
 pub label-part-spec : {M : Type 1} → statement M

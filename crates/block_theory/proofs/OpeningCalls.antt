@@ -1,0 +1,216 @@
+-- The blocks that an opening's calls report are those of the nodes labelled anew in them, of every opening that a call does not refuse
+-- and whatever the store holds.
+use mathlib.Core.Path.{_≡_, refl, _∙_}
+use mathlib.Core.Bool.{Bool, true, false}
+use mathlib.Core.List.{List}
+use Prim.Native.Nat.{ℕ, zero, suc, _+_, _-_, _*_, _/_, _^_, _≤_, _<_, min}
+use native.Mathlib.Omega.{arith}
+use borrow.Author.Tests.{eqb-false}
+use lib.ListN.{length}
+use Rattle.base.specs.Choice.{pick}
+use Rattle.base.specs.Limits.{edition, maxDepth, heldSize, IsDepth, IsMemory}
+use Rattle.base.specs.Bytes.{zeros, written}
+use Rattle.base.proofs.Copying.{length-written}
+use Rattle.machine.specs.Machines as machines
+use Rattle.machine.specs.Machines.{Goes}
+use Rattle.machine.specs.Calls.{total}
+use Rattle.sha256.proofs.Digests.{digest-length}
+use Rattle.tree.specs.Nodes.{Node, node}
+use Rattle.tree.specs.Walk.{nodesIn}
+use Rattle.tree.specs.Store.{storeSize}
+use Rattle.labelling.specs.Step.{nextNode, placeOf, isLeaf, nextLabel, heldWith}
+use Rattle.labelling.specs.Blocks.{nodeBlocks}
+use Rattle.labelling.proofs.OneStep.{place-le, next-level}
+use Rattle.labelling.proofs.BlockLaws.{next-blocks}
+use Rattle.opening_places.specs.Places.{ancestor, front}
+use Rattle.opening_places.proofs.PlaceLaws.{way-inside}
+use Rattle.opening_places.proofs.AboveLaws.{front-length}
+use Rattle.opening.specs.declared.Opening.{Opening}
+use Rattle.opening.specs.Rows.{nodesAnew, reopenRow}
+use Rattle.opening.specs.Steps.{Open, stepped, openingMachine, steps, labelsIn, anewBlocks, stepBlocks, blocksOver, blocksIn}
+use Rattle.opening.proofs.RowLaws.{continue-ready}
+use Rattle.opening.proofs.StepLaws.{anew-few}
+use Rattle.run_theory.specs.Openings.{Openable}
+use Rattle.run_theory.proofs.OpeningCalls.{reopen-fits}
+use Rattle.run_theory.proofs.Anew.{anew-count}
+use Rattle.writing.proofs.OpenLaws.{statement-kept, depth-kept, memory-kept, leaf-kept, made-after, anew-kept, steps-length}
+use Rattle.block_theory.specs.Sums.{blocksSum, nextNodesAnew, reportedAnew}
+use Rattle.block_theory.proofs.StepSums.{steps-sum, call-sum, calls-sum}
+
+-- ---- a label is put among the held ones, whose bytes stay as many
+module _
+    (height level position made : ℕ) (shallow : level + height ≤ maxDepth) (few : made < nodesIn height) (held label : List ℕ)
+    (whole : length held ≡ heldSize) (size : length label ≡ 32) where
+  abbrev next : Node
+  next = nextNode height (node level position) made
+
+  abbrev at : ℕ
+  at = 32 * placeOf (node level position) next
+
+  place-few : placeOf (node level position) next ≤ next .level - level
+  place-few = place-le (next .level - level) (next .position)
+
+  inside : (level ≤ next .level) × (next .level ≤ level + height)
+  inside = next-level height level position made (next .level) (next .position) few refl
+
+  own-place : length (written held at label) ≡ heldSize
+  own-place = length-written held at label (omega (arith, place-few, inside)) ∙ whole
+
+  size-after :
+      (t : Bool) → isLeaf height (node level position) next ≡ t
+      → length (pick t (written held at label) (written (written held at label) (at + 32) (zeros 32))) ≡ heldSize
+  size-after true leaf = own-place
+  size-after false inner =
+      let lower : next .level ≡ level + height → ⊥ = eqb-false (next .level) (level + height) inner in
+      length-written (written held at label) (at + 32) (zeros 32) (omega (arith, place-few, inside, own-place)) ∙ own-place
+
+  pub held-size : length (heldWith height (node level position) held next label) ≡ heldSize
+  unfolding heldWith
+  held-size = size-after (isLeaf height (node level position) next) refl
+
+-- ---- an opening of any bytes that can be labelled over a store of so many bytes
+pub record Labellable (o : Opening) (store : ℕ) : Type 0 where
+  pub depth : IsDepth (o .depth)
+  pub memory : IsMemory (o .depth) (o .memory)
+  pub storeFits : storeSize (o .memory) ≤ store
+  pub position : o .leaf < 2 ^ (o .depth)
+  pub statementSize : length (o .statement) ≡ 32
+  pub placesSize : length (o .held) ≡ heldSize
+
+-- the next label's blocks are its node's
+label-blocks :
+    (store : List ℕ) (o : Opening) → Labellable o (length store) → o .made < nodesAnew (o .depth) (o .memory)
+    → anewBlocks store o
+    ≡ nodeBlocks (o .depth) (nextNode (o .depth - o .memory) (ancestor (o .depth) (o .leaf) (o .memory)) (o .made))
+unfolding anewBlocks
+label-blocks store o can few =
+    let n : ℕ = o .depth in
+    let m : ℕ = o .memory in
+    let above : m ≤ n = omega (arith, can .memory) in
+    let all : m + (n - m) ≡ n = omega arith in
+    let w : Node = nextNode (n - m) (ancestor n (o .leaf) m) (o .made) in
+    rw all at
+    (next-blocks (n - m) m (o .leaf / 2 ^ (n - m)) (o .made) (w .level) (w .position) (omega (arith, anew-few n m (o .made) few)) refl
+    (way-inside n (o .leaf) m above (can .position)) edition (o .statement) (front n m (o .leaf) store) (o .held) (can .statementSize)
+    (omega (arith, can .depth)) (front-length n (o .leaf) m store above (can .position) (can .storeFits) m (omega arith)) (can .placesSize))
+
+-- a step keeps the length of the held labels
+stepped-places :
+    (store : List ℕ) (s : Open) → Labellable (s .opening) (length store) → s .opening .made < nodesAnew (s .opening .depth) (s .opening .memory)
+    → length (stepped store s .opening .held) ≡ heldSize
+unfolding stepped nextLabel
+stepped-places store s can few =
+    let o : Opening = s .opening in
+    let h : ℕ = o .depth - o .memory in
+    let p : ℕ = o .leaf / 2 ^ h in
+    held-size h (o .memory) p (o .made) (omega (arith, can .depth, can .memory)) (omega (arith, anew-few (o .depth) (o .memory) (o .made) few))
+    (o .held) (nextLabel edition (o .statement) h (node (o .memory) p) (front (o .depth) (o .memory) (o .leaf) store) (o .held) (o .made))
+    (can .placesSize) (digest-length _)
+
+-- an opening of any bytes with its output, which a call does not refuse
+pub record Reopenable (store : List ℕ) (s : Open) : Type 0 where
+  pub statementSize : length (s .opening .statement) ≡ 32
+  pub placesSize : length (s .opening .held) ≡ heldSize
+  pub goes : reopenRow (s .opening) (length store) (length (s .out)) ≡ 0
+
+module _ (store : List ℕ) (s : Open) where
+  abbrev n : ℕ
+  n = s .opening .depth
+
+  abbrev m : ℕ
+  m = s .opening .memory
+
+  -- the labels that remain, and the blocks of the next k
+  abbrev left : ℕ
+  left = nodesAnew n m - s .opening .made
+
+  abbrev nextSum : ℕ → ℕ
+  nextSum k = blocksSum n (nextNodesAnew n m (s .opening .leaf) (s .opening .made) k)
+
+  -- ---- several labels
+  module _ (can : Labellable (s .opening) (length store)) where
+    labellable-with :
+        (k : ℕ) → length (steps store k s .opening .held) ≡ heldSize → Labellable (steps store k s .opening) (length store)
+    labellable-with k places =
+        record {
+          depth = rw (depth-kept store s k) (can .depth);
+          memory = rw (depth-kept store s k, memory-kept store s k) (can .memory);
+          storeFits = rw (memory-kept store s k) (can .storeFits);
+          position = rw (depth-kept store s k, leaf-kept store s k) (can .position);
+          statementSize = rw (statement-kept store s k) (can .statementSize);
+          placesSize = places;
+        }
+
+    some-left :
+        (k : ℕ) → k < left
+        → steps store k s .opening .made < nodesAnew (steps store k s .opening .depth) (steps store k s .opening .memory)
+    some-left k few = omega (arith, made-after store s k, anew-kept store s k)
+
+    places-after : (k : ℕ) → k ≤ left → length (steps store k s .opening .held) ≡ heldSize
+    unfolding machines.steps openingMachine
+    places-after zero few = can .placesSize
+    places-after (suc k) few =
+        stepped-places store (steps store k s) (labellable-with k (places-after k (omega arith))) (some-left k few)
+
+    step-blocks :
+        (k : ℕ) → k < left
+        → stepBlocks store (steps store k s) ≡ nodeBlocks n (nextNode (n - m) (ancestor n (s .opening .leaf) m) (s .opening .made + k))
+    step-blocks k few =
+        label-blocks store (steps store k s .opening) (labellable-with k (places-after k (omega arith))) (some-left k few)
+        ∙ rw (depth-kept store s k, memory-kept store s k, leaf-kept store s k, made-after store s k)
+
+    pub opening-blocks : s .opening .made ≤ nodesAnew n m → (k : ℕ) → k ≤ left → blocksOver store k s ≡ nextSum k
+    opening-blocks some =
+        steps-sum (openingMachine store) (stepBlocks store) s n (n - m) (ancestor n (s .opening .leaf) m) (s .opening .made) left
+        (omega (arith, anew-count n m)) step-blocks
+
+  -- ---- an opening that a call does not refuse goes on to its end, whatever bytes it holds
+  module _ (goes : reopenRow (s .opening) (length store) (length (s .out)) ≡ 0) where
+    few-made : s .opening .made ≤ nodesAnew n m
+    few-made = continue-ready (s .opening) (length store) (length (s .out)) goes .1
+
+    openable : Openable n m (s .opening .leaf) (length store) (length (s .out))
+    openable =
+        let ready = continue-ready (s .opening) (length store) (length (s .out)) goes .0 in
+        record {
+          depth = (ready .possible .some, ready .possible .deep);
+          memory = omega (arith, ready .possible .above, ready .possible .kept);
+          storeFits = ready .room;
+          position = ready .possible .inside;
+          outFits = ready .outRoom;
+        }
+
+    still-goes : (k : ℕ) → k ≤ left → reopenRow (steps store k s .opening) (length store) (length (steps store k s .out)) ≡ 0
+    still-goes k few =
+        let size : length (steps store k s .out) ≡ length (s .out) =
+        steps-length store s k (omega (arith, few-made)) (openable .depth .0) (openable .outFits) in
+        reopen-fits (steps store k s .opening) (length store) (length (steps store k s .out))
+        (rw (depth-kept store s k, memory-kept store s k, leaf-kept store s k, size) openable)
+        (omega (arith, made-after store s k, anew-kept store s k, few-made))
+
+    pub goes-on : Goes (openingMachine store) s left
+    unfolding openingMachine
+    goes-on = record { done = still-goes; left = λ k few. rw (anew-kept store s k, made-after store s k) (omega arith) }
+
+  -- ---- calls
+  module _ (can : Reopenable store s) where
+    labellable : Labellable (s .opening) (length store)
+    labellable =
+        let fits = openable (can .goes) in
+        record {
+          depth = fits .depth;
+          memory = fits .memory;
+          storeFits = fits .storeFits;
+          position = fits .position;
+          statementSize = can .statementSize;
+          placesSize = can .placesSize;
+        }
+
+    sums : (k : ℕ) → k ≤ left → blocksOver store k s ≡ nextSum k
+    sums = opening-blocks labellable (few-made (can .goes))
+
+    pub opening-call : (budget : ℕ) → blocksIn store s budget ≡ nextSum (labelsIn store s budget)
+    opening-call = call-sum (openingMachine store) (stepBlocks store) s left (goes-on (can .goes)) nextSum sums
+
+    pub opening-calls : (budgets : List ℕ) → reportedAnew store s budgets ≡ nextSum (min (total budgets) left)
+    opening-calls = calls-sum (openingMachine store) (stepBlocks store) s left (goes-on (can .goes)) nextSum sums
