@@ -9,7 +9,7 @@ import mastdock as md
 from outputs import BIG, crate, plans, tree
 from mastdock import sha
 
-FACTS = "statement|root|depth|challenges|hashes|edition|size|accepted|refused|clash|first|second|status|file|mastdock: memory level"
+FACTS = "statement|root|depth|challenges|blocks|hashes|edition|size|accepted|refused|clash|first|second|status|file|mastdock: memory level"
 DIFFERS = r"the proof is not of|the proof's depth is \d+, not|the proof has \d+ challenges"
 DECIDED = re.compile(rf"> |out: |(err: )?labels |({FACTS}) |{DIFFERS}|mastdock: \S+\.run: (?!the report is)|\d+ \d+$")
 UNDECIDED = "usage, complaints, plain words, reasons of the operating system, and files beside a proof that is kept by hand"
@@ -105,6 +105,20 @@ def taken_up(folder, proof, statement, n, t, m):
     return f"mastdock: {name}: {place(run, len(openings), t)}\n", made, carried(run, t, store, openings)
 
 
+def blocks(n, nodes):
+    """W-207: for an input of L bytes SHA-256 compresses (L + 8) // 64 + 1 blocks. A node's has 41 bytes, and 32 for each parent."""
+    return sum((41 + 32 * len(md.parents(n, *node)) + 8) // 64 + 1 for node in nodes)
+
+
+def facts(statement, root, n, t, m):
+    """What is told of a seal. Its labels are those of the tree and, for each opening, those below its leaf's node of level m."""
+    nodes = list(md.labelling_order(n))
+    for leaf in md.challenge_leaves(n, statement, root, t):
+        nodes += list(md.labelling_order(n, m, leaf >> (n - m)))[:-1]
+    order = f"statement {statement.hex()}\nroot {root.hex()}\ndepth {n}\nchallenges {t}\n"
+    return order + f"blocks {blocks(n, nodes)}\nhashes {len(nodes)}\n"
+
+
 def seal_text(folder, statement, proof, n, t, m):
     labels, anew = 2 ** (n + 1) - 1, t * md.nodes_anew(n, m)
     err = f"mastdock: memory level {m} makes {anew} labels anew for the openings, more than the {labels} of the tree\n" if anew > labels else ""
@@ -123,7 +137,7 @@ def seal_text(folder, statement, proof, n, t, m):
         folder.files.pop(proof + ending, None)
     folder.files[proof] = file
     root = file[len(md.head(md.ZERO, md.ZERO, n, t)) - 32 :][:32]
-    return f"statement {statement.hex()}\nroot {root.hex()}\ndepth {n}\nchallenges {t}\nhashes {labels + anew}\n", err, DONE
+    return facts(statement, root, n, t, m), err, DONE
 
 
 def seal(folder, option, report, proof, depth, challenges="150", memory=None):

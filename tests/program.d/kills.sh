@@ -45,6 +45,7 @@ seal_under_kills() { # DEPTH LEVEL MICROSECONDS
     [ ! -s p.run ] || found=$(stat -c %s p.run)
   done
   ends_right "after kills at depth $depth, level $2" "$depth"
+  check "after kills at depth $depth, level $2: the facts of an unbroken run" cmp -s "$out" "$work/facts"
   rm -f p p.*
 }
 
@@ -53,6 +54,7 @@ kill_until() { # KILLS DEPTH LEVEL
   local began
   began=$(micros)
   run seal --every 0 report.txt p "$2" 150 "$3"
+  cp "$out" "$work/facts"
   ends_right "an unbroken run at depth $2, level $3" "$2"
   rm -f p p.*
   began=$(($(micros) - began))

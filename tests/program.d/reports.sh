@@ -1,6 +1,7 @@
 # REPORT as standard input, empty, or one of the files that `seal` makes: none of them may be overwritten.
 answers 0 '^hashes 131971$' seal - p 16 <report.txt
 ends_right "seal - from a file" 16
+check "seal - from a file: the facts of an unbroken run" cmp -s "$out" "$(unbroken 16).facts"
 rm -f p
 status=0
 # shellcheck disable=SC2002

@@ -14,15 +14,20 @@ check "info tells the depth" has_line "$out" 'depth.* 12\b'
 check "info tells the challenges" has_line "$out" 'challenges.* 150\b'
 check "info tells the statement" has_line "$out" "$(sha256sum <report.txt | cut -d ' ' -f 1)"
 
-# The proofs that everything else here is compared with are those of the model in tests/model.
+# The proofs and facts that everything else here is compared with are those of the model in tests/model.
 if command -v python3 >/dev/null; then
-  model='import sys, mastdock as m; sys.stdout.buffer.write(m.Tree(m.sha(sys.stdin.buffer.read()), int(sys.argv[1])).file(150))'
+  model='import sys, mastdock as m, scenarios as s
+n = int(sys.argv[1])
+tree = m.Tree(m.sha(sys.stdin.buffer.read()), n)
+sys.stdout.buffer.write(tree.file(150))
+open(sys.argv[2], "w").write(s.facts(tree.statement, tree.root, n, 150, min(n, 14)))'
   for depth in 1 12 16 18; do
-    PYTHONPATH=$top/tests/model python3 -B -c "$model" "$depth" <report.txt >"$work/model"
+    PYTHONPATH=$top/tests/model python3 -B -c "$model" "$depth" "$work/model.facts" <report.txt >"$work/model"
     check "depth $depth: the proof is the model's" cmp -s "$work/model" "$(unbroken "$depth")"
+    check "depth $depth: the facts are the model's" cmp -s "$work/model.facts" "$(unbroken "$depth").facts"
   done
 else
-  echo "   no python3 here: proofs are not compared with the model's"
+  echo "   no python3 here: proofs and facts are not compared with the model's"
 fi
 
 # Report and proof from pipes.

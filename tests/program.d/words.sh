@@ -56,12 +56,21 @@ refuses 2 . verify report.txt q 8 150 --at-least 8 150
 refuses 2 . verify report.txt q --every 5
 refuses 2 . chain report.txt q --at-least 8 150
 check "nothing was made of refused words" is_same "$(names)" './other.txt ./q ./report.txt '
-for words in '--every 5 report.txt p 8' 'report.txt p 8 --every 5' 'report.txt p 8 150 --every 0' '--every 3600 report.txt p 8 150 8' 'report.txt p 8 150 0'; do
-  # shellcheck disable=SC2086
-  answers 0 '^hashes ' seal $words
-  check "seal $words: the same proof" cmp -s p q
+
+# Sealed; blocks by README's figures: 4 × (blocks + 2) = (8 + 13) × 2^8 of the tree, at level 0 of each opening 4 × (blocks + 4).
+seals() { # BLOCKS LABELS WORDS...
+  local blocks=$1 labels=$2
+  shift 2
+  answers 0 "^hashes $labels$" seal "$@"
+  check "seal $*: the line before it is 'blocks $blocks'" is_same "$(tail -n 2 "$out" | head -n 1)" "blocks $blocks"
+  check "seal $*: the same proof" cmp -s p q
   rm -f p
-done
+}
+seals 1342 511 --every 5 report.txt p 8
+seals 1342 511 report.txt p 8 --every 5
+seals 1342 511 report.txt p 8 150 --every 0
+seals 1342 511 --every 3600 report.txt p 8 150 8
+seals 202342 77011 report.txt p 8 150 0
 
 # Files that are not there, are no files, or may not be had.
 refuses 2 'no such' seal none.txt p 8

@@ -2,25 +2,27 @@
 use mathlib.Core.Path.{_≡_}
 use mathlib.Core.Bool.{false}
 use mathlib.Core.List.{List}
-use Prim.Native.Nat.{ℕ, _*_, _≤_}
+use Prim.Native.Nat.{ℕ, _*_, _≤_, min}
 use native.Mathlib.Omega.{arith}
+use borrow.Author.Tests.{ltb-false}
 use lib.ListN.{length, take}
 use lib.Seq.{length-take-le}
-use Rattle.base.proofs.Ranges.{memory-below}
+use Rattle.base.specs.Limits.{maxDepth, maxMemory, IsDepth, IsMemory}
+use Rattle.base.proofs.Ranges.{range-of}
 use Rattle.tree.specs.Walk.{nodesIn}
 use Rattle.run.specs.declared.Run.{Run}
 use Rattle.run.specs.Rows.{impossible, continueRow}
 use Rattle.run.proofs.RowLaws.{not-impossible}
 use Rattle.run_theory.proofs.GoesOn.{goes-possible, not-refused}
 
--- the memory level of a run that can be is at most its depth
-pub level-inside : (n m made : ℕ) → impossible n m made (nodesIn n) ≡ false → m ≤ n
-level-inside n m made e =
+-- depth and memory level of a run that can be are within their limits
+pub within-limits : (n m made : ℕ) → impossible n m made (nodesIn n) ≡ false → IsDepth n × IsMemory n m
+within-limits n m made e =
     let (d, o, l) = not-impossible n m made (nodesIn n) e in
-    memory-below n m o
+    (range-of 1 maxDepth n d, ltb-false (min n maxMemory) m o)
 
-pub goes-inside : (run : Run) (store : ℕ) → continueRow run store ≡ 0 → run .memory ≤ run .depth
-goes-inside run store e = level-inside (run .depth) (run .memory) (run .made) (goes-possible run store e)
+pub goes-within : (run : Run) (store : ℕ) → continueRow run store ≡ 0 → IsDepth (run .depth) × IsMemory (run .depth) (run .memory)
+goes-within run store e = within-limits (run .depth) (run .memory) (run .made) (goes-possible run store e)
 
 -- the front of a store with as many places as the kept levels have nodes is enough
 pub goes-on : (run : Run) (store : List ℕ) (kept : ℕ)

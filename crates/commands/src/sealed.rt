@@ -1,16 +1,20 @@
 // A seal carried to its end, and its proof kept.
 ghost use mathlib.Core.Path.{_≡_};
-ghost use Prim.Native.Nat.{_≤_};
+ghost use Prim.Native.Nat.{_+_, _≤_};
 ghost use lib.ListN.{length};
-ghost use Rattle.base.specs.Limits.{IsCount};
+ghost use Rattle.base.specs.Limits.{maxChallenges, edition, IsDepth, IsMemory, IsCount};
+ghost use Rattle.tree.specs.Walk.{nodesIn};
 ghost use Rattle.file_head.specs.Layout.{fileSize};
 ghost use Rattle.run.specs.Rows.{continueRow};
+ghost use Rattle.writing_theory.specs.Filed.{labelsAnew};
+ghost use Rattle.block_counts.specs.Seal.{sealBlocks};
 use crate::Ordered;
 use crate::REFUSED;
 use crate::UNTRIED;
 use base::MAX_CHALLENGES;
 use base::beyond;
 use base::smaller;
+use block_counts::seal_blocks;
 use file_head::file_size;
 use file_head::write_head;
 use files::keep_proof;
@@ -31,21 +35,51 @@ use run::not_possible;
 use sealing::all_labels;
 use sealing::seal_on;
 
+// What is told of a seal: its order, its root, and its labels with their blocks.
+pub struct Facts {
+    pub statement: [u8; 32],
+    pub root: [u8; 32],
+    pub depth: u64,
+    pub count: u64,
+    pub blocks: u64,
+    pub hashes: u64,
+}
+
+// Labels and blocks are counted from the order, not added up, so that a seal which was resumed has those of one never stopped.
+fn facts_of(run: Run, root: [u8; 32], count: u64) -> Facts
+    requires { ⌜ IsDepth (run .depth) × IsMemory (run .depth) (run .memory) × (count ≤ maxChallenges) ⌝ }
+    ensures { λ r. ⌜ r .blocks ≡ sealBlocks edition (run .statement) root (run .depth) (run .memory) count ⌝ }
+    ensures { λ r. ⌜ r .hashes ≡ nodesIn (run .depth) + labelsAnew (run .depth) (run .memory) count ⌝ }
+{
+    let statement = run.statement;
+    let blocks = seal_blocks(statement, root, run.depth, run.memory, count);
+    let hashes = all_labels(run.depth, run.memory, count);
+    Facts {
+        statement,
+        root,
+        depth: run.depth,
+        count,
+        blocks,
+        hashes,
+    }
+}
+
+fn say_bytes(out: i32, name: &[u8], bytes: [u8; 32]) -> bool
+    requires { ⌜ length (now name) ≤ 1000 ⌝ }
+{
+    say(out, fact_bytes(name, &bytes))
+}
+
 // One fact a line; the last one is there only if the proof stands under its name.
-fn say_facts(
-    statement: [u8; 32],
-    root: [u8; 32],
-    depth: u64,
-    count: u64,
-    hashes: u64,
-    out: i32,
-    err: i32,
-) -> u8 {
-    say(out, fact_bytes(b"statement ", &statement));
-    say(out, fact_bytes(b"root ", &root));
-    say(out, fact(b"depth ", depth));
-    say(out, fact(b"challenges ", count));
-    if say(out, fact(b"hashes ", hashes)) {
+fn say_facts(facts: Facts, out: i32, err: i32) -> u8 {
+    let statement = facts.statement;
+    let root = facts.root;
+    say_bytes(out, b"statement ", statement);
+    say_bytes(out, b"root ", root);
+    say(out, fact(b"depth ", facts.depth));
+    say(out, fact(b"challenges ", facts.count));
+    say(out, fact(b"blocks ", facts.blocks));
+    if say(out, fact(b"hashes ", facts.hashes)) {
         return 0;
     }
     complain(
@@ -69,28 +103,17 @@ fn take_part(run: Run, count: u64, size: usize, file: &mut [u8], proof: &[u8], e
 
 // Whether the proof may have its name. One from a start is the tree's; one from a checkpoint is checked, since its labels may not be the
 // report's.
-fn is_good(run: Run, count: u64, resumed: bool, file: &[u8]) -> bool {
+fn is_good(facts: Facts, resumed: bool, file: &[u8]) -> bool {
     if !resumed {
         return true;
     }
-    let statement = run.statement;
-    proof_file::check_file_code(file, statement, run.depth, count) == 0
+    let statement = facts.statement;
+    proof_file::check_file_code(file, statement, facts.depth, facts.count) == 0
 }
 
 // Gives the proof its name, removes the checkpoint and tells the facts.
-fn keep(
-    fd: i32,
-    run: Run,
-    root: [u8; 32],
-    count: u64,
-    hashes: u64,
-    resumed: bool,
-    file: &[u8],
-    proof: &[u8],
-    out: i32,
-    err: i32,
-) -> u8 {
-    if !is_good(run, count, resumed, file) {
+fn keep(fd: i32, facts: Facts, resumed: bool, file: &[u8], proof: &[u8], out: i32, err: i32) -> u8 {
+    if !is_good(facts, resumed, file) {
         libc::close(fd);
         let why = add(
             empty(),
@@ -103,8 +126,7 @@ fn keep(
         return UNTRIED;
     }
     remove_run(proof);
-    let statement = run.statement;
-    say_facts(statement, root, run.depth, count, hashes, out, err)
+    say_facts(facts, out, err)
 }
 
 // A seal carried to its end. `made` labels of `all` are made already.
@@ -133,18 +155,8 @@ fn carry(
     let sealed = seal_on(run, done, count, store, file, proof, progress);
     finish(sealed.progress);
     let root = sealed.root;
-    keep(
-        fd,
-        run,
-        root,
-        count,
-        all,
-        resumed,
-        &file[..size],
-        proof,
-        out,
-        err,
-    )
+    let facts = facts_of(run, root, count);
+    keep(fd, facts, resumed, &file[..size], proof, out, err)
 }
 
 // An order that was read and a checkpoint that is whole never come here. It is told all the same: with a call on each way out the compiler

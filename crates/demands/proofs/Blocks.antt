@@ -69,7 +69,7 @@ message-blocks : (message : List ℕ) → length message < 2 ^ 61 → MessageBlo
 unfolding digest
 message-blocks message few =
     let e : digestBlocks message ≡ blocksHashed message = digest-counted message (omega arith) in
-    record { number = e ∙ blocks-hashed message; steps = rw e }
+    record { number = omega (arith, e, blocks-hashed message); steps = rw e }
 
 portion-blocks : (portions : List (List ℕ)) → length (flatten portions) < 2 ^ 61 → PortionBlocks portions
 portion-blocks portions few =

@@ -1,31 +1,27 @@
 -- `commands::advice::note_anew` meets its contract: both tests passed give the bounds that counting asks for.
 use mathlib.Core.Path.{_≡_, sym, _∙_}
-use mathlib.Core.Bool.{false}
-use Rattle.base.specs.Limits.{maxChallenges}
+use native.Mathlib.Omega.{arith}
+use Rattle.base.specs.Limits.{maxChallenges, IsDepth, IsMemory}
 use Rattle.base.proofs.Ranges.{range-of}
-use Rattle.tree.specs.Walk.{nodesIn}
-use Rattle.run.specs.Rows.{impossible}
-use Rattle.run.proofs.RowLaws.{possible}
-use Rattle.commands.proofs.SealLaws.{level-inside}
+use Rattle.commands.proofs.SealLaws.{within-limits}
 use borrow.Author.Needs.{needs}
 use Rattle.commands.proofs.advice.note_anew.Statement.{statement}
 use Rattle.commands.proofs.advice.note_anew.Tie as tie
 
-can-be : (c : tie.Else1)
-    → impossible (c .before .before .args .ordered .depth) (c .before .before .args .ordered .memory) 0
-    (nodesIn (c .before .before .args .ordered .depth))
-    ≡ false
-can-be c = sym (c .before .not-possible .ensures) ∙ c .if1 .left
+limits : (c : tie.Else1)
+    → IsDepth (c .before .before .args .ordered .depth)
+    × IsMemory (c .before .before .args .ordered .depth) (c .before .before .args .ordered .memory)
+limits c = within-limits _ _ 0 (sym (c .before .not-possible .ensures) ∙ c .if1 .left)
 
 nodes-requires : tie.Need-nodes-requires
-nodes-requires c κs = possible _ _ _ (can-be (c .before .before)) .depth
+nodes-requires c κs = limits (c .before .before) .0 .1
 
 all-labels-requires : tie.Need-all-labels-requires
 all-labels-requires c κs =
     let beyond = c .before .before in
-    let can = can-be (beyond .before) in (
-      possible _ _ _ can .depth,
-      level-inside _ _ _ can,
+    let within = limits (beyond .before) in (
+      within .0 .1,
+      omega (arith, within .1),
       range-of 1 maxChallenges _ (sym (beyond .beyond .ensures) ∙ c .before .if2 .left) .1,
     )
 

@@ -61,7 +61,7 @@ loop-again c =
     let a = entry loop in
     let next =
     next-run (stamped (a .args .run) (a .args .store .now)) (l .left) _ _ (l .inv .1) (l .inv .2) (a .pre) (l .inv .0) (smaller .result)
-    (omega (arith, smaller .ensures)) _ _ (call .advance .ensures .1 .1 .0) (call .advance .ensures .1 .1 .1) in
+    (omega (arith, smaller .ensures)) _ _ (call .advance .ensures .1 .1 .1 .0) (call .advance .ensures .1 .1 .1 .1) in
     (omega (arith, l .inv .0), next .0, next .1, search needs)
 
 returns : tie.Need-returns Inv-loop μ-loop

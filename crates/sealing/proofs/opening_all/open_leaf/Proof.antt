@@ -64,7 +64,7 @@ loop-again c =
     next-opening (a .args .statement) (a .args .depth) (a .args .memory) (a .args .leaf) (a .args .store .now) (a .args .part .now) (a .pre) _ _
     (start .start .ensures .1 .0) (start .start .ensures .1 .1) (l .left) _ _ (l .inv .1) (l .inv .2)
     (start .start .kept .1 .1 .1 .1 .1 .0) (l .inv .0) (smaller .result) (omega (arith, smaller .ensures)) _ _
-    (call .advance .ensures .1 .1 .0) (call .advance .ensures .1 .1 .1) in
+    (call .advance .ensures .1 .1 .1 .0) (call .advance .ensures .1 .1 .1 .1) in
     (omega (arith, l .inv .0), next .0, next .1, search needs)
 
 returns : tie.Need-returns Inv-loop μ-loop
