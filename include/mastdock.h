@@ -5,7 +5,8 @@
  *   kept in a file and continued later, and a call that is given one that cannot be continued refuses it.
  * - A refusal is document 01's number (from 18 on a change request's), 0 where there is none; enum mastdock_refusal names them. Each
  *   call lists its refusals in the order in which they are tested. A refused call changes no lent byte, hands a state back as it was
- *   and makes 0 labels; a refused start, and a record refused, hands back an all-zero state, and other values beside a refusal are 0.
+ *   and makes 0 labels of 0 blocks; a refused start, and a record refused, hands back an all-zero state, and other values beside a
+ *   refusal are 0.
  * - Lent memory is a pointer and a number of elements. Where the number is 0 the pointer may be null: so it is for every pointer of
  *   every call that a number follows, and the call answers as for memory of that length.
  * - No struct has padding: its bytes are those of its fields, `zero` among them, so two answers are equal just when memcmp says so.
@@ -90,12 +91,14 @@ typedef struct mastdock_hash_updated {
 
 typedef struct mastdock_hash_finished {
     uint64_t refusal;
+    uint64_t blocks;
     uint8_t digest[32];
     mastdock_hash hash;
 } mastdock_hash_finished;
 
 typedef struct mastdock_digested {
     uint64_t refusal;
+    uint64_t blocks;
     uint8_t digest[32];
 } mastdock_digested;
 
@@ -105,10 +108,11 @@ mastdock_hash mastdock_hash_new(void);
 /* Takes a portion more. Refusals: 5. */
 mastdock_hash_updated mastdock_hash_update(mastdock_hash hash, const uint8_t *part, size_t part_len);
 
-/* The digest of all that was taken; the hash is handed back as it was. Refusals: 5. */
+/* The digest of all that was taken, and the number of 64-byte blocks compressed by SHA-256 for the whole message, whatever its portions
+ * were: for L bytes (L + 8) / 64, rounded down, plus 1; refused: 0. The hash is handed back as it was. Refusals: 5. */
 mastdock_hash_finished mastdock_hash_finish(mastdock_hash hash);
 
-/* The digest of a whole message. A report's is its statement. Refusals: 5. */
+/* The digest of a whole message, and its blocks, counted as by mastdock_hash_finish. A report's digest is its statement. Refusals: 5. */
 mastdock_digested mastdock_digest(const uint8_t *message, size_t message_len);
 
 /* ---- Runs in lent memory ----
@@ -134,6 +138,7 @@ typedef struct mastdock_run_started {
 typedef struct mastdock_run_advanced {
     uint64_t refusal;
     uint64_t labels;
+    uint64_t blocks;
     mastdock_run run;
 } mastdock_run_advanced;
 
@@ -141,7 +146,9 @@ typedef struct mastdock_run_advanced {
 mastdock_run_started mastdock_run_start(const uint8_t statement[32], uint64_t depth, uint64_t memory, const uint8_t *store,
                                         size_t store_len);
 
-/* Makes exactly the smaller of the budget and the labels that remain; stored labels are written as made. Refusals: 4, 3. */
+/* Makes exactly the smaller of the budget and the labels that remain; stored labels are written as made. `blocks` is the number of 64-byte
+ * blocks compressed by SHA-256 for the labels made in this call, 2 for an inner node and 1 to 21 for a leaf; a refused call, budget 0 and a
+ * finished run: 0. Challenges and the report's hash are not labels and not in it. Refusals: 4, 3. */
 mastdock_run_advanced mastdock_run_advance(mastdock_run run, uint64_t budget, uint8_t *store, size_t store_len);
 
 /* ---- A run paused: its record ----
@@ -184,6 +191,7 @@ typedef struct mastdock_opening_started {
 typedef struct mastdock_opening_advanced {
     uint64_t refusal;
     uint64_t labels;
+    uint64_t blocks;
     mastdock_opening opening;
 } mastdock_opening_advanced;
 
@@ -193,7 +201,7 @@ mastdock_opening_started mastdock_opening_start(const uint8_t statement[32], uin
                                                 const uint8_t *store, size_t store_len, uint8_t *out, size_t out_len);
 
 /* Makes anew exactly the smaller of the budget and the labels that remain, and puts those of the opening in their places of the
- * output. Refusals: 4, 3, 7. */
+ * output. `blocks` are those of the labels made in this call, counted as by mastdock_run_advance. Refusals: 4, 3, 7. */
 mastdock_opening_advanced mastdock_opening_advance(mastdock_opening opening, uint64_t budget, const uint8_t *store,
                                                    size_t store_len, uint8_t *out, size_t out_len);
 
@@ -262,6 +270,7 @@ typedef struct mastdock_writing_started {
 typedef struct mastdock_writing_advanced {
     uint64_t refusal;
     uint64_t labels;
+    uint64_t blocks;
     mastdock_writing writing;
 } mastdock_writing_advanced;
 
@@ -275,6 +284,7 @@ mastdock_writing_started mastdock_writing_start(const uint8_t statement[32], con
 /* Makes anew exactly the smaller of the budget and the labels that remain for all openings, and puts those of the openings in
  * their places of the file; the next opening is begun when one is done. The file is done when no label remains: all together there
  * are count * MASTDOCK_LABELS_ANEW(depth, memory), and a call with a budget over 0 that is not refused and gives 0 labels says so.
+ * `blocks` are those of the labels made in this call, counted as by mastdock_run_advance: the challenges, 2 each, are not in it.
  * Refusals: 4 (the opening cannot be continued, count not 1..200, number not 1..count, or an opening that is done but not the last;
  * no start and no call leaves such a writing), 3, 7 (the whole file must fit). */
 mastdock_writing_advanced mastdock_writing_advance(mastdock_writing writing, uint64_t budget, const uint8_t *store,
@@ -358,14 +368,16 @@ MASTDOCK_ASSERT(sizeof(mastdock_hash_updated) == 112);
 MASTDOCK_AT(mastdock_hash_updated, refusal, 0);
 MASTDOCK_AT(mastdock_hash_updated, hash, 8);
 
-MASTDOCK_ASSERT(sizeof(mastdock_hash_finished) == 144);
+MASTDOCK_ASSERT(sizeof(mastdock_hash_finished) == 152);
 MASTDOCK_AT(mastdock_hash_finished, refusal, 0);
-MASTDOCK_AT(mastdock_hash_finished, digest, 8);
-MASTDOCK_AT(mastdock_hash_finished, hash, 40);
+MASTDOCK_AT(mastdock_hash_finished, blocks, 8);
+MASTDOCK_AT(mastdock_hash_finished, digest, 16);
+MASTDOCK_AT(mastdock_hash_finished, hash, 48);
 
-MASTDOCK_ASSERT(sizeof(mastdock_digested) == 40);
+MASTDOCK_ASSERT(sizeof(mastdock_digested) == 48);
 MASTDOCK_AT(mastdock_digested, refusal, 0);
-MASTDOCK_AT(mastdock_digested, digest, 8);
+MASTDOCK_AT(mastdock_digested, blocks, 8);
+MASTDOCK_AT(mastdock_digested, digest, 16);
 
 MASTDOCK_ASSERT(sizeof(mastdock_run) == 1368);
 MASTDOCK_AT(mastdock_run, statement, 0);
@@ -378,10 +390,11 @@ MASTDOCK_ASSERT(sizeof(mastdock_run_started) == 1376);
 MASTDOCK_AT(mastdock_run_started, refusal, 0);
 MASTDOCK_AT(mastdock_run_started, run, 8);
 
-MASTDOCK_ASSERT(sizeof(mastdock_run_advanced) == 1384);
+MASTDOCK_ASSERT(sizeof(mastdock_run_advanced) == 1392);
 MASTDOCK_AT(mastdock_run_advanced, refusal, 0);
 MASTDOCK_AT(mastdock_run_advanced, labels, 8);
-MASTDOCK_AT(mastdock_run_advanced, run, 16);
+MASTDOCK_AT(mastdock_run_advanced, blocks, 16);
+MASTDOCK_AT(mastdock_run_advanced, run, 24);
 
 MASTDOCK_ASSERT(sizeof(mastdock_run_recorded) == 16);
 MASTDOCK_AT(mastdock_run_recorded, refusal, 0);
@@ -399,10 +412,11 @@ MASTDOCK_ASSERT(sizeof(mastdock_opening_started) == 1384);
 MASTDOCK_AT(mastdock_opening_started, refusal, 0);
 MASTDOCK_AT(mastdock_opening_started, opening, 8);
 
-MASTDOCK_ASSERT(sizeof(mastdock_opening_advanced) == 1392);
+MASTDOCK_ASSERT(sizeof(mastdock_opening_advanced) == 1400);
 MASTDOCK_AT(mastdock_opening_advanced, refusal, 0);
 MASTDOCK_AT(mastdock_opening_advanced, labels, 8);
-MASTDOCK_AT(mastdock_opening_advanced, opening, 16);
+MASTDOCK_AT(mastdock_opening_advanced, blocks, 16);
+MASTDOCK_AT(mastdock_opening_advanced, opening, 24);
 
 MASTDOCK_ASSERT(sizeof(mastdock_challenged) == 16);
 MASTDOCK_AT(mastdock_challenged, refusal, 0);
@@ -427,10 +441,11 @@ MASTDOCK_ASSERT(sizeof(mastdock_writing_started) == 1432);
 MASTDOCK_AT(mastdock_writing_started, refusal, 0);
 MASTDOCK_AT(mastdock_writing_started, writing, 8);
 
-MASTDOCK_ASSERT(sizeof(mastdock_writing_advanced) == 1440);
+MASTDOCK_ASSERT(sizeof(mastdock_writing_advanced) == 1448);
 MASTDOCK_AT(mastdock_writing_advanced, refusal, 0);
 MASTDOCK_AT(mastdock_writing_advanced, labels, 8);
-MASTDOCK_AT(mastdock_writing_advanced, writing, 16);
+MASTDOCK_AT(mastdock_writing_advanced, blocks, 16);
+MASTDOCK_AT(mastdock_writing_advanced, writing, 24);
 
 MASTDOCK_ASSERT(sizeof(mastdock_planned) == 16);
 MASTDOCK_AT(mastdock_planned, refusal, 0);

@@ -1,6 +1,6 @@
 /* What include/mastdock.h says of lent memory and of answers: a null pointer where the number is 0, for every call that takes a
-   pointer with a number, and answers without padding; of the memory level's limit; and of a run's record. The refusals are document
-   01's for memory of no bytes. Prints nothing. */
+   pointer with a number, and answers without padding; of the memory level's limit; of a run's record; and of blocks. The refusals are
+   document 01's for memory of no bytes. Prints nothing. */
 #include "mastdock.h"
 #include <stdio.h>
 #include <stdlib.h>
@@ -156,6 +156,35 @@ static void records(void) {
     records_refused();
 }
 
+/* W-207: blocks of messages, the longest among them, and of one byte more, which is refused. */
+static void message_blocks(void) {
+    const size_t lengths[] = {0, 55, 56, 119, 120, 1321}, blocks[] = {1, 1, 2, 2, 3, 21};
+    const uint8_t message[1321] = {0};
+    mastdock_hash hash = mastdock_hash_new();
+    for (size_t i = 0; i < sizeof lengths / sizeof *lengths; i++)
+        EXPECT(mastdock_digest(message, lengths[i]).blocks, blocks[i]);
+    EXPECT(mastdock_hash_finish(hash).blocks, 1);
+    hash.taken = (MASTDOCK_NUMBER(1) << 61) - 1;
+    EXPECT(mastdock_hash_finish(hash).blocks, (MASTDOCK_NUMBER(1) << 55) + 1);
+    hash.taken++;
+    EXPECT(mastdock_hash_finish(hash).refusal, MASTDOCK_TOO_MANY_BYTES);
+    EXPECT(mastdock_hash_finish(hash).blocks, 0);
+}
+
+/* W-207: the dearest leaf, which is the last of depth 40; and no block of budget 0, of a refused run and of a finished one. */
+static void label_blocks(void) {
+    mastdock_run run = {.depth = 40, .made = MASTDOCK_LABELS(40) - 41};
+    uint8_t store[MASTDOCK_STORE_SIZE(0)] = {0};
+    EXPECT(mastdock_run_advance(run, 1, store, sizeof store).blocks, 21);
+    EXPECT(mastdock_run_advance(run, 0, store, sizeof store).blocks, 0);
+    mastdock_run_advanced refused = mastdock_run_advance(run, 1, NULL, 0);
+    EXPECT(refused.refusal, MASTDOCK_SHORT_STORE);
+    EXPECT(refused.labels, 0);
+    EXPECT(refused.blocks, 0);
+    run.made = MASTDOCK_LABELS(40);
+    EXPECT(mastdock_run_advance(run, 1, store, sizeof store).blocks, 0);
+}
+
 /* A file, an opening, leaves and a list of no elements. */
 static void null_files(void) {
     const uint64_t leaf = 0;
@@ -212,6 +241,8 @@ int main(void) {
     null_states();
     levels();
     records();
+    message_blocks();
+    label_blocks();
     null_files();
     answers();
     return 0;

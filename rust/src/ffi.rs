@@ -13,6 +13,7 @@ pub struct HashUpdated {
 #[derive(Clone, Debug, PartialEq, Eq)]
 pub struct HashFinished {
     pub refusal: u64,
+    pub blocks: u64,
     pub digest: [u8; 32],
     pub hash: Hash,
 }
@@ -21,6 +22,7 @@ pub struct HashFinished {
 #[derive(Clone, Debug, PartialEq, Eq)]
 pub struct Digested {
     pub refusal: u64,
+    pub blocks: u64,
     pub digest: [u8; 32],
 }
 
@@ -36,6 +38,7 @@ pub struct RunStarted {
 pub struct RunAdvanced {
     pub refusal: u64,
     pub labels: u64,
+    pub blocks: u64,
     pub run: Run,
 }
 
@@ -58,6 +61,7 @@ pub struct OpeningStarted {
 pub struct OpeningAdvanced {
     pub refusal: u64,
     pub labels: u64,
+    pub blocks: u64,
     pub opening: Opening,
 }
 
@@ -80,6 +84,7 @@ pub struct WritingStarted {
 pub struct WritingAdvanced {
     pub refusal: u64,
     pub labels: u64,
+    pub blocks: u64,
     pub writing: Writing,
 }
 

@@ -15,6 +15,14 @@ pub struct Hash {
     pub taken: u64,
 }
 
+/// A digest, and the 64-byte blocks that SHA-256 compressed for it: of a message of L bytes (L + 8) / 64, rounded down, plus
+/// 1, however it was cut into portions.
+#[derive(Clone, Copy, Debug, PartialEq, Eq)]
+pub struct Hashed {
+    pub digest: [u8; 32],
+    pub blocks: u64,
+}
+
 impl Hash {
     /// A hash that has taken nothing.
     pub fn new() -> Hash {
@@ -32,9 +40,14 @@ impl Hash {
 
     /// The digest of all that was taken. Refused with 5.
     pub fn finish(&self) -> Result<[u8; 32], Refusal> {
+        self.finish_blocks().map(|hashed| hashed.digest)
+    }
+
+    /// The same with the blocks of the whole message, those that its portions filled among them. Refused with 5.
+    pub fn finish_blocks(&self) -> Result<Hashed, Refusal> {
         // SAFETY: every state is allowed.
         let finished = unsafe { ffi::mastdock_hash_finish(self.clone()) };
-        answered(finished.refusal, finished.digest)
+        answered(finished.refusal, Hashed { digest: finished.digest, blocks: finished.blocks })
     }
 }
 
@@ -46,7 +59,12 @@ impl Default for Hash {
 
 /// The digest of a whole message; a report's is its statement. Refused with 5.
 pub fn digest(message: &[u8]) -> Result<[u8; 32], Refusal> {
+    digest_blocks(message).map(|hashed| hashed.digest)
+}
+
+/// The same with the message's blocks. Refused with 5.
+pub fn digest_blocks(message: &[u8]) -> Result<Hashed, Refusal> {
     // SAFETY: the pointer and length are a slice's.
     let digested = unsafe { ffi::mastdock_digest(message.as_ptr(), message.len()) };
-    answered(digested.refusal, digested.digest)
+    answered(digested.refusal, Hashed { digest: digested.digest, blocks: digested.blocks })
 }

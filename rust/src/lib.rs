@@ -15,13 +15,13 @@
 //! // The run: labels are made as many at a time as the budget allows.
 //! let mut store = vec![0; store_size(memory).unwrap()];
 //! let mut run = Run::start(&statement, depth, memory, &store)?;
-//! while run.advance(100, &mut store)? != 0 {}
+//! while run.advance(100, &mut store)?.labels != 0 {}
 //! let root = run.root().unwrap();
 //!
 //! // The file: its head, then the opening of each challenge.
 //! let mut file = vec![0; file_size(depth, count).unwrap()];
 //! let mut writing = Writing::start(&statement, &root, depth, memory, count, &store, &mut file)?;
-//! while writing.advance(100, &store, &mut file)? != 0 {}
+//! while writing.advance(100, &store, &mut file)?.labels != 0 {}
 //!
 //! // The check, and the chain of the nodes that were opened.
 //! check_file(&file, &statement, depth, count)?;
@@ -52,10 +52,10 @@ mod writing;
 
 pub use chain::{compare, draw, plan, Clash, Drawing};
 pub use file::{challenge, check_file, check_opening, opening_part, opening_place, read_head, write_head, Head, Place};
-pub use hash::{digest, Hash};
+pub use hash::{digest, digest_blocks, Hash, Hashed};
 pub use opening::Opening;
 pub use refusal::{Refusal, Rejected};
-pub use run::Run;
+pub use run::{Made, Run};
 pub use sizes::{
     file_size, head_size, labels, labels_anew, opening_size, store_size, HELD_SIZE, MAX_CHAIN, MAX_COUNT, MAX_DEPTH,
     MAX_MEMORY, MAX_RECORD, MAX_STORE,

@@ -1,6 +1,7 @@
 //! Openings in lent memory.
 use crate::ffi;
 use crate::refusal::{answered, Refusal};
+use crate::run::Made;
 use crate::sizes::HELD_SIZE;
 
 /// An opening under way: a run's state with the leaf. Count and held labels are those of the nodes labelled anew. Every value of
@@ -47,9 +48,9 @@ impl Opening {
         answered(started.refusal, started.opening)
     }
 
-    /// Makes anew exactly the smaller of the budget and the labels that remain, gives that number, and puts the labels of the
-    /// opening in their places of the output. Refused with 4, 3, 7, which changes nothing.
-    pub fn advance(&mut self, budget: u64, store: &[u8], out: &mut [u8]) -> Result<u64, Refusal> {
+    /// Makes anew exactly the smaller of the budget and the labels that remain, gives that number with the blocks of these labels, and
+    /// puts the labels of the opening in their places of the output. Refused with 4, 3, 7, which changes nothing.
+    pub fn advance(&mut self, budget: u64, store: &[u8], out: &mut [u8]) -> Result<Made, Refusal> {
         // SAFETY: pointers and lengths are those of slices; the output is borrowed alone; every state is allowed.
         let advanced = unsafe {
             ffi::mastdock_opening_advance(
@@ -62,6 +63,6 @@ impl Opening {
             )
         };
         *self = advanced.opening;
-        answered(advanced.refusal, advanced.labels)
+        answered(advanced.refusal, Made { labels: advanced.labels, blocks: advanced.blocks })
     }
 }

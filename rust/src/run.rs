@@ -17,6 +17,16 @@ pub struct Run {
     pub held: [u8; HELD_SIZE],
 }
 
+/// What a call with a budget made. Of a budget of 0, and where no label remains, both numbers are 0.
+#[derive(Clone, Copy, Debug, Default, PartialEq, Eq)]
+pub struct Made {
+    /// How many labels.
+    pub labels: u64,
+    /// The 64-byte blocks that SHA-256 compressed for just these labels: 2 for an inner node, from 1 to 21 for a leaf. Challenges and
+    /// the report's hash are not in it.
+    pub blocks: u64,
+}
+
 impl Run {
     /// A new run, for a store of [`store_size`](crate::store_size) bytes or more, which it leaves as it is. Refused with 1, 2, 3.
     pub fn start(statement: &[u8; 32], depth: u64, memory: u64, store: &[u8]) -> Result<Run, Refusal> {
@@ -25,13 +35,13 @@ impl Run {
         answered(started.refusal, started.run)
     }
 
-    /// Makes exactly the smaller of the budget and the labels that remain, and gives that number. Stored labels are written as
-    /// made. Refused with 4, 3, which changes nothing.
-    pub fn advance(&mut self, budget: u64, store: &mut [u8]) -> Result<u64, Refusal> {
+    /// Makes exactly the smaller of the budget and the labels that remain, and gives that number with the blocks of these labels.
+    /// Stored labels are written as made. Refused with 4, 3, which changes nothing.
+    pub fn advance(&mut self, budget: u64, store: &mut [u8]) -> Result<Made, Refusal> {
         // SAFETY: pointer and length are a slice's, which is borrowed alone, and every state is allowed.
         let advanced = unsafe { ffi::mastdock_run_advance(self.clone(), budget, store.as_mut_ptr(), store.len()) };
         *self = advanced.run;
-        answered(advanced.refusal, advanced.labels)
+        answered(advanced.refusal, Made { labels: advanced.labels, blocks: advanced.blocks })
     }
 
     /// Writes the run's record over the front of `out` and gives its size, at most [`MAX_RECORD`](crate::MAX_RECORD) bytes.

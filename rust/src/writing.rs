@@ -1,6 +1,7 @@
 //! The openings of a whole file, written by budgets.
 use crate::ffi;
 use crate::refusal::{answered, Refusal};
+use crate::run::Made;
 use crate::sizes::labels_anew;
 use crate::Opening;
 
@@ -47,11 +48,11 @@ impl Writing {
         answered(started.refusal, started.writing)
     }
 
-    /// Makes anew exactly the smaller of the budget and the labels that remain for all openings, gives that number, and puts the
-    /// labels of the openings in their places of the file. The file is done when no label remains: see
+    /// Makes anew exactly the smaller of the budget and the labels that remain for all openings, gives that number with the blocks of
+    /// these labels, and puts the labels of the openings in their places of the file. The file is done when no label remains: see
     /// [`is_done`](Writing::is_done). Refused with 4, 3, 7, which changes nothing. 4: the opening cannot be continued, the count is
     /// not 1..200, the number not 1..count, or the opening is done but not the last.
-    pub fn advance(&mut self, budget: u64, store: &[u8], file: &mut [u8]) -> Result<u64, Refusal> {
+    pub fn advance(&mut self, budget: u64, store: &[u8], file: &mut [u8]) -> Result<Made, Refusal> {
         // SAFETY: pointers and lengths are those of slices; the file is borrowed alone; every state is allowed.
         let advanced = unsafe {
             ffi::mastdock_writing_advance(
@@ -64,7 +65,7 @@ impl Writing {
             )
         };
         *self = advanced.writing;
-        answered(advanced.refusal, advanced.labels)
+        answered(advanced.refusal, Made { labels: advanced.labels, blocks: advanced.blocks })
     }
     /// Whether the whole file is written: the last opening is under way and has no label left to make.
     pub fn is_done(&self) -> bool {

@@ -69,18 +69,18 @@ class State:
         return 0
 
     def finish(self):
-        """The refusal and the digest, which is zero if refused."""
+        """The refusal, the blocks of all bytes taken with their padding, and the digest; 0 and zero if refused."""
         if self.taken > LIMIT:
-            return 5, bytes(32)
+            return 5, 0, bytes(32)
         end = State(self.words, self.tail, self.taken)
         zeros = (55 - self.taken) % 64
         end.push(b"\x80" + bytes(zeros) + (8 * self.taken).to_bytes(8, "big"))
-        return 0, b"".join(x.to_bytes(4, "big") for x in end.words)
+        return 0, end.taken // 64, b"".join(x.to_bytes(4, "big") for x in end.words)
 
 
 def agrees():
-    """The compression is hashlib's, at every length of two blocks."""
+    """The compression is hashlib's, and the blocks are those of W-207, at every length of two blocks."""
     for length in range(130):
         state = State()
         state.update(bytes(range(length)))
-        assert state.finish() == (0, hashlib.sha256(bytes(range(length))).digest())
+        assert state.finish() == (0, (length + 8) // 64 + 1, hashlib.sha256(bytes(range(length))).digest())

@@ -29,6 +29,11 @@ def hash_input(statement, level, position, labels):
     return statement + bytes([level]) + position.to_bytes(8, "big") + b"".join(labels)
 
 
+def blocks(length):
+    """W-207: the 64-byte blocks compressed for a message of so many bytes, '(L + 8) divided by 64, rounded down, plus 1'."""
+    return (length + 8) // 64 + 1
+
+
 def labelling_order(n, level=0, position=0):
     """A left subtree, then the right, then the node above."""
     if level < n:
@@ -157,19 +162,21 @@ class Subtree:
     """Labels made in order within a subtree, with the held ones: what runs and openings share."""
 
     def label(self, top, height, above):
-        """The label of the next node below or at the top, whose left siblings above the subtree have these labels."""
+        """The label of the next node below or at the top, whose left siblings above the subtree have these labels, and the blocks of
+        its hash input."""
         level, position = node_at(height, *top, self.made)
         h = held_before(height, self.made)
         places = [self.held[32 * i : 32 * i + 32] for i in range(PLACES)]
         taken = above + places[:h] if level == self.n else places[h - 2 : h]
-        label = sha(hash_input(self.statement, level, position, taken))
+        data = hash_input(self.statement, level, position, taken)
+        label = sha(data)
         if level < self.n:
             places[h - 2 : h] = [label, ZERO]
         else:
             places[h] = label
         self.held = b"".join(places)
         self.made += 1
-        return level, position, label
+        return level, position, label, blocks(len(data))
 
 
 class Run(Subtree):
@@ -186,16 +193,17 @@ class Run(Subtree):
         return row((4, self.impossible), (3, lambda: store < store_size(self.m)))
 
     def advance(self, budget, store):
-        """The refusal, and the labels made."""
+        """The refusal, the labels made, and the blocks of these."""
         refusal = self.continue_row(len(store))
         if refusal:
-            return refusal, 0
-        labels = min(budget, 2 ** (self.n + 1) - 1 - self.made)
+            return refusal, 0, 0
+        labels, cost = min(budget, 2 ** (self.n + 1) - 1 - self.made), 0
         for _ in range(labels):
-            level, position, label = self.label((0, 0), self.n, [])
+            level, position, label, more = self.label((0, 0), self.n, [])
+            cost += more
             if level <= self.m:
                 store[slot(level, position) : slot(level, position) + 32] = label
-        return 0, labels
+        return 0, labels, cost
 
 
 def start_run(statement, n, m, store):
@@ -224,25 +232,25 @@ class Opening(Subtree):
                 out[at + 32 * place : at + 32 * place + 32] = store[slot(level, p) : slot(level, p) + 32]
 
     def step(self, store, out, at=0):
+        """One label anew; gives its blocks."""
         n, m, ancestor = self.n, self.m, self.leaf >> (self.n - self.m)
         above = [bytes(store[slot(*node) : slot(*node) + 32]) for node in left_siblings(m, ancestor)]
-        level, position, label = self.label((m, ancestor), n - m, above)
+        level, position, label, cost = self.label((m, ancestor), n - m, above)
         own = self.leaf >> (n - level)
         if level == n and position == own:
             out[at : at + 32] = label
         elif position == own ^ 1:
             out[at + 32 * (n - level + 1) : at + 32 * (n - level + 2)] = label
+        return cost
 
     def advance(self, budget, store, out):
         refusal = row(
             (4, self.impossible), (3, lambda: len(store) < store_size(self.m)), (7, lambda: len(out) < opening_size(self.n))
         )
         if refusal:
-            return refusal, 0
+            return refusal, 0, 0
         labels = min(budget, self.remaining())
-        for _ in range(labels):
-            self.step(store, out)
-        return 0, labels
+        return 0, labels, sum(self.step(store, out) for _ in range(labels))
 
 
 def start_opening(statement, n, m, leaf, store, out):
@@ -286,14 +294,14 @@ class Writing:
             (4, self.impossible), (3, lambda: len(store) < store_size(o.m)), (7, lambda: len(file) < file_size(o.n, self.count))
         )
         if refusal:
-            return refusal, 0
-        labels = 0
+            return refusal, 0, 0
+        labels, cost = 0, 0
         while labels < budget and self.opening.remaining():
-            self.opening.step(store, file, self.place())
+            cost += self.opening.step(store, file, self.place())
             labels += 1
             if not self.opening.remaining() and self.number < self.count:
                 self.begin(self.number + 1, store, file)
-        return 0, labels
+        return 0, labels, cost
 
 
 def start_writing(statement, root, n, m, t, store, file):

@@ -16,10 +16,19 @@ def crate(name):
     return ROOT / "crates" / name
 
 
+def fields(path):
+    """The lines of a file that are no comment, as fields."""
+    return [line.split(" ") for line in path.read_text().split("\n") if line and not line.startswith("#")]
+
+
 def lines(name, file="stdin"):
-    """The lines of a crate's standard input, or of another file of it, that are no comment, as fields."""
-    text = (crate(name) / file).read_text()
-    return [line.split(" ") for line in text.split("\n") if line and not line.startswith("#")]
+    """Those of a crate's standard input, or of another file of it."""
+    return fields(crate(name) / file)
+
+
+def shared(name):
+    """Those of a file of shared vectors."""
+    return fields(ROOT / "rust/tests/vectors" / name)
 
 
 def report(field):
@@ -49,14 +58,14 @@ def digests():
         named.append((str(length), bytes((7 * i + length) % 256 for i in range(length))))
     text = ""
     for name, message in named:
-        digest = sha(message).hex()
-        text += f"{name}\n one portion {digest}\n cut {digest}\n one call {digest}\n"
+        end = f"{sha(message).hex()} blocks {md.blocks(len(message))}"
+        text += f"{name}\n one portion {end}\n cut {end}\n one call {end}\n"
     limit = fips.LIMIT
     for taken, part in [(limit - 3, b"abc"), (limit - 2, b"abc"), (limit, b""), (limit, b"a"), (limit + 1, b""), (BIG, b"abc")]:
         state = fips.State(taken=taken)
         refusal = state.update(part)
-        end, digest = state.finish()
-        text += f"{taken} portion {refusal} taken {state.taken} end {end} {digest.hex()}\n"
+        end, cost, digest = state.finish()
+        text += f"{taken} portion {refusal} taken {state.taken} end {end} {digest.hex()} blocks {cost}\n"
     return text
 
 
@@ -97,8 +106,8 @@ def run_edges():
         text += f"n {n} m {m} made {made} store {size}: start {refusal} run {sha(run.bytes()).hex()} store {before.hex()} same"
         run = md.Run(bytes([7] * 32), n, m, made, bytes([9] * 1312))
         old = run.bytes()
-        refusal, labels = run.advance(1, store)
-        text += f" continue {refusal} labels {labels} run {sha(run.bytes()).hex()}{flag(run.bytes() == old)}"
+        refusal, labels, cost = run.advance(1, store)
+        text += f" continue {refusal} labels {labels} blocks {cost} run {sha(run.bytes()).hex()}{flag(run.bytes() == old)}"
         text += f" store {sha(store).hex()}{flag(sha(store) == before)}\n"
     return text
 
@@ -108,7 +117,7 @@ def opened(labels, m, leaf, size):
     out = bytearray([90] * size)
     store = bytearray(labels.store(m))
     refusal, opening = md.start_opening(labels.statement, labels.n, m, leaf, store, out)
-    refusal, made = opening.advance(BIG, store, out)
+    refusal, made, _ = opening.advance(BIG, store, out)
     assert out[: md.opening_size(labels.n)] == labels.opening(leaf) and made == md.nodes_anew(labels.n, m)
     return bytes(out), made
 
@@ -135,8 +144,8 @@ def openings():
         text += f"{n} {m} {leaf} {made} {store_len} {out_len}: start {refusal}{flag(out == bytes([2] * out_len))}"
         out = bytearray([2] * out_len)
         opening = md.Opening(bytes([7] * 32), n, m, leaf, made, bytes([9] * 1312))
-        refusal, labels = opening.advance(1, store, out)
-        text += f" continue {refusal} labels {labels}{flag(out == bytes([2] * out_len))}\n"
+        refusal, labels, cost = opening.advance(1, store, out)
+        text += f" continue {refusal} labels {labels} blocks {cost}{flag(out == bytes([2] * out_len))}\n"
     return text
 
 
@@ -161,8 +170,41 @@ def openings_checked():
     return text
 
 
+# W-207: how many numbers of a line of blocks.txt are given; the others are answered
+GIVEN = {"m": 1, "r": 3, "o": 5}
+
+
+def block_numbers(kind, *given):
+    """W-207: the blocks of a message; or the labels and blocks of a call on a run or an opening that was brought to some labels made."""
+    if kind == "m":
+        refusal, cost, _ = fips.State(taken=given[0]).finish()
+        assert refusal == 0 and cost == md.blocks(given[0])
+        return (cost,)
+    *state, made, budget = given
+    if kind == "r":
+        lent, called = [bytearray(32)], md.Run(bytes([9] * 32), *state, 0)
+    else:
+        n, m, leaf = state
+        lent = [bytearray(md.store_size(m)), bytearray(md.opening_size(n))]
+        _, called = md.start_opening(bytes([9] * 32), n, m, leaf, *lent)
+    called.advance(made, *lent)
+    refusal, labels, cost = called.advance(budget, *lent)
+    assert refusal == 0 and called.made == made + labels
+    return labels, cost
+
+
+def blocks():
+    """Of blocks.txt all but the message that no memory holds, whose end is among those of `digests`."""
+    text = ""
+    for kind, *numbers in shared("blocks.txt"):
+        given = list(map(int, numbers[: GIVEN[kind]]))
+        if given != [fips.LIMIT]:
+            text += " ".join(map(str, (kind, *given, *block_numbers(kind, *given)))) + "\n"
+    return text
+
+
 def unit_vectors():
-    return digests() + runs() + run_edges() + openings() + openings_checked()
+    return digests() + runs() + run_edges() + openings() + openings_checked() + blocks()
 
 
 # record_vectors
@@ -260,13 +302,13 @@ def record_vectors():
 
 
 def written(labels, m, t, budget):
-    """A file written by budgets over bytes that held something else: calls, labels and bytes."""
-    file, store, calls, made = bytearray([90] * 1024), bytearray(labels.store(m)), 0, 0
+    """A file written by budgets over bytes that held something else: calls, labels, their blocks, and bytes."""
+    file, store, calls, made, cost = bytearray([90] * 1024), bytearray(labels.store(m)), 0, 0, 0
     refusal, writing = md.start_writing(labels.statement, labels.root, labels.n, m, t, store, file)
     while (step := writing.advance(budget, store, file))[1]:
-        calls, made = calls + 1, made + step[1]
+        calls, made, cost = calls + 1, made + step[1], cost + step[2]
     assert file[: md.file_size(labels.n, t)] == labels.file(t)
-    return refusal, calls, made, bytes(file)
+    return refusal, calls, made, cost, bytes(file)
 
 
 def files():
@@ -276,9 +318,9 @@ def files():
         for m in (0, n // 2, n):
             text += f"file {n} {t} {m}"
             for budget in (1, 7, BIG):
-                refusal, calls, made, out = written(labels, m, t, budget)
+                refusal, calls, made, cost, out = written(labels, m, t, budget)
                 code = md.check_code(out[: len(file)], labels.statement, n, t)
-                text += f" start {refusal} {calls} {made} {sha(out).hex()} {code}"
+                text += f" start {refusal} {calls} {made} {cost} {sha(out).hex()} {code}"
             text += "\n"
         for i in [0, BIG, *range(t, 0, -1), t + 1]:
             part = md.opening_part(file, i)
@@ -308,9 +350,9 @@ def file_edges():
         file = bytearray([2] * file_len)
         opening = md.Opening(bytes([7] * 32), n, m, leaf, made, bytes([9] * 1312))
         writing = md.Writing(bytes([8] * 32), t, number, opening)
-        refusal, labels = writing.advance(1, store, file)
+        refusal, labels, cost = writing.advance(1, store, file)
         o = writing.opening
-        text += f" continue {refusal} labels {labels}{flag(file == bytes([2] * file_len))}"
+        text += f" continue {refusal} labels {labels} blocks {cost}{flag(file == bytes([2] * file_len))}"
         text += f" {writing.count} {writing.number} {o.n} {o.m} {o.leaf} {o.made}"
         text += "".join(" " + sha(part).hex() for part in (writing.root, o.statement, o.held)) + "\n"
     return text

@@ -1,12 +1,8 @@
 """The model against the shared vectors, which another model made: those that the Rust crate's tests have."""
 import mastdock as md
 from mastdock import sha
-from outputs import ROOT, places_digest, report, tree
-
-
-def lines(name):
-    text = (ROOT / "rust/tests/vectors" / name).read_text()
-    return [line.split(" ") for line in text.split("\n") if line and not line.startswith("#")]
+from outputs import GIVEN, block_numbers, places_digest, report, tree
+from outputs import shared as lines
 
 
 def read_back(data, refusal):
@@ -36,6 +32,9 @@ def agree():
         refusal, run = md.read_record(report(data))
         assert (run.statement.hex(), run.n, run.m, run.made) == (statement, int(n), int(m), int(made)), data
         assert (md.held_size(run), sha(run.held).hex()) == (32 * int(count), held) and read_back(report(data), 0), data
+    for kind, *numbers in lines("blocks.txt"):
+        given, answered = numbers[: GIVEN[kind]], numbers[GIVEN[kind] :]
+        assert list(map(str, block_numbers(kind, *map(int, given)))) == answered, (kind, *numbers)
     for field, n, t, file in lines("files.txt"):
         assert tree(sha(report(field)), int(n)).file(int(t)).hex() == file, (field, n, t)
     for file, statement, n, t, code in lines("checks.txt"):
@@ -47,5 +46,5 @@ def agree():
         file = labels.file(int(t))
         found = md.chain(int(n), md.challenge_leaves(int(n), labels.statement, labels.root, int(t)))
         assert (len(file), sha(file).hex(), len(found), places_digest(found)) == (int(size), digest, int(count), nodes), field
-    names = ("sha256", "roots", "records", "records-deep", "files", "checks", "plans", "plans-none", "chains")
+    names = ("sha256", "roots", "records", "records-deep", "blocks", "files", "checks", "plans", "plans-none", "chains")
     return sum(len(lines(f"{name}.txt")) for name in names)

@@ -3,7 +3,7 @@ ghost use mathlib.Core.Path.{_≡_};
 ghost use lib.ListN.{length};
 ghost use Rattle.opening.specs.Rows.{openRow, reopenRow};
 ghost use Rattle.opening.specs.Names.{openOf};
-ghost use Rattle.opening.specs.Steps.{started, startedOut, labelsIn, advanced};
+ghost use Rattle.opening.specs.Steps.{started, startedOut, labelsIn, blocksIn, advanced};
 use base::outcome_number;
 use opening::Opening;
 
@@ -17,6 +17,7 @@ pub struct OpeningStarted {
 pub struct OpeningAdvanced {
     pub refusal: u64,
     pub labels: u64,
+    pub blocks: u64,
     pub opening: Opening,
 }
 
@@ -43,7 +44,7 @@ pub extern "C" fn mastdock_opening_start(
     }
 }
 
-// Labels anew the smaller of the budget and what remains.
+// Labels anew the smaller of the budget and what remains; `blocks` are those of the labels made in this call.
 #[no_mangle]
 pub extern "C" fn mastdock_opening_advance(
     opening: Opening,
@@ -53,16 +54,19 @@ pub extern "C" fn mastdock_opening_advance(
 ) -> OpeningAdvanced
     ensures { λ r. ⌜ r .refusal ≡ reopenRow opening (length (now (store .entry))) (length (now (out .entry))) ⌝ }
     ensures { λ r. ⌜ r .labels ≡ labelsIn (now (store .entry)) (openOf opening (now (out .entry))) budget ⌝ }
+    ensures { λ r. ⌜ r .blocks ≡ blocksIn (now (store .entry)) (openOf opening (now (out .entry))) budget ⌝ }
     ensures { λ r. ⌜ r .opening ≡ advanced (now (store .entry)) (openOf opening (now (out .entry))) budget .opening ⌝ }
     ensures { λ r. ⌜ now (out .exit) ≡ advanced (now (store .entry)) (openOf opening (now (out .entry))) budget .out ⌝ }
 {
     let a = opening.advance(budget, store, out);
     let outcome = a.outcome;
     let labels = a.labels;
+    let blocks = a.blocks;
     let next = a.opening;
     OpeningAdvanced {
         refusal: outcome_number(outcome),
         labels,
+        blocks,
         opening: next,
     }
 }

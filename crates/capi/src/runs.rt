@@ -2,7 +2,7 @@
 ghost use mathlib.Core.Path.{_≡_};
 ghost use lib.ListN.{length};
 ghost use Rattle.run.specs.Rows.{startRow, continueRow};
-ghost use Rattle.run.specs.Steps.{started, stamped, labelsIn, advanced};
+ghost use Rattle.run.specs.Steps.{started, stamped, labelsIn, blocksIn, advanced};
 ghost use Rattle.run_record.specs.Layout.{recordRow, recordSize, recordWritten};
 ghost use Rattle.run_record.specs.Reading.{resumeRow, resumed};
 use base::outcome_number;
@@ -18,6 +18,7 @@ pub struct RunStarted {
 pub struct RunAdvanced {
     pub refusal: u64,
     pub labels: u64,
+    pub blocks: u64,
     pub run: Run,
 }
 
@@ -47,21 +48,24 @@ pub extern "C" fn mastdock_run_start(
     }
 }
 
-// Labels the smaller of the budget and what remains.
+// Labels the smaller of the budget and what remains; `blocks` are those of the labels made in this call.
 #[no_mangle]
 pub extern "C" fn mastdock_run_advance(run: Run, budget: u64, store: &mut [u8]) -> RunAdvanced
     ensures { λ r. ⌜ r .refusal ≡ continueRow run (length (now (store .entry))) ⌝ }
     ensures { λ r. ⌜ r .labels ≡ labelsIn (stamped run (now (store .entry))) budget ⌝ }
+    ensures { λ r. ⌜ r .blocks ≡ blocksIn (stamped run (now (store .entry))) budget ⌝ }
     ensures { λ r. ⌜ r .run ≡ advanced (stamped run (now (store .entry))) budget .run ⌝ }
     ensures { λ r. ⌜ now (store .exit) ≡ advanced (stamped run (now (store .entry))) budget .store ⌝ }
 {
     let a = run.advance(budget, store);
     let outcome = a.outcome;
     let labels = a.labels;
+    let blocks = a.blocks;
     let next = a.run;
     RunAdvanced {
         refusal: outcome_number(outcome),
         labels,
+        blocks,
         run: next,
     }
 }

@@ -3,7 +3,7 @@ ghost use mathlib.Core.Path.{_≡_};
 ghost use lib.ListN.{length};
 ghost use Rattle.writing.specs.Rows.{writeRow, rewriteRow};
 ghost use Rattle.writing.specs.Possible.{writtenOf};
-ghost use Rattle.writing.specs.Steps.{started, labelsIn, advanced};
+ghost use Rattle.writing.specs.Steps.{started, labelsIn, blocksIn, advanced};
 use base::outcome_number;
 use writing::Writing;
 
@@ -17,6 +17,7 @@ pub struct WritingStarted {
 pub struct WritingAdvanced {
     pub refusal: u64,
     pub labels: u64,
+    pub blocks: u64,
     pub writing: Writing,
 }
 
@@ -45,7 +46,7 @@ pub extern "C" fn mastdock_writing_start(
     }
 }
 
-// Labels anew the smaller of the budget and what remains for all openings.
+// Labels anew the smaller of the budget and what remains for all openings; `blocks` are those of the labels made in this call.
 #[no_mangle]
 pub extern "C" fn mastdock_writing_advance(
     writing: Writing,
@@ -55,16 +56,19 @@ pub extern "C" fn mastdock_writing_advance(
 ) -> WritingAdvanced
     ensures { λ r. ⌜ r .refusal ≡ rewriteRow writing (length (now (store .entry))) (length (now (file .entry))) ⌝ }
     ensures { λ r. ⌜ r .labels ≡ labelsIn (now (store .entry)) (writtenOf writing (now (file .entry))) budget ⌝ }
+    ensures { λ r. ⌜ r .blocks ≡ blocksIn (now (store .entry)) (writtenOf writing (now (file .entry))) budget ⌝ }
     ensures { λ r. ⌜ r .writing ≡ advanced (now (store .entry)) (writtenOf writing (now (file .entry))) budget .writing ⌝ }
     ensures { λ _. ⌜ now (file .exit) ≡ advanced (now (store .entry)) (writtenOf writing (now (file .entry))) budget .file ⌝ }
 {
     let a = writing.advance(budget, store, file);
     let outcome = a.outcome;
     let labels = a.labels;
+    let blocks = a.blocks;
     let next = a.writing;
     WritingAdvanced {
         refusal: outcome_number(outcome),
         labels,
+        blocks,
         writing: next,
     }
 }

@@ -34,22 +34,25 @@ pub hash-updated : (r : HashUpdated) {a : ℕ} {b : Hash} → r .refusal ≡ a �
 hash-updated r pa pb = rw (sym pa, sym pb)
 
 pub hash-finished :
-    (r : HashFinished) {a : ℕ} {b : List ℕ} {c : Hash} →
-    r .refusal ≡ a → r .digest ≡ b → r .hash ≡ c →
-    r ≡ record { refusal = a; digest = b; hash = c }
-hash-finished r pa pb pc = rw (sym pa, sym pb, sym pc)
+    (r : HashFinished) {a b : ℕ} {c : List ℕ} {d : Hash} →
+    r .refusal ≡ a → r .blocks ≡ b → r .digest ≡ c → r .hash ≡ d →
+    r ≡ record { refusal = a; blocks = b; digest = c; hash = d }
+hash-finished r pa pb pc pd = rw (sym pa, sym pb, sym pc, sym pd)
 
-pub hash-digest : (r : HashDigest) {a : ℕ} {b : List ℕ} → r .refusal ≡ a → r .digest ≡ b → r ≡ record { refusal = a; digest = b }
-hash-digest r pa pb = rw (sym pa, sym pb)
+pub hash-digest :
+    (r : HashDigest) {a b : ℕ} {c : List ℕ} →
+    r .refusal ≡ a → r .blocks ≡ b → r .digest ≡ c →
+    r ≡ record { refusal = a; blocks = b; digest = c }
+hash-digest r pa pb pc = rw (sym pa, sym pb, sym pc)
 
 pub run-started : (r : RunStarted) {a : ℕ} {b : Run} → r .refusal ≡ a → r .run ≡ b → r ≡ record { refusal = a; run = b }
 run-started r pa pb = rw (sym pa, sym pb)
 
 pub run-advanced :
-    (r : RunAdvanced) {a b : ℕ} {c : Run} →
-    r .refusal ≡ a → r .labels ≡ b → r .run ≡ c →
-    r ≡ record { refusal = a; labels = b; run = c }
-run-advanced r pa pb pc = rw (sym pa, sym pb, sym pc)
+    (r : RunAdvanced) {a b c : ℕ} {d : Run} →
+    r .refusal ≡ a → r .labels ≡ b → r .blocks ≡ c → r .run ≡ d →
+    r ≡ record { refusal = a; labels = b; blocks = c; run = d }
+run-advanced r pa pb pc pd = rw (sym pa, sym pb, sym pc, sym pd)
 
 pub run-recorded : (r : RunRecorded) {a b : ℕ} → r .refusal ≡ a → r .size ≡ b → r ≡ record { refusal = a; size = b }
 run-recorded r pa pb = rw (sym pa, sym pb)
@@ -61,10 +64,10 @@ pub opening-started :
 opening-started r pa pb = rw (sym pa, sym pb)
 
 pub opening-advanced :
-    (r : OpeningAdvanced) {a b : ℕ} {c : Opening} →
-    r .refusal ≡ a → r .labels ≡ b → r .opening ≡ c →
-    r ≡ record { refusal = a; labels = b; opening = c }
-opening-advanced r pa pb pc = rw (sym pa, sym pb, sym pc)
+    (r : OpeningAdvanced) {a b c : ℕ} {d : Opening} →
+    r .refusal ≡ a → r .labels ≡ b → r .blocks ≡ c → r .opening ≡ d →
+    r ≡ record { refusal = a; labels = b; blocks = c; opening = d }
+opening-advanced r pa pb pc pd = rw (sym pa, sym pb, sym pc, sym pd)
 
 pub challenged : (r : Challenged) {a b : ℕ} → r .refusal ≡ a → r .leaf ≡ b → r ≡ record { refusal = a; leaf = b }
 challenged r pa pb = rw (sym pa, sym pb)
@@ -85,10 +88,10 @@ pub writing-started :
 writing-started r pa pb = rw (sym pa, sym pb)
 
 pub writing-advanced :
-    (r : WritingAdvanced) {a b : ℕ} {c : Writing} →
-    r .refusal ≡ a → r .labels ≡ b → r .writing ≡ c →
-    r ≡ record { refusal = a; labels = b; writing = c }
-writing-advanced r pa pb pc = rw (sym pa, sym pb, sym pc)
+    (r : WritingAdvanced) {a b c : ℕ} {d : Writing} →
+    r .refusal ≡ a → r .labels ≡ b → r .blocks ≡ c → r .writing ≡ d →
+    r ≡ record { refusal = a; labels = b; blocks = c; writing = d }
+writing-advanced r pa pb pc pd = rw (sym pa, sym pb, sym pc, sym pd)
 
 pub planned : (r : Planned) {a b : ℕ} → r .refusal ≡ a → r .count ≡ b → r ≡ record { refusal = a; count = b }
 planned r pa pb = rw (sym pa, sym pb)

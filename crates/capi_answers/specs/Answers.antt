@@ -5,7 +5,7 @@ use lib.ListN.{length}
 use Rattle.base.specs.Limits.{edition}
 use Rattle.base.specs.Bytes.{zeros}
 use Rattle.sha256.specs.declared.Hash.{Hash}
-use Rattle.sha256.specs.Portions.{updateRow, updateState, finishRow, finishDigest, digestRow, digestAnswer}
+use Rattle.sha256.specs.Portions.{updateRow, updateState, finishRow, finishBlocks, finishDigest, digestRow, digestBlocks, digestAnswer}
 use Rattle.run.specs.declared.Run.{Run}
 use Rattle.run.specs.Rows.{startRow, continueRow}
 use Rattle.run.specs.Steps as runs
@@ -55,11 +55,11 @@ hashUpdate hash part =
 
 abbrev pub hashFinish : Hash → HashFinished
 hashFinish hash =
-    record { refusal = finishRow hash; digest = finishDigest hash; hash = hash }
+    record { refusal = finishRow hash; blocks = finishBlocks hash; digest = finishDigest hash; hash = hash }
 
 abbrev pub digest : List ℕ → HashDigest
 digest message =
-    record { refusal = digestRow message; digest = digestAnswer message }
+    record { refusal = digestRow message; blocks = digestBlocks message; digest = digestAnswer message }
 
 abbrev pub runStart : List ℕ → ℕ → ℕ → List ℕ → RunStarted
 runStart statement depth memory store =
@@ -73,6 +73,7 @@ runAdvance run budget store =
     record {
       refusal = continueRow run (length store);
       labels = runs.labelsIn (runs.stamped run store) budget;
+      blocks = runs.blocksIn (runs.stamped run store) budget;
       run = runs.advanced (runs.stamped run store) budget .run;
     }
 
@@ -96,6 +97,7 @@ openingAdvance opening budget store out =
     record {
       refusal = reopenRow opening (length store) (length out);
       labels = openings.labelsIn store (openOf opening out) budget;
+      blocks = openings.blocksIn store (openOf opening out) budget;
       opening = openings.advanced store (openOf opening out) budget .opening;
     }
 
@@ -123,6 +125,7 @@ writingAdvance writing budget store file =
     record {
       refusal = rewriteRow writing (length store) (length file);
       labels = writings.labelsIn store (writtenOf writing file) budget;
+      blocks = writings.blocksIn store (writtenOf writing file) budget;
       writing = writings.advanced store (writtenOf writing file) budget .writing;
     }
 

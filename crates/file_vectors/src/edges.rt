@@ -46,6 +46,7 @@ fn continues(writing: Writing, store: &[u8], file: &mut [u8]) {
     let outcome = step.outcome;
     named(b" continue ", outcome_number(outcome));
     named(b" labels ", step.labels);
+    named(b" blocks ", step.blocks);
     flag_digest(before, file);
     let after = step.writing;
     whole(after);

@@ -11,10 +11,11 @@ use vector_helpers::hash;
 use vector_helpers::named;
 use writing::Writing;
 
-// Calls with one budget until no label is left, at most 1,000 calls; prints how many made labels, and how many they made.
+// Calls with one budget until no label is left, at most 1,000 calls; prints how many made labels, how many they made, and their blocks.
 fn write_on(writing: Writing, budget: u64, store: &[u8], file: &mut [u8]) {
     let mut state = writing;
     let mut labels: u64 = 0;
+    let mut blocks: u64 = 0;
     let mut calls: u64 = 0;
     while calls < 1000 {
         let step = state.advance(budget, store, file);
@@ -23,9 +24,11 @@ fn write_on(writing: Writing, budget: u64, store: &[u8], file: &mut [u8]) {
         if step.labels == 0 {
             column(calls);
             column(labels);
+            column(blocks);
             return;
         }
         labels = (labels + step.labels % 1000000) % 1000000000;
+        blocks = (blocks + step.blocks % 1000000) % 1000000000;
         calls += 1;
     }
 }

@@ -4,6 +4,7 @@ use base::outcome_number;
 ghost use mathlib.Core.Path.{_≡_};
 ghost use Prim.Native.Nat.{min};
 use compression::Words;
+use sha256::Finished;
 use sha256::Hash;
 use sha256::digest;
 use vector_helpers::named;
@@ -26,8 +27,8 @@ fn least(a: usize, b: usize) -> usize
     if a <= b { a } else { b }
 }
 
-// The digest of a message taken in portions of 1, 2, 3, .. bytes, at most `widest`, and again from 1.
-fn cut(message: &[u8], widest: usize) -> [u8; 32] {
+// The end of a message taken in portions of 1, 2, 3, .. bytes, at most `widest`, and again from 1.
+fn cut(message: &[u8], widest: usize) -> Finished {
     let mut state = Hash::new();
     let mut at = 0;
     let mut width = 1;
@@ -40,28 +41,33 @@ fn cut(message: &[u8], widest: usize) -> [u8; 32] {
         at = end;
         width = if width < widest { width + 1 } else { 1 };
     }
-    let done = state.finish();
-    done.digest
+    state.finish()
 }
 
-fn whole(message: &[u8]) -> [u8; 32] {
+fn whole(message: &[u8]) -> Finished {
     let step = Hash::new().update(message);
-    let done = step.hash.finish();
-    done.digest
+    step.hash.finish()
 }
 
-fn line(name: &[u8], digest: [u8; 32]) {
+// A digest and its blocks.
+fn line(name: &[u8], digest: [u8; 32], blocks: u64) {
     named_hex(name, &digest);
+    named(b" blocks ", blocks);
     vector_helpers::end();
+}
+
+fn end_line(name: &[u8], end: Finished) {
+    let digest = end.digest;
+    line(name, digest, end.blocks);
 }
 
 // The three ways.
 fn three(message: &[u8]) {
-    line(b" one portion ", whole(message));
-    line(b" cut ", cut(message, 97));
+    end_line(b" one portion ", whole(message));
+    end_line(b" cut ", cut(message, 97));
     let once = digest(message);
     let answer = once.digest;
-    line(b" one call ", answer);
+    line(b" one call ", answer, once.blocks);
 }
 
 fn shared(message: &mut [u8], len: u64) {
@@ -119,8 +125,7 @@ fn limit(taken: u64, part: &[u8]) {
     let end = hash.finish();
     let ended = end.outcome;
     named(b" end ", outcome_number(ended));
-    let digest = end.digest;
-    line(b" ", digest);
+    end_line(b" ", end);
 }
 
 // The message of the shared vectors of this length, if there is room for it.

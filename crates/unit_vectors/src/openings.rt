@@ -116,6 +116,7 @@ fn continues(n: u64, m: u64, leaf: u64, made: u64, store: &[u8], out: &mut [u8])
     let outcome = step.outcome;
     named(b" continue ", outcome_number(outcome));
     named(b" labels ", step.labels);
+    named(b" blocks ", step.blocks);
     flag_digest(before, out);
 }
 

@@ -70,6 +70,7 @@ fn answered(before: Run, step: Advanced) {
     let after = step.run;
     named(b" continue ", outcome_number(outcome));
     named(b" labels ", step.labels);
+    named(b" blocks ", step.blocks);
     run_line(after);
     flag(same_run(before, after));
 }

@@ -4,8 +4,9 @@ use crate::model::chain::{compare, Clash};
 use crate::model::file::{groups, inputs};
 use crate::model::run::slot;
 use crate::model::sha256;
-use crate::model::tree::{input, parents, Node};
-use mastdock::{challenge, check_file, draw, file_size, plan, write_head, Opening, Refusal, Rejected, Run, Writing, MAX_STORE};
+use crate::model::tree::{cost, in_order, input, input_size, parents, place_in_order, size, Node, ROOT};
+use mastdock::{challenge, check_file, draw, file_size, plan, write_head};
+use mastdock::{ffi, Hash, Made, Opening, Refusal, Rejected, Run, Writing, MAX_STORE};
 
 pub fn run() {
     labels();
@@ -16,6 +17,9 @@ pub fn run() {
     limits();
     levels();
     writings();
+    message_blocks();
+    label_blocks();
+    no_blocks();
     clashes();
 }
 
@@ -23,6 +27,7 @@ pub fn run() {
 fn leaf_input(n: u64, leaf: u64) -> (Vec<Node>, usize) {
     let parents = parents(n, Node::at(n, leaf));
     let len = input(&[0; 32], Node::at(n, leaf), &vec![[0; 32]; parents.len()]).len();
+    assert_eq!(input_size(n, Node::at(n, leaf)), len as u64);
     (parents, len)
 }
 
@@ -114,7 +119,7 @@ fn limits() {
     let mut out = [0; 128];
     let mut opening = Opening::start(&[0; 32], 3, 3, 5, &store, &mut out).unwrap();
     assert_eq!(out, [7; 128]);
-    assert_eq!(opening.advance(1, &store, &mut out), Ok(0));
+    assert_eq!(opening.advance(1, &store, &mut out), Ok(Made::default()));
     assert_eq!(Opening::start(&[0; 32], 3, 4, 5, &store, &mut out), Err(Refusal::MemoryLevel));
     for (t, refused) in [(0, true), (201, true), (1, false), (200, false)] {
         assert_eq!(challenge(&[0; 32], &[0; 32], 1, t) == Err(Refusal::Count), refused);
@@ -164,17 +169,60 @@ fn writings() {
     let (store, mut file) = ([7; 224], [0; 300]);
     let anew = Writing::start(&[0; 32], &[0; 32], 2, 0, 2, &store, &mut file).unwrap();
     assert_eq!((anew.number, anew.opening.made), (1, 0));
-    for (number, answer) in [(1, Err(Refusal::State)), (2, Ok(0))] {
+    for (number, answer) in [(1, Err(Refusal::State)), (2, Ok(Made::default()))] {
         let mut done = Writing { number, ..anew.clone() };
         done.opening.made = 6;
         let (before, bytes) = (done.clone(), file);
         assert_eq!((done.advance(1, &store, &mut file), done, file), (answer, before, bytes));
     }
     let mut whole = Writing::start(&[0; 32], &[0; 32], 2, 2, 2, &store, &mut file).unwrap();
-    assert_eq!((whole.number, whole.advance(1, &store, &mut file)), (2, Ok(0)));
+    assert_eq!((whole.number, whole.advance(1, &store, &mut file)), (2, Ok(Made::default())));
     assert_eq!(file[67..259], [7; 192]);
     whole.number = 1;
     assert_eq!(whole.advance(0, &store, &mut file), Err(Refusal::State));
+}
+
+/// W-207: lengths at which a message needs a block more, and the longest one, by a state; of one byte more the end is refused, with 0
+/// blocks.
+fn message_blocks() {
+    for (len, blocks) in [(0, 1), (55, 1), (56, 2), (63, 2), (64, 2), (119, 2), (120, 3), (1321, 21)] {
+        assert_eq!(mastdock::digest_blocks(&vec![7; len]).map(|hashed| hashed.blocks), Ok(blocks));
+    }
+    for (taken, refusal, blocks) in [((1 << 61) - 1, 0, (1 << 55) + 1), (1 << 61, 5, 0), (u64::MAX, 5, 0)] {
+        // SAFETY: every state is allowed.
+        let finished = unsafe { ffi::mastdock_hash_finish(Hash { taken, ..Hash::new() }) };
+        assert_eq!((finished.refusal, finished.blocks), (refusal, blocks));
+    }
+}
+
+/// W-207: 'An inner node costs 2, a leaf without parents 1, the dearest leaf 21.' By a run of depth 40 that has come to the node, and in
+/// the model; and a whole run, whose blocks b are 4 (b + 2) = (n + 13) 2^n.
+fn label_blocks() {
+    let nodes = [(Node::at(40, 0), 1), (Node::at(39, 0), 2), (ROOT, 2), (Node::at(40, (1 << 40) - 1), 21)];
+    for (v, blocks) in nodes {
+        let mut run = Run { statement: [0; 32], depth: 40, memory: 0, made: place_in_order(40, v), held: [0; 1312] };
+        assert_eq!(run.advance(1, &mut [0; 32]), Ok(Made { labels: 1, blocks }));
+        assert_eq!(cost(40, v), blocks);
+    }
+    for n in 1..=12 {
+        let blocks: u64 = (0..size(n)).map(|k| cost(n, in_order(n, ROOT, k))).sum();
+        let mut run = Run::start(&[0; 32], n, 0, &[0; 32]).unwrap();
+        assert_eq!(run.advance(u64::MAX, &mut [0; 32]), Ok(Made { labels: size(n), blocks }));
+        assert_eq!(4 * (blocks + 2), (n + 13) << n);
+    }
+}
+
+/// W-207: with a budget of 0, and of a run or an opening that is done, no label and no block.
+fn no_blocks() {
+    let (mut store, mut out) = ([0; 96], [0; 128]);
+    for (made, budget) in [(0, 0), (7, 0), (15, 0), (15, 1), (15, u64::MAX)] {
+        let mut run = Run { statement: [0; 32], depth: 3, memory: 1, made, held: [0; 1312] };
+        assert_eq!(run.advance(budget, &mut store), Ok(Made::default()));
+    }
+    for (made, budget) in [(0, 0), (3, 0), (6, 0), (6, 1), (6, u64::MAX)] {
+        let mut opening = Opening { statement: [0; 32], depth: 3, memory: 1, leaf: 7, made, held: [0; 1312] };
+        assert_eq!(opening.advance(budget, &store, &mut out), Ok(Made::default()));
+    }
 }
 
 /// Openings of leaves 0, 1 and 0 at depth 2 by hand.

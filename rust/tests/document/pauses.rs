@@ -57,7 +57,7 @@ fn after_every_label(random: &mut Random) {
             let paused = pause(random, &run);
             assert_eq!(paused, run);
             run = paused;
-            assert_eq!(run.advance(1, &mut store), Ok(1));
+            assert_eq!(run.advance(1, &mut store).map(|made| made.labels), Ok(1));
         }
         assert_eq!(pause(random, &run).root(), Some(labels.root()));
         assert_eq!(store, labels.store(m));

@@ -3,11 +3,9 @@ use crate::cases::proof_file;
 use crate::model::chain::{draw, leaves_opened, plan, Drawn};
 use crate::model::file::{check, code};
 use crate::model::tree::{held, Labels, ROOT};
-use crate::model::{record, run, sha256, writing};
-use mastdock::{
-    check_file, digest, file_size, labels, labels_anew, store_size, Drawing, Rejected, Run, Writing, MAX_CHAIN,
-    MAX_RECORD,
-};
+use crate::model::{opening, record, run, sha256, writing};
+use mastdock::{check_file, digest, digest_blocks, file_size, labels, labels_anew, opening_size, store_size};
+use mastdock::{Drawing, Hash, Made, Opening, Rejected, Run, Writing, MAX_CHAIN, MAX_RECORD};
 
 /// The lines of a file of vectors, as words.
 fn lines(text: &str) -> impl Iterator<Item = Vec<&str>> {
@@ -32,7 +30,8 @@ fn number(word: &str) -> u64 {
 
 /// Runs all of them. Gives their number.
 pub fn run() -> usize {
-    digests() + roots() + records() + deep_records() + files() + old_files() + checks() + chains() + plans()
+    let before = digests() + blocks() + roots() + records() + deep_records();
+    before + files() + old_files() + checks() + chains() + plans()
 }
 
 /// `length L, SHA-256 of the L bytes whose i-th, from 0, is (7 i + L) mod 256`
@@ -43,6 +42,58 @@ fn digests() -> usize {
         let message: Vec<u8> = (0..len).map(|i| (7 * i + len) as u8).collect();
         assert_eq!(digest(&message), Ok(expected));
         assert_eq!(sha256::digest(&message), expected);
+        count += 1;
+    }
+    count
+}
+
+/// W-207: a message of so many bytes in one call, where there is room for it, and the end of a state that has taken them.
+fn message_blocks(len: u64, blocks: u64) {
+    let state = Hash { taken: len, ..Hash::new() };
+    assert_eq!((state.finish_blocks().unwrap().blocks, sha256::finish(&state).unwrap().blocks), (blocks, blocks));
+    if len <= 65536 {
+        let message = vec![7; len as usize];
+        assert_eq!(digest_blocks(&message), Ok(sha256::hashed(&message)));
+        assert_eq!(sha256::hashed(&message).blocks, blocks);
+    }
+}
+
+/// A call on a run that has made so many labels, at the smallest and the greatest memory level.
+fn run_blocks(n: u64, made: u64, budget: u64, expected: Made) {
+    for m in [0, n] {
+        let mut store = vec![0; store_size(m).unwrap()];
+        let mut run = Run::start(&[9; 32], n, m, &store).unwrap();
+        assert_eq!(run.advance(made, &mut store).map(|made| made.labels), Ok(made));
+        let (mut model, mut model_store) = (run.clone(), store.clone());
+        assert_eq!(run.advance(budget, &mut store), Ok(expected));
+        assert_eq!(run::advance(&mut model, budget, &mut model_store), Ok(expected));
+    }
+}
+
+/// A call on an opening that has made so many labels. What a label costs does not depend on the store.
+fn opening_blocks(n: u64, m: u64, leaf: u64, made: u64, budget: u64, expected: Made) {
+    let (store, mut out) = (vec![0; store_size(m).unwrap()], vec![0; opening_size(n).unwrap()]);
+    let mut opening = Opening::start(&[9; 32], n, m, leaf, &store, &mut out).unwrap();
+    assert_eq!(opening.advance(made, &store, &mut out).map(|made| made.labels), Ok(made));
+    let mut model = opening.clone();
+    assert_eq!(opening.advance(budget, &store, &mut out), Ok(expected));
+    assert_eq!(opening::advance(&mut model, budget, &store, &mut out), Ok(expected));
+}
+
+/// W-207: `m, length of a message, blocks`; `r, a run's depth, labels made before the call, budget, labels made in it, blocks of these`;
+/// `o, an opening's depth, memory level, leaf, labels made before the call, budget, labels made in it, blocks`
+fn blocks() -> usize {
+    let mut count = 0;
+    for words in lines(include_str!("../vectors/blocks.txt")) {
+        let numbers: Vec<u64> = words[1..].iter().map(|word| number(word)).collect();
+        match (words[0], &numbers[..]) {
+            ("m", &[len, blocks]) => message_blocks(len, blocks),
+            ("r", &[n, made, budget, labels, blocks]) => run_blocks(n, made, budget, Made { labels, blocks }),
+            ("o", &[n, m, leaf, made, budget, labels, blocks]) => {
+                opening_blocks(n, m, leaf, made, budget, Made { labels, blocks })
+            }
+            _ => panic!("not a line of blocks.txt: {words:?}"),
+        }
         count += 1;
     }
     count
@@ -62,7 +113,7 @@ fn by_budgets(mut left: u64, mut call: impl FnMut(u64) -> u64) {
 fn stamp(statement: &[u8; 32], n: u64, m: u64) -> (Run, Vec<u8>) {
     let mut store = vec![0; store_size(m).unwrap()];
     let mut run = Run::start(statement, n, m, &store).unwrap();
-    by_budgets(labels(n).unwrap(), |budget| run.advance(budget, &mut store).unwrap());
+    by_budgets(labels(n).unwrap(), |budget| run.advance(budget, &mut store).unwrap().labels);
     (run, store)
 }
 
@@ -76,7 +127,7 @@ fn roots() -> usize {
         assert_eq!((run.root(), digest(&store)), (Some(root), Ok(label(words[4]))));
         let mut model_store = vec![0; run::store_size(m)];
         let mut model = run::start(&statement, n, m, &model_store).unwrap();
-        assert_eq!(run::advance(&mut model, u64::MAX, &mut model_store), Ok(run.made));
+        assert_eq!(run::advance(&mut model, u64::MAX, &mut model_store).map(|made| made.labels), Ok(run.made));
         assert!(model == run && model_store == store);
         count += 1;
     }
@@ -106,7 +157,7 @@ fn records() -> usize {
         }
         let mut store = vec![0; store_size(m).unwrap()];
         let mut run = Run::start(&label(words[0]), n, m, &store).unwrap();
-        assert_eq!(run.advance(made, &mut store), Ok(made));
+        assert_eq!(run.advance(made, &mut store).map(|made| made.labels), Ok(made));
         assert_eq!((recorded(&run), Run::resume(&bytes)), (bytes.clone(), Ok(run.clone())));
         assert_eq!((record::record_of(&run), record::read(&bytes)), (bytes, Ok(run)));
     }
@@ -141,7 +192,7 @@ fn file_over(statement: &[u8; 32], root: &[u8; 32], n: u64, m: u64, t: u64, stor
     let mut file = vec![0; file_size(n, t).unwrap()];
     let mut writing = Writing::start(statement, root, n, m, t, store, &mut file).unwrap();
     let anew = t * labels_anew(n, m).unwrap();
-    by_budgets(anew, |budget| writing.advance(budget, store, &mut file).unwrap());
+    by_budgets(anew, |budget| writing.advance(budget, store, &mut file).unwrap().labels);
     file
 }
 
@@ -150,7 +201,7 @@ fn seal_by_model(labels: &Labels, m: u64, t: u64) -> Vec<u8> {
     let store = labels.store(m);
     let mut file = vec![0; file_size(labels.n, t).unwrap()];
     let mut writing = writing::start(&labels.statement, &labels.root(), labels.n, m, t, &store, &mut file).unwrap();
-    while writing::advance(&mut writing, 37, &store, &mut file).unwrap() != 0 {}
+    while writing::advance(&mut writing, 37, &store, &mut file).unwrap().labels != 0 {}
     file
 }
 

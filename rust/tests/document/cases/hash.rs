@@ -1,7 +1,7 @@
 use super::numbered;
 use crate::model::sha256;
 use crate::random::Random;
-use mastdock::{digest, ffi, Hash};
+use mastdock::{digest, digest_blocks, ffi, Hash, Hashed};
 
 fn message(random: &mut Random) -> Vec<u8> {
     let most = random.pick(&[1, 70, 130, 300, 2000]);
@@ -12,14 +12,16 @@ fn message(random: &mut Random) -> Vec<u8> {
 pub fn digests(random: &mut Random) -> u64 {
     let message = message(random);
     assert_eq!(numbered("digest", digest(&message)), Ok(sha256::digest(&message)));
-    1
+    assert_eq!(digest_blocks(&message), Ok(sha256::hashed(&message)));
+    2
 }
 
-/// A portion and the end, on a state.
+/// A portion and the end, without its blocks and with them, on a state.
 fn update_and_finish(hash: &mut Hash, model: &mut Hash, part: &[u8]) {
     assert_eq!(numbered("hash update", hash.update(part)), sha256::update(model, part));
     assert_eq!(hash, model);
-    assert_eq!(numbered("hash finish", hash.finish()), sha256::finish(model));
+    assert_eq!(numbered("hash finish", hash.finish()), sha256::finish(model).map(|end| end.digest));
+    assert_eq!(numbered("hash finish", hash.finish_blocks()), sha256::finish(model));
 }
 
 pub fn portions(random: &mut Random) -> u64 {
@@ -32,8 +34,8 @@ pub fn portions(random: &mut Random) -> u64 {
         all.extend(&part);
         update_and_finish(&mut hash, &mut model, &part);
     }
-    assert_eq!(numbered("hash finish", hash.finish()), Ok(sha256::digest(&all)));
-    2 + 2 * count
+    assert_eq!(numbered("hash finish", hash.finish_blocks()), Ok(sha256::hashed(&all)));
+    2 + 3 * count
 }
 
 pub fn any_state(random: &mut Random) -> u64 {
@@ -48,10 +50,11 @@ pub fn any_state(random: &mut Random) -> u64 {
     let mut hash = Hash { words: std::array::from_fn(|_| random.next() as u32), tail: random.array(), taken };
     let mut model = hash.clone();
     update_and_finish(&mut hash, &mut model, &part);
-    // The whole answer of the end: the digest beside a refusal is all zero, and the state is handed back as it was.
+    // The whole answer of the end: digest and blocks beside a refusal are zero, and the state is handed back as it was.
     // SAFETY: every state is allowed.
     let finished = unsafe { ffi::mastdock_hash_finish(hash.clone()) };
     assert_eq!(finished.hash, hash);
-    assert_eq!(finished.digest, sha256::finish(&model).unwrap_or([0; 32]));
-    3
+    let expected = sha256::finish(&model).unwrap_or(Hashed { digest: [0; 32], blocks: 0 });
+    assert_eq!((finished.digest, finished.blocks), (expected.digest, expected.blocks));
+    4
 }

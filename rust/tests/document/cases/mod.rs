@@ -9,7 +9,7 @@ mod writing;
 
 use crate::random::Random;
 pub use file::proof_file;
-use mastdock::Refusal;
+use mastdock::{Made, Refusal};
 pub use record::{pause, resume_both};
 use std::collections::BTreeMap;
 use std::sync::Mutex;
@@ -87,6 +87,14 @@ fn numbered<A>(place: &'static str, answer: Result<A, Refusal>) -> Result<A, u64
     let answer = answer.map_err(Refusal::number);
     see(place, answer.as_ref().err().copied().unwrap_or(0));
     answer
+}
+
+/// Refusal, labels and blocks as a call in C answers them. W-207: 'A run refused reports 0 of both.'
+fn made_numbers(made: Result<Made, u64>) -> (u64, u64, u64) {
+    match made {
+        Ok(Made { labels, blocks }) => (0, labels, blocks),
+        Err(refusal) => (refusal, 0, 0),
+    }
 }
 
 /// Prints how often each number was seen, and fails if one of a row was not.

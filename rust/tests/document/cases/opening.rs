@@ -1,5 +1,5 @@
-use super::numbered;
 use super::run::level_and_store;
+use super::{made_numbers, numbered};
 use crate::lent::Lent;
 use crate::model::opening::{advance, nodes_anew, opening_size, start};
 use crate::model::run::store_size;
@@ -50,15 +50,23 @@ pub fn starts(random: &mut Random) -> u64 {
     2
 }
 
-/// One call on an opening and its output.
+/// One call on an opening and its output, through Rust and through C.
 fn advance_both(random: &mut Random, opening: &mut Opening, budget: u64, store: &[u8], out: &mut [u8]) {
     let (mut lent_store, mut lent_out) = (Lent::bytes(random, store), Lent::bytes(random, out));
-    let mut model = opening.clone();
+    let (mut model, mut again) = (opening.clone(), Lent::bytes(random, out));
+    // SAFETY: pointers and lengths are those of slices; the output is borrowed alone; every state is allowed.
+    let advanced = unsafe {
+        let (from, from_len, to) = (store.as_ptr(), store.len(), again.get());
+        ffi::mastdock_opening_advance(opening.clone(), budget, from, from_len, to.as_mut_ptr(), to.len())
+    };
+    let expected = advance(&mut model, budget, store, out);
     let answer = opening.advance(budget, lent_store.get(), lent_out.get());
-    assert_eq!(numbered("opening advance", answer), advance(&mut model, budget, store, out));
-    assert_eq!(*opening, model);
+    assert_eq!(numbered("opening advance", answer), expected);
+    assert_eq!((advanced.refusal, advanced.labels, advanced.blocks), made_numbers(expected));
+    assert_eq!((&advanced.opening, &*opening), (&model, &model));
     lent_store.is_now(store);
     lent_out.is_now(out);
+    again.is_now(out);
 }
 
 pub fn whole(random: &mut Random) -> u64 {
@@ -77,14 +85,14 @@ pub fn whole(random: &mut Random) -> u64 {
     while opening.made < nodes_anew(n, m) {
         let budget = random.below(most);
         advance_both(random, &mut opening, budget, &store, &mut out);
-        calls += 1;
+        calls += 2;
     }
     advance_both(random, &mut opening, 7, &store, &mut out);
     assert_eq!(out, [labels.opening(leaf), old[opening_size(n)..].to_vec()].concat());
     let part = &out[..opening_size(n)];
     assert_eq!(numbered("check opening", mastdock::check_opening(&statement, &labels.root(), n, leaf, part)), Ok(()));
     assert_eq!(file::check_opening(&statement, n, leaf, &labels.root(), part), Ok(()));
-    calls + 2
+    calls + 3
 }
 
 pub fn any_state(random: &mut Random) -> u64 {
@@ -108,5 +116,5 @@ pub fn any_state(random: &mut Random) -> u64 {
     let mut out = output(random, n);
     let budget = random.below(6);
     advance_both(random, &mut opening, budget, &store, &mut out);
-    1
+    2
 }

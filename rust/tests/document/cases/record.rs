@@ -164,18 +164,20 @@ pub fn whole(random: &mut Random) -> u64 {
     let mut never_paused = store.clone();
     let mut run = Run::start(&statement, n, m, &store).unwrap();
     let mut end = run.clone();
-    assert_eq!(end.advance(u64::MAX, &mut never_paused), Ok(size(n)));
+    let all = end.advance(u64::MAX, &mut never_paused).unwrap();
+    assert_eq!(all.labels, size(n));
     let most = random.pick(&[2, 10, 100, 1000]);
-    let mut calls = 0;
+    let (mut calls, mut blocks) = (0, 0);
     while run.made < size(n) {
         let budget = random.below(most);
         run = pause(random, &run);
-        run.advance(budget, &mut store).unwrap();
+        blocks += run.advance(budget, &mut store).unwrap().blocks;
         calls += 4;
     }
     assert_eq!(pause(random, &run), end);
     assert_eq!(run.root(), Some(Labels::of(statement, n).root()));
     assert!(store == never_paused);
+    assert_eq!(blocks, all.blocks);
     calls + 4
 }
 

@@ -1,4 +1,4 @@
-use super::numbered;
+use super::{made_numbers, numbered};
 use crate::lent::Lent;
 use crate::model::run::{advance, start, store_size};
 use crate::model::tree::{place_in_order, size, Labels, Node};
@@ -41,13 +41,19 @@ pub fn starts(random: &mut Random) -> u64 {
     2
 }
 
-/// One call on a run and its store.
+/// One call on a run and its store, through Rust and through C.
 fn advance_both(random: &mut Random, run: &mut Run, budget: u64, store: &mut [u8]) {
-    let mut lent = Lent::bytes(random, store);
+    let (mut lent, mut again) = (Lent::bytes(random, store), Lent::bytes(random, store));
     let mut model = run.clone();
-    assert_eq!(numbered("run advance", run.advance(budget, lent.get())), advance(&mut model, budget, store));
-    assert_eq!(*run, model);
+    let to = again.get();
+    // SAFETY: pointer and length are a slice's, which is borrowed alone, and every state is allowed.
+    let advanced = unsafe { ffi::mastdock_run_advance(run.clone(), budget, to.as_mut_ptr(), to.len()) };
+    let expected = advance(&mut model, budget, store);
+    assert_eq!(numbered("run advance", run.advance(budget, lent.get())), expected);
+    assert_eq!((advanced.refusal, advanced.labels, advanced.blocks), made_numbers(expected));
+    assert_eq!((&advanced.run, &*run), (&model, &model));
     lent.is_now(store);
+    again.is_now(store);
 }
 
 pub fn whole(random: &mut Random) -> u64 {
@@ -64,7 +70,7 @@ pub fn whole(random: &mut Random) -> u64 {
         assert_eq!(run.root(), None);
         let budget = random.below(most);
         advance_both(random, &mut run, budget, &mut store);
-        calls += 1;
+        calls += 2;
     }
     // 'Budget 0 and a finished run change nothing.'
     let done = run.clone();
@@ -73,7 +79,7 @@ pub fn whole(random: &mut Random) -> u64 {
     let labels = Labels::of(statement, n);
     assert_eq!(run.root(), Some(labels.root()));
     assert_eq!(store, [labels.store(m), old[store_size(m)..].to_vec()].concat());
-    calls + 1
+    calls + 2
 }
 
 /// Labels made, of so many: any, near the end, or so that a node of a stored level is next.
@@ -112,7 +118,7 @@ pub fn any_state(random: &mut Random) -> u64 {
     let mut run = any_run(random, n, m);
     let budget = random.below(6);
     advance_both(random, &mut run, budget, &mut store);
-    1
+    2
 }
 
 /// Memory level 14, the greatest: enough, and one byte short.

@@ -1,7 +1,7 @@
 use super::file::proof_file;
-use super::numbered;
 use super::opening::{leaf_of, NO_OPENING};
 use super::run::level_and_store;
+use super::{made_numbers, numbered};
 use crate::lent::Lent;
 use crate::model::file::file_size;
 use crate::model::opening::nodes_anew;
@@ -44,15 +44,23 @@ pub fn starts(random: &mut Random) -> u64 {
     2
 }
 
-/// One call on a writing and its file.
+/// One call on a writing and its file, through Rust and through C.
 fn advance_both(random: &mut Random, writing: &mut Writing, budget: u64, store: &[u8], file: &mut [u8]) {
     let (mut lent_store, mut lent_file) = (Lent::bytes(random, store), Lent::bytes(random, file));
-    let mut model = writing.clone();
+    let (mut model, mut again) = (writing.clone(), Lent::bytes(random, file));
+    // SAFETY: pointers and lengths are those of slices; the file is borrowed alone; every state is allowed.
+    let advanced = unsafe {
+        let (from, from_len, to) = (store.as_ptr(), store.len(), again.get());
+        ffi::mastdock_writing_advance(writing.clone(), budget, from, from_len, to.as_mut_ptr(), to.len())
+    };
+    let expected = advance(&mut model, budget, store, file);
     let answer = writing.advance(budget, lent_store.get(), lent_file.get());
-    assert_eq!(numbered("writing advance", answer), advance(&mut model, budget, store, file));
-    assert_eq!(*writing, model);
+    assert_eq!(numbered("writing advance", answer), expected);
+    assert_eq!((advanced.refusal, advanced.labels, advanced.blocks), made_numbers(expected));
+    assert_eq!((&advanced.writing, &*writing), (&model, &model));
     lent_store.is_now(store);
     lent_file.is_now(file);
+    again.is_now(file);
 }
 
 pub fn whole(random: &mut Random) -> u64 {
@@ -74,14 +82,14 @@ pub fn whole(random: &mut Random) -> u64 {
         let budget = random.below(most);
         advance_both(random, &mut writing, budget, &store, &mut file);
         left -= budget.min(left);
-        calls += 1;
+        calls += 2;
     }
     assert!(writing.is_done());
     let done = writing.clone();
     advance_both(random, &mut writing, 7, &store, &mut file);
     assert_eq!(writing, done);
     assert_eq!(file, [proof_file(&labels, t), old[file_size(n, t)..].to_vec()].concat());
-    calls + 1
+    calls + 2
 }
 
 pub fn any_state(random: &mut Random) -> u64 {
@@ -106,5 +114,5 @@ pub fn any_state(random: &mut Random) -> u64 {
     let mut writing = Writing { root: random.array(), count: t, number, opening };
     let budget = random.below(6);
     advance_both(random, &mut writing, budget, &store, &mut file);
-    1
+    2
 }

@@ -1,9 +1,9 @@
 //! Document 01, 'Runs in lent memory': openings.
 use super::run::{slot, store_size};
 use super::step::step;
-use super::tree::{size, Node};
+use super::tree::{cost, size, Node};
 use super::{depth_refused, label_at, memory_refused, row, Label};
-use mastdock::Opening;
+use mastdock::{Made, Opening};
 
 /// '32 × (n + 1) bytes'.
 pub fn opening_size(n: u64) -> usize {
@@ -58,8 +58,8 @@ pub fn impossible(o: &Opening) -> bool {
     depth_refused(n) || memory_refused(n, m) || o.made > nodes_anew(n, m) || o.leaf >= 1 << n
 }
 
-/// One label anew. 'Left siblings on levels 1 to m are read from the store lent to that call'.
-pub fn step_anew(o: &mut Opening, store: &[u8], out: &mut [u8]) {
+/// One label anew. 'Left siblings on levels 1 to m are read from the store lent to that call'. Gives its blocks.
+pub fn step_anew(o: &mut Opening, store: &[u8], out: &mut [u8]) -> u64 {
     let (n, m) = (o.depth, o.memory);
     let top = Node::at(n, o.leaf).above(m);
     let stored = |w: Node| {
@@ -71,17 +71,18 @@ pub fn step_anew(o: &mut Opening, store: &[u8], out: &mut [u8]) {
         out[at..at + 32].copy_from_slice(&label);
     }
     o.made += 1;
+    cost(n, v)
 }
 
 /// 'Its budgeted run labels anew, in order, the nodes …, putting each label that belongs to the opening in its place.' Row
-/// 'Continuing an opening'.
-pub fn advance(o: &mut Opening, budget: u64, store: &[u8], out: &mut [u8]) -> Result<u64, u64> {
+/// 'Continuing an opening'. W-207: 'Labelling and opening report the sum' of the blocks.
+pub fn advance(o: &mut Opening, budget: u64, store: &[u8], out: &mut [u8]) -> Result<Made, u64> {
     row(&[
         (4, &|| impossible(o)),
         (3, &|| store.len() < store_size(o.memory)),
         (7, &|| out.len() < opening_size(o.depth)),
     ])?;
     let labels = budget.min(nodes_anew(o.depth, o.memory) - o.made);
-    (0..labels).for_each(|_| step_anew(o, store, out));
-    Ok(labels)
+    let blocks = (0..labels).map(|_| step_anew(o, store, out)).sum();
+    Ok(Made { labels, blocks })
 }

@@ -1,8 +1,8 @@
 //! Document 01, 'Runs in lent memory': runs.
 use super::step::step;
-use super::tree::{size, Node, ROOT};
+use super::tree::{cost, size, Node, ROOT};
 use super::{depth_refused, memory_refused, row, Label};
-use mastdock::Run;
+use mastdock::{Made, Run};
 
 /// 'It needs 32 × (2^(m+1) − 1) bytes'.
 pub fn store_size(m: u64) -> usize {
@@ -26,11 +26,13 @@ pub fn impossible(n: u64, m: u64, made: u64) -> bool {
 }
 
 /// 'A call with a budget labels exactly the smaller of the budget and what remains, reports that number, and hands back the run as
-/// it now is. Stored labels are written as made.' Row 'Continuing a run'.
-pub fn advance(run: &mut Run, budget: u64, store: &mut [u8]) -> Result<u64, u64> {
+/// it now is. Stored labels are written as made.' Row 'Continuing a run'. W-207: 'the sum over exactly the labels they made in that
+/// call, beside the label count'.
+pub fn advance(run: &mut Run, budget: u64, store: &mut [u8]) -> Result<Made, u64> {
     let (n, m) = (run.depth, run.memory);
     row(&[(4, &|| impossible(n, m, run.made)), (3, &|| store.len() < store_size(m))])?;
     let labels = budget.min(size(n) - run.made);
+    let mut blocks = 0;
     for _ in 0..labels {
         let none = |w: Node| unreachable!("{w:?} is in the tree");
         let (v, label) = step(&run.statement, n, ROOT, run.made, &mut run.held, &none);
@@ -38,6 +40,7 @@ pub fn advance(run: &mut Run, budget: u64, store: &mut [u8]) -> Result<u64, u64>
             store[slot(v)..][..32].copy_from_slice(&label);
         }
         run.made += 1;
+        blocks += cost(n, v);
     }
-    Ok(labels)
+    Ok(Made { labels, blocks })
 }

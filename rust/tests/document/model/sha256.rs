@@ -1,6 +1,6 @@
 //! FIPS 180-4: SHA-256, a byte at a time.
 use super::Label;
-use mastdock::Hash;
+use mastdock::{Hash, Hashed};
 
 /// The whole root of degree `degree` of a number.
 const fn root(x: u128, degree: u32) -> u128 {
@@ -107,8 +107,14 @@ pub fn update(hash: &mut Hash, part: &[u8]) -> Result<(), u64> {
     Ok(())
 }
 
-/// Row 'Hashing, the end'. 5.1.1: the bit 1, zero bits, and the length in 64 bits.
-pub fn finish(hash: &Hash) -> Result<Label, u64> {
+/// W-207: 'the 64-byte blocks it compressed, which for L bytes is (L + 8) divided by 64, rounded down, plus 1'.
+pub fn blocks(len: u64) -> u64 {
+    (len + 8) / 64 + 1
+}
+
+/// Row 'Hashing, the end'. 5.1.1: the bit 1, zero bits, and the length in 64 bits. With these the
+/// message is of whole blocks, as many as W-207 says.
+pub fn finish(hash: &Hash) -> Result<Hashed, u64> {
     if too_many(hash.taken, 0) {
         return Err(5);
     }
@@ -119,16 +125,22 @@ pub fn finish(hash: &Hash) -> Result<Label, u64> {
         push(&mut end, 0);
     }
     bits.to_be_bytes().into_iter().for_each(|byte| push(&mut end, byte));
+    assert_eq!(end.taken, 64 * blocks(hash.taken));
     let mut digest = [0; 32];
     for (bytes, word) in digest.chunks_exact_mut(4).zip(end.words) {
         bytes.copy_from_slice(&word.to_be_bytes());
     }
-    Ok(digest)
+    Ok(Hashed { digest, blocks: blocks(hash.taken) })
+}
+
+/// SHA-256 of a message, and its blocks.
+pub fn hashed(message: &[u8]) -> Hashed {
+    let mut hash = new();
+    update(&mut hash, message).unwrap();
+    finish(&hash).unwrap()
 }
 
 /// SHA-256 of a message.
 pub fn digest(message: &[u8]) -> Label {
-    let mut hash = new();
-    update(&mut hash, message).unwrap();
-    finish(&hash).unwrap()
+    hashed(message).digest
 }

@@ -1,5 +1,5 @@
 //! Document 01, 'The tree'.
-use super::sha256::digest;
+use super::sha256::{blocks, digest};
 use super::Label;
 use std::collections::HashMap;
 
@@ -62,6 +62,16 @@ pub fn input(statement: &Label, v: Node, labels: &[Label]) -> Vec<u8> {
     bytes.extend(v.position.to_be_bytes());
     bytes.extend(labels.concat());
     bytes
+}
+
+/// The length of that: 41 bytes before the labels, and 32 for each.
+pub fn input_size(n: u64, v: Node) -> u64 {
+    41 + 32 * parents(n, v).len() as u64
+}
+
+/// W-207: the blocks that are compressed for a node's label.
+pub fn cost(n: u64, v: Node) -> u64 {
+    blocks(input_size(n, v))
 }
 
 /// 'A label is SHA-256 of' that.

@@ -4,7 +4,7 @@ use super::file::{file_size, head_size, leaf, write_head};
 use super::opening::{copy_stored, impossible, new, nodes_anew, opening_size, step_anew};
 use super::run::store_size;
 use super::{count_refused, depth_refused, memory_refused, row, Label};
-use mastdock::Writing;
+use mastdock::{Made, Writing};
 
 /// Opening i's part of the file.
 fn part(n: u64, t: u64, i: u64, file: &mut [u8]) -> &mut [u8] {
@@ -55,8 +55,9 @@ pub fn start(
     Ok(writing)
 }
 
-/// 4 'also for a count or an opening's number that cannot be, and for an opening that is done and not the last'; then 3 and 7.
-pub fn advance(w: &mut Writing, budget: u64, store: &[u8], file: &mut [u8]) -> Result<u64, u64> {
+/// 4 'also for a count or an opening's number that cannot be, and for an opening that is done and not the last'; then 3 and 7. W-207:
+/// blocks of the labels alone, not of the challenges.
+pub fn advance(w: &mut Writing, budget: u64, store: &[u8], file: &mut [u8]) -> Result<Made, u64> {
     let (n, m) = (w.opening.depth, w.opening.memory);
     row(&[
         (4, &|| impossible(&w.opening)),
@@ -67,9 +68,10 @@ pub fn advance(w: &mut Writing, budget: u64, store: &[u8], file: &mut [u8]) -> R
     let anew = nodes_anew(n, m);
     let remaining = (w.count - w.number) * anew + (anew - w.opening.made);
     let labels = budget.min(remaining);
+    let mut blocks = 0;
     for _ in 0..labels {
-        step_anew(&mut w.opening, store, part(n, w.count, w.number, file));
+        blocks += step_anew(&mut w.opening, store, part(n, w.count, w.number, file));
         follow(w, store, file);
     }
-    Ok(labels)
+    Ok(Made { labels, blocks })
 }

@@ -5,8 +5,8 @@ use Rattle.capi.proofs.hashes.mastdock_hash_finish.Tie as tie
 
 returns : tie.Need-returns
 returns c =
-    let finish = c .before .before .before .finish in
-    (c .outcome-number .ensures ∙ finish .ensures .0, (finish .ensures .1 .0, finish .ensures .1 .1))
+    let e = c .before .before .before .finish .ensures in
+    (c .outcome-number .ensures ∙ e .0 .0, (e .0 .1, e .1))
 
 pub mastdock-hash-finish-spec : {M : Type 1} → statement M
 mastdock-hash-finish-spec = tie.close (tie.spec (λ c κs. search needs) (λ c κs. search needs) returns)

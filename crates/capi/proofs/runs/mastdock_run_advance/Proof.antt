@@ -5,8 +5,8 @@ use Rattle.capi.proofs.runs.mastdock_run_advance.Tie as tie
 
 returns : tie.Need-returns
 returns c =
-    let advance = c .before .before .before .before .advance in
-    (c .outcome-number .ensures ∙ advance .ensures .0, advance .ensures .1)
+    let e = c .before .before .before .before .advance .ensures in
+    (c .outcome-number .ensures ∙ e .0, (e .1 .0, (e .1 .1 .0 .0, e .1 .1 .1)))
 
 pub mastdock-run-advance-spec : {M : Type 1} → statement M
 mastdock-run-advance-spec =

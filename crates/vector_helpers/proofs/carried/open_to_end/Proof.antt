@@ -43,7 +43,7 @@ returns c =
     let idle = opening-idle (a .store .now) s (a .budget) none in
     let rest = labels-idle (opens.advanced (a .store .now)) (opens.labelsIn (a .store .now)) (a .budget) s idle none (l .left) in
     let all = idle ∙ sym (calls-idle (opens.advanced (a .store .now)) (opens.labelsIn (a .store .now)) (a .budget) s idle (l .left)) ∙ l .inv .2 in
-    (counted-all (l .labels) _ _ (l .inv .1) rest (l .inv .3), made .ensures .1 .1 .1 ∙ ap (λ (t : Open). t .out) all)
+    (counted-all (l .labels) _ _ (l .inv .1) rest (l .inv .3), made .ensures .1 .1 .1 .1 ∙ ap (λ (t : Open). t .out) all)
 
 loop-again : tie.Need-loop-again Inv-loop μ-loop
 loop-again c =
@@ -58,7 +58,7 @@ loop-again c =
     let s = openOf (l .state) (l .out) in
     let advance = opens.advanced (a .store .now) in
     let labels = opens.labelsIn (a .store .now) in
-    let next = ap₂ openOf (made .ensures .1 .1 .0) (made .ensures .1 .1 .1) in
+    let next = ap₂ openOf (made .ensures .1 .1 .1 .0) (made .ensures .1 .1 .1 .1) in
     let more = labels-more advance labels (a .budget) s (l .left) (loop-test .taken) in
     let sum = rw more at (l .inv .3) in (
       search needs,

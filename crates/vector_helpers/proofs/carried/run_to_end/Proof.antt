@@ -33,7 +33,7 @@ returns c =
     let idle = run-idle s (a .budget) (sym (made .ensures .1 .0) ∙ c .if1 .taken) in
     let same = sym (calls-idle advanced labelsIn (a .budget) s idle (l .left)) ∙ l .inv .1 in
     let all = idle ∙ same in
-    (made .ensures .1 .1 .0 ∙ ap (λ (t : Stamped). t .run) all, made .ensures .1 .1 .1 ∙ ap (λ (t : Stamped). t .store) all)
+    (made .ensures .1 .1 .1 .0 ∙ ap (λ (t : Stamped). t .run) all, made .ensures .1 .1 .1 .1 ∙ ap (λ (t : Stamped). t .store) all)
 
 loop-again : tie.Need-loop-again Inv-loop μ-loop
 loop-again c =
@@ -45,7 +45,7 @@ loop-again c =
     let a = entry .args in
     let made = advance .advance in
     let s = stamped (l .state) (l .store) in
-    let next = ap₂ stamped (made .ensures .1 .1 .0) (made .ensures .1 .1 .1) in (
+    let next = ap₂ stamped (made .ensures .1 .1 .1 .0) (made .ensures .1 .1 .1 .1) in (
       search needs,
       ap (λ (t : Stamped). afterCalls advanced t (replicate (l .left - 1) (a .budget))) next
           ∙ sym (calls-more advanced labelsIn (a .budget) s (l .left) (loop-test .loop-test .taken))

@@ -9,7 +9,7 @@ returns c =
     let a = c .before .before .before .before .before .before .before .before .args in
     run-whole (a .statement) (a .depth) (a .memory) (a .store .now) _ _
     (c .before .before .before .before .before .start .ensures .1)
-    (c .before .before .advance .ensures .1 .1 .1)
+    (c .before .before .advance .ensures .1 .1 .1 .1)
 
 pub run-whole-spec : {M : Type 1} → statement M
 run-whole-spec =
