@@ -20,7 +20,7 @@ use opening_places::labels_above;
 use opening_places::put_label;
 
 // An opening, and the blocks of the labels that were made.
-pub struct Moved {
+pub struct Stepped {
     pub opening: Opening,
     pub blocks: u64,
 }
@@ -64,7 +64,7 @@ fn label_one(
 }
 
 // As many steps as are asked for. The opening's fields are taken apart once and put together at the end.
-pub fn label_many(opening: Opening, count: u64, store: &[u8], out: &mut [u8]) -> Moved
+pub fn label_many(opening: Opening, count: u64, store: &[u8], out: &mut [u8]) -> Stepped
     requires { ⌜ Possible (opening .depth) (opening .memory) (opening .leaf) × (opening .made + count ≤ nodesAnew (opening .depth) (opening .memory)) ⌝ }
     requires { ⌜ (storeSize (opening .memory) ≤ length (now store)) × (openingSize (opening .depth) ≤ length (now out)) ⌝ }
     ensures { λ r. ⌜ r .opening ≡ steps (now (store .entry)) count (openOf opening (now (out .entry))) .opening ⌝ }
@@ -103,5 +103,5 @@ pub fn label_many(opening: Opening, count: u64, store: &[u8], out: &mut [u8]) ->
         made: made + count,
         held,
     };
-    Moved { opening, blocks }
+    Stepped { opening, blocks }
 }

@@ -100,12 +100,12 @@ impl Opening {
             Outcome::Done => {
                 let left = nodes_anew(self.depth, self.memory) - self.made;
                 let labels = smaller(budget, left);
-                let moved = label_many(self, labels, store, out);
-                let opening = moved.opening;
+                let done = label_many(self, labels, store, out);
+                let opening = done.opening;
                 Advanced {
                     outcome,
                     labels,
-                    blocks: moved.blocks,
+                    blocks: done.blocks,
                     opening,
                 }
             }

@@ -27,7 +27,7 @@ fn keep(store: &mut [u8], memory: u64, w: Labelled)
 }
 
 // A run, and the blocks of the labels that were made.
-pub struct Moved {
+pub struct Stepped {
     pub run: Run,
     pub blocks: u64,
 }
@@ -52,7 +52,7 @@ fn label_one(
 }
 
 // As many steps as are asked for. The run's fields are taken apart once and put together at the end.
-pub fn label_many(run: Run, count: u64, store: &mut [u8]) -> Moved
+pub fn label_many(run: Run, count: u64, store: &mut [u8]) -> Stepped
     requires { ⌜ (run .depth ≤ maxDepth) × (run .made + count ≤ nodesIn (run .depth)) × (storeSize (run .memory) ≤ length (now store)) ⌝ }
     ensures { λ r. ⌜ r .run ≡ steps count (stamped run (now (store .entry))) .run ⌝ }
     ensures { λ r. ⌜ now (store .exit) ≡ steps count (stamped run (now (store .entry))) .store ⌝ }
@@ -76,5 +76,5 @@ pub fn label_many(run: Run, count: u64, store: &mut [u8]) -> Moved
         made: made + count,
         held,
     };
-    Moved { run, blocks }
+    Stepped { run, blocks }
 }

@@ -89,12 +89,12 @@ impl Run {
             Outcome::Done => {
                 let left = nodes(self.depth) - self.made;
                 let labels = smaller(budget, left);
-                let moved = label_many(self, labels, store);
-                let run = moved.run;
+                let done = label_many(self, labels, store);
+                let run = done.run;
                 Advanced {
                     outcome,
                     labels,
-                    blocks: moved.blocks,
+                    blocks: done.blocks,
                     run,
                 }
             }

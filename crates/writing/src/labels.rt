@@ -11,7 +11,7 @@ ghost use Rattle.opening.specs.Rows.{nodesAnew};
 ghost use Rattle.writing.specs.Possible.{Room, Ready, GoesOn, writtenOf};
 ghost use Rattle.writing.specs.Steps.{mayFollow, followed, newWriting, steps, blocksOver, remaining};
 use crate::Writing;
-use crate::parts::Moved;
+use crate::parts::Stepped;
 use crate::parts::begin;
 use crate::parts::label_part;
 use base::smaller;
@@ -83,7 +83,7 @@ pub fn write_first(
 }
 
 // Some labels of the opening under way; then the next is begun if it is done.
-fn label_some(writing: Writing, labels: u64, store: &[u8], file: &mut [u8]) -> Moved
+fn label_some(writing: Writing, labels: u64, store: &[u8], file: &mut [u8]) -> Stepped
     requires { ⌜ Ready writing (length (now store)) (length (now file)) × (1 ≤ labels) ⌝ }
     requires { ⌜ writing .opening .made + labels ≤ nodesAnew (writing .opening .depth) (writing .opening .memory) ⌝ }
     ensures { λ r. ⌜ r .writing ≡ steps (now (store .entry)) labels (writtenOf writing (now (file .entry))) .writing ⌝ }
@@ -94,7 +94,7 @@ fn label_some(writing: Writing, labels: u64, store: &[u8], file: &mut [u8]) -> M
     let part = label_part(writing, labels, store, file);
     let under = part.writing;
     let writing = follow(under, store, file);
-    Moved {
+    Stepped {
         writing,
         blocks: part.blocks,
     }
@@ -113,7 +113,7 @@ pub fn labels_left(writing: Writing) -> u64
 }
 
 // As many labels as are asked for. Its caller knows that they are left.
-pub fn label_many(writing: Writing, labels: u64, store: &[u8], file: &mut [u8]) -> Moved
+pub fn label_many(writing: Writing, labels: u64, store: &[u8], file: &mut [u8]) -> Stepped
     requires { ⌜ Ready writing (length (now store)) (length (now file)) × (mayFollow writing ≡ false) ⌝ }
     requires { ⌜ labels ≤ remaining writing ⌝ }
     ensures { λ r. ⌜ r .writing ≡ steps (now (store .entry)) labels (writtenOf writing (now (file .entry))) .writing ⌝ }
@@ -133,7 +133,7 @@ pub fn label_many(writing: Writing, labels: u64, store: &[u8], file: &mut [u8]) 
         blocks += some.blocks;
         left -= chunk;
     }
-    Moved {
+    Stepped {
         writing: current,
         blocks,
     }

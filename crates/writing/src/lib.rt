@@ -106,12 +106,12 @@ impl Writing {
         match outcome {
             Outcome::Done => {
                 let made = smaller(budget, labels_left(self));
-                let moved = label_many(self, made, store, file);
-                let writing = moved.writing;
+                let done = label_many(self, made, store, file);
+                let writing = done.writing;
                 Advanced {
                     outcome,
                     labels: made,
-                    blocks: moved.blocks,
+                    blocks: done.blocks,
                     writing,
                 }
             }

@@ -53,13 +53,13 @@ pub fn begin(
 }
 
 // A writing, and the blocks of the labels that were made.
-pub struct Moved {
+pub struct Stepped {
     pub writing: Writing,
     pub blocks: u64,
 }
 
 // Makes labels of the opening under way. Its caller knows that they are left.
-pub fn label_part(writing: Writing, labels: u64, store: &[u8], file: &mut [u8]) -> Moved
+pub fn label_part(writing: Writing, labels: u64, store: &[u8], file: &mut [u8]) -> Stepped
     requires { ⌜ Ready writing (length (now store)) (length (now file)) ⌝ }
     requires { ⌜ writing .opening .made + labels ≤ nodesAnew (writing .opening .depth) (writing .opening .memory) ⌝ }
     ensures { λ r. ⌜ r .writing ≡ labelled (now (store .entry)) labels (writtenOf writing (now (file .entry))) .writing ⌝ }
@@ -81,7 +81,7 @@ pub fn label_part(writing: Writing, labels: u64, store: &[u8], file: &mut [u8]) 
         number,
         opening,
     };
-    Moved {
+    Stepped {
         writing,
         blocks: done.blocks,
     }

@@ -87,7 +87,8 @@ returns c =
             c .label-blocks .ensures .0
                 ∙ leaf-blocks (s .args .height) (s .args .level) (s .args .position) (s .args .made) (w .result .level)
                 (w .result .position) (s .pre .0 .2) (w .ensures) (s .pre .0 .1) (s .args .edition) (s .args .statement)
-                (s .args .front .now) (s .args .held .now) (statement-size s) (s .pre .0 .0) (s .pre .1 .0) (s .pre .1 .1) (if1 .taken) _ (c .before .place .ensures .0),
+                (s .args .front .now) (s .args .held .now) (statement-size s) (s .pre .0 .0) (s .pre .1 .0) (s .pre .1 .1) (if1 .taken)
+                _ (c .before .place .ensures .0),
             c .label-blocks .ensures .1,
           ),
         ),
