@@ -349,7 +349,8 @@ mastdock_drawn mastdock_draw(const uint8_t *file, size_t file_len, const uint8_t
 }
 #endif
 
-/* The layout that the library was compiled with. */
+/* The layout that the library was compiled with. Since W-207 five answers have `blocks` and are 8 bytes longer: a program compiled with an
+ * older header still links and must be compiled again. */
 #ifdef __cplusplus
 #define MASTDOCK_ASSERT(condition) static_assert(condition, #condition)
 #else

@@ -105,9 +105,9 @@ def taken_up(folder, proof, statement, n, t, m):
     return f"mastdock: {name}: {place(run, len(openings), t)}\n", made, carried(run, t, store, openings)
 
 
-def blocks(n, nodes):
-    """W-207: for an input of L bytes SHA-256 compresses (L + 8) // 64 + 1 blocks. A node's has 41 bytes, and 32 for each parent."""
-    return sum((41 + 32 * len(md.parents(n, *node)) + 8) // 64 + 1 for node in nodes)
+def blocks_of_nodes(n, nodes):
+    """W-207: the blocks of some nodes' inputs. A node's has 41 bytes, and 32 for each parent."""
+    return sum(md.blocks(41 + 32 * len(md.parents(n, *node))) for node in nodes)
 
 
 def facts(statement, root, n, t, m):
@@ -116,7 +116,7 @@ def facts(statement, root, n, t, m):
     for leaf in md.challenge_leaves(n, statement, root, t):
         nodes += list(md.labelling_order(n, m, leaf >> (n - m)))[:-1]
     order = f"statement {statement.hex()}\nroot {root.hex()}\ndepth {n}\nchallenges {t}\n"
-    return order + f"blocks {blocks(n, nodes)}\nhashes {len(nodes)}\n"
+    return order + f"blocks {blocks_of_nodes(n, nodes)}\nhashes {len(nodes)}\n"
 
 
 def seal_text(folder, statement, proof, n, t, m):

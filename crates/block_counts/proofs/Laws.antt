@@ -13,8 +13,8 @@ use Rattle.tree.specs.Nodes.{node, orderBelow, labellingOrder}
 use Rattle.opening_places.specs.Possible.{Possible}
 use Rattle.file_head.specs.Challenge.{challengeLeaf}
 use Rattle.file_head.proofs.Leaves.{challengeLeaf-small}
-use Rattle.block_theory.specs.Sums.{blocksSum, treeBlocks, openingBlocks, fileBlocks}
-use Rattle.block_theory.proofs.Sums.{subtree-formula, opening-topmost}
+use Rattle.block_theory.specs.Sums.{blocksSum, fileNodes, treeBlocks, openingBlocks}
+use Rattle.block_theory.proofs.Sums.{sum-append, subtree-formula, opening-topmost}
 use Rattle.block_counts.specs.Seal.{sealBlocks}
 
 -- ---- a subtree: the formula's product as the code makes it
@@ -52,14 +52,14 @@ anew-and-topmost n m leaf low =
 -- ---- a file
 module _ (edition : ℕ) (statement root : List ℕ) (n m : ℕ) where
   pub no-opening : treeBlocks n ≡ sealBlocks edition statement root n m 0
-  unfolding fileBlocks
+  unfolding fileNodes blocksSum
   no-opening = omega arith
 
   pub opening-more :
       (i blocks more : ℕ) → blocks ≡ sealBlocks edition statement root n m i
       → more ≡ openingBlocks n m (challengeLeaf edition n statement root (i + 1)) → blocks + more ≡ sealBlocks edition statement root n m (i + 1)
-  unfolding fileBlocks
-  opening-more i blocks more e f = rw (e, f, add-one i) (omega arith)
+  unfolding fileNodes
+  opening-more i blocks more e f = rw (e, f, add-one i, sum-append) (omega arith)
 
   -- what a challenge picks can be opened
   pub challenge-possible :

@@ -1,22 +1,27 @@
--- The blocks of all labels that a file takes are those of its openings, added up, whatever store and root are.
+-- The blocks of the first k labels that a file takes are those of the first k nodes of its openings, whatever store and root are.
 use mathlib.Core.Path.{_≡_, refl, sym, ap, _∙_}
 use mathlib.Core.Logic.{⊎-elim}
-use mathlib.Core.List.{List, []}
+use mathlib.Core.List.{List, [], _++_}
 use Prim.Native.Nat.{ℕ, zero, suc, _+_, _-_, _*_, _≤_, _<_}
-use native.Mathlib.Nat.{zero-add, zero-mul, suc-mul, mul-zero}
+use native.Mathlib.Nat.{zero-mul, suc-mul}
 use native.Mathlib.Numerals.{add-one}
 use native.Mathlib.Omega.{arith}
 use borrow.Author.Tests.{eq-eqb, ne-eqb, lt-ltb}
-use lib.ListN.{length}
+use lib.ListN.{length, take, length-append}
+use lib.Seq.{length-take-le, take-all, take-take, take-append-le, take-append-add}
 use Rattle.base.specs.Limits.{edition, IsDepth, IsMemory}
 use Rattle.base.proofs.ChoiceLaws.{lt-or-le}
 use Rattle.machine.specs.Machines as machines
-use Rattle.machine.proofs.StepLaws.{cost-none, cost-add}
+use Rattle.machine.proofs.StepLaws.{steps-add, cost-add}
+use Rattle.tree.specs.Nodes.{Node, orderBelow}
 use Rattle.tree.specs.Store.{storeSize}
+use Rattle.tree.proofs.Order.{order-length}
+use Rattle.opening_places.specs.Places.{ancestor}
 use Rattle.opening.specs.declared.Opening.{Opening}
 use Rattle.opening.specs.Rows.{nodesAnew}
 use Rattle.opening.specs.Steps as openings
 use Rattle.opening.specs.Names.{openingOf, openOf}
+use Rattle.run_theory.proofs.Anew.{anew-count}
 use Rattle.file_head.specs.Challenge.{challengeLeaf}
 use Rattle.file_head.proofs.Leaves.{challengeLeaf-small}
 use Rattle.writing.specs.declared.Writing.{Writing}
@@ -25,14 +30,28 @@ use Rattle.writing.specs.Steps.{Written, begun, followed, newWriting, stepped, 
 use Rattle.writing.proofs.OpenLaws.{opening-after}
 use Rattle.writing.proofs.StepLaws.{followed-stays}
 use Rattle.writing.proofs.BlockLaws.{writing-under, blocks-under}
-use Rattle.block_theory.specs.Sums.{blocksSum, openingBlocks, fileBlocks}
+use Rattle.block_theory.specs.Sums.{blocksSum, nextNodesAnew, fileNodes}
+use Rattle.block_theory.proofs.Sums.{sum-append}
 use Rattle.block_theory.proofs.OpeningCalls.{Labellable, opening-blocks}
 
--- where openings label nothing anew a file takes no blocks
-none-anew : (edition : ℕ) (statement root : List ℕ) (n m t : ℕ) → nodesAnew n m ≡ 0 → fileBlocks edition statement root n m t ≡ 0
-unfolding fileBlocks blocksSum
-none-anew edition statement root n m zero none = refl
-none-anew edition statement root n m (suc t) none = rw none (omega (arith, none-anew edition statement root n m t none))
+-- ---- how many nodes openings have
+anew-length : (n m leaf : ℕ) → length (nextNodesAnew n m leaf 0 (nodesAnew n m)) ≡ nodesAnew n m
+anew-length n m leaf =
+    let v : Node = ancestor n leaf m in
+    length-take-le (nodesAnew n m) (orderBelow (n - m) v) (omega (arith, order-length (n - m) v, anew-count n m))
+
+pub nodes-length : (edition : ℕ) (statement root : List ℕ) (n m t : ℕ) → length (fileNodes edition statement root n m t) ≡ t * nodesAnew n m
+unfolding fileNodes
+nodes-length edition statement root n m zero = sym (zero-mul (nodesAnew n m))
+nodes-length edition statement root n m (suc t) =
+    let leaf : ℕ = challengeLeaf edition n statement root (suc t) in
+    length-append (fileNodes edition statement root n m t) (nextNodesAnew n m leaf 0 (nodesAnew n m))
+    ∙ omega (arith, nodes-length edition statement root n m t, anew-length n m leaf, suc-mul t (nodesAnew n m))
+
+-- the first nodes of two lists, all of the one and j of the other
+sum-over :
+    (n j k : ℕ) (us ws : List Node) → length us + j ≡ k → blocksSum n (take k (us ++ ws)) ≡ blocksSum n us + blocksSum n (take j ws)
+sum-over n j k us ws e = rw (← e, take-append-add us ws j, sum-append n us (take j ws))
 
 module _ (statement root : List ℕ) (n m t : ℕ) (store : List ℕ) where
   abbrev anew : ℕ
@@ -44,6 +63,16 @@ module _ (statement root : List ℕ) (n m t : ℕ) (store : List ℕ) where
 
   abbrev begins : ℕ → Writing
   begins i = writingOf root t i (first i)
+
+  -- the nodes of opening i, and of the first i openings
+  abbrev own : ℕ → List Node
+  own i = nextNodesAnew n m (first i .leaf) 0 anew
+
+  abbrev nodes : ℕ → List Node
+  nodes i = fileNodes edition statement root n m i
+
+  nodes-size : (i : ℕ) → length (nodes i) ≡ i * anew
+  nodes-size = nodes-length edition statement root n m
 
   -- ---- from an opening to the next
   module _ (more : 0 < anew) where
@@ -82,7 +111,17 @@ module _ (statement root : List ℕ) (n m t : ℕ) (store : List ℕ) where
         ap (λ (w : Writing). steps store anew (writtenOf w (s .file)) .writing) is
         ∙ rw all at (labels-made (anew - 1) i (s .file) few all)
 
-  -- ---- all of them
+    -- opening i + 1 is begun once the i before it are done
+    opening-begun :
+        (file : List ℕ) (i : ℕ) → i < t → steps store (i * anew) (newWriting statement root n m t store file) .writing ≡ begins (suc i)
+    unfolding newWriting begun machines.steps
+    opening-begun file zero few = rw (zero-mul anew) (ap (λ (s : Written). s .writing) (begun-stays t 1 _))
+    opening-begun file (suc i) few =
+        let start : Written = newWriting statement root n m t store file in
+        rw (suc-mul i anew, ← steps-add (writingMachine store) anew (i * anew) start)
+        (next-opening (suc i) (steps store (i * anew) start) (opening-begun file i (omega arith)) few)
+
+  -- ---- any number of labels
   module _ (size : length statement ≡ 32) (depth : IsDepth n) (memory : IsMemory n m) (room : storeSize m ≤ length store) where
     first-labellable : (i : ℕ) → Labellable (first i) (length store)
     first-labellable i =
@@ -95,40 +134,47 @@ module _ (statement root : List ℕ) (n m t : ℕ) (store : List ℕ) where
           placesSize = refl;
         }
 
-    own-blocks : (i : ℕ) (s : Written) → s .writing ≡ begins i → blocksOver store anew s ≡ openingBlocks n m (first i .leaf)
-    own-blocks i s is =
-        ap (λ (w : Writing). blocksOver store anew (writtenOf w (s .file))) is
-        ∙ blocks-under store (writtenOf (begins i) (s .file)) [] anew (omega arith)
-        ∙ opening-blocks store (openOf (first i) []) (first-labellable i) (omega arith) anew (omega arith)
+    own-blocks : (i j : ℕ) (s : Written) → s .writing ≡ begins i → j ≤ anew → blocksOver store j s ≡ blocksSum n (take j (own i))
+    own-blocks i j s is few =
+        ap (λ (w : Writing). blocksOver store j (writtenOf w (s .file))) is
+        ∙ blocks-under store (writtenOf (begins i) (s .file)) [] j (omega arith)
+        ∙ opening-blocks store (openOf (first i) []) (first-labellable i) (omega arith) j (omega arith)
+        ∙ ap (blocksSum n) (sym (take-take j anew (orderBelow (n - m) (ancestor n (first i .leaf) m)) few))
 
-    -- from opening i + 1 on
-    blocks-from :
-        0 < anew → (j i : ℕ) (s : Written) → (1 ≤ j → s .writing ≡ begins (suc i)) → i + j ≡ t
-        → fileBlocks edition statement root n m i + blocksOver store (j * anew) s ≡ fileBlocks edition statement root n m t
-    unfolding fileBlocks
-    blocks-from more zero i s is sum =
-        let e : i ≡ t = omega arith in
-        rw (zero-mul anew, e) (omega (arith, cost-none (writingMachine store) (stepBlocks store) s))
-    blocks-from more (suc j) i s is sum =
-        let here : s .writing ≡ begins (suc i) = is (omega arith) in
-        let rest : fileBlocks edition statement root n m (suc i) + blocksOver store (j * anew) (steps store anew s)
-        ≡ fileBlocks edition statement root n m t =
-        blocks-from more j (suc i) (steps store anew s) (λ some. next-opening more (suc i) s here (omega arith)) (omega arith) in
-        let order : suc j * anew ≡ anew + j * anew = omega (arith, suc-mul j anew) in
-        rw order
-        (omega (arith, rest, own-blocks (suc i) s here, cost-add (writingMachine store) (stepBlocks store) (j * anew) anew s))
+    module _ (file : List ℕ) where
+      abbrev start : Written
+      start = newWriting statement root n m t store file
 
-    pub file-blocks :
-        (file : List ℕ)
-        → blocksOver store (t * anew) (newWriting statement root n m t store file) ≡ fileBlocks edition statement root n m t
-    unfolding newWriting begun fileBlocks
-    file-blocks file =
-        let start : Written = newWriting statement root n m t store file in
-        ⊎-elim
-        (λ (more : 0 < anew).
-        omega (arith, blocks-from more t 0 start (λ some. ap (λ (s : Written). s .writing) (begun-stays more t 1 _)) (zero-add t)))
-        (λ (few : anew ≤ 0).
-        let none : anew ≡ 0 = omega arith in
-        rw (none, mul-zero t)
-        (cost-none (writingMachine store) (stepBlocks store) start ∙ sym (none-anew edition statement root n m t none)))
-        (lt-or-le 0 anew)
+      -- i whole openings and j labels of the next
+      blocks-beyond :
+          (i j k : ℕ) → blocksOver store (i * anew) start ≡ blocksSum n (take (i * anew) (nodes i)) → 0 < anew → i < t → j ≤ anew
+          → i * anew + j ≡ k → blocksOver store k start ≡ blocksSum n (take k (nodes i ++ own (suc i)))
+      blocks-beyond i j k before more few some sum =
+          let all : take (i * anew) (nodes i) ≡ nodes i = take-all (i * anew) (nodes i) (omega (arith, nodes-size i)) in
+          let here : blocksOver store j (steps store (i * anew) start) ≡ blocksSum n (take j (own (suc i))) =
+          own-blocks (suc i) j (steps store (i * anew) start) (opening-begun more file i few) some in
+          omega (
+            arith,
+            rw all at before,
+            here,
+            rw sum at (cost-add (writingMachine store) (stepBlocks store) j (i * anew) start),
+            sum-over n j k (nodes i) (own (suc i)) (omega (arith, nodes-size i)),
+          )
+
+      blocks-to : (i k : ℕ) → i ≤ t → k ≤ i * anew → blocksOver store k start ≡ blocksSum n (take k (nodes i))
+      unfolding fileNodes blocksSum machines.costOf
+      blocks-to zero k few some =
+          let none : k ≡ 0 = omega (arith, zero-mul anew) in
+          rw none
+      blocks-to (suc i) k few some =
+          ⊎-elim
+          (λ (beyond : i * anew < k).
+          blocks-beyond i (k - i * anew) k (blocks-to i (i * anew) (omega arith) (omega arith)) (omega (arith, suc-mul i anew)) few
+          (omega (arith, suc-mul i anew)) (omega arith))
+          (λ (within : k ≤ i * anew).
+          blocks-to i k (omega arith) within
+          ∙ ap (blocksSum n) (sym (take-append-le k (nodes i) (own (suc i)) (omega (arith, nodes-size i)))))
+          (lt-or-le (i * anew) k)
+
+      pub file-blocks : (k : ℕ) → k ≤ t * anew → blocksOver store k start ≡ blocksSum n (take k (nodes t))
+      file-blocks k = blocks-to t k (omega arith)

@@ -24,9 +24,9 @@ blocks-of-parents k = omega arith
 pub leaf-blocks : (n : ℕ) (v : Node) → v .level ≡ n → v .position < 2 ^ n → nodeBlocks n v ≡ (ones (v .position) + 1) / 2 + 1
 leaf-blocks n v leaf inside = ap blocksOf (size-of-leaf n v leaf inside) ∙ blocks-of-parents (ones (v .position))
 
-pub bare-blocks : (n : ℕ) (v : Node) → parents n v ≡ [] → nodeBlocks n v ≡ 1
+pub no-parents-blocks : (n : ℕ) (v : Node) → parents n v ≡ [] → nodeBlocks n v ≡ 1
 unfolding inputSize
-bare-blocks n v none = rw none
+no-parents-blocks n v none = rw none
 
 pub most-blocks : (n : ℕ) (v : Node) → n ≤ maxDepth → InTree n v → nodeBlocks n v ≤ mostBlocks
 most-blocks n v shallow inTree = go (ltb (v .level) n) refl

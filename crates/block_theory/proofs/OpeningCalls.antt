@@ -27,14 +27,14 @@ use Rattle.opening_places.proofs.PlaceLaws.{way-inside}
 use Rattle.opening_places.proofs.AboveLaws.{front-length}
 use Rattle.opening.specs.declared.Opening.{Opening}
 use Rattle.opening.specs.Rows.{nodesAnew, reopenRow}
-use Rattle.opening.specs.Steps.{Open, stepped, openingMachine, steps, labelsIn, anewBlocks, stepBlocks, blocksOver, blocksIn}
+use Rattle.opening.specs.Steps.{Open, stepped, openingMachine, steps, labelsIn, nextBlocksOf, stepBlocks, blocksOver, blocksIn}
 use Rattle.opening.proofs.RowLaws.{continue-ready}
 use Rattle.opening.proofs.StepLaws.{anew-few}
 use Rattle.run_theory.specs.Openings.{Openable}
 use Rattle.run_theory.proofs.OpeningCalls.{reopen-fits}
 use Rattle.run_theory.proofs.Anew.{anew-count}
 use Rattle.writing.proofs.OpenLaws.{statement-kept, depth-kept, memory-kept, leaf-kept, made-after, anew-kept, steps-length}
-use Rattle.block_theory.specs.Sums.{blocksSum, nextNodesAnew, reportedAnew}
+use Rattle.block_theory.specs.Sums.{blocksSum, nextNodesAnew, reportedBlocksAnew}
 use Rattle.block_theory.proofs.StepSums.{steps-sum, call-sum, calls-sum}
 
 -- ---- a label is put among the held ones, whose bytes stay as many
@@ -80,9 +80,9 @@ pub record Labellable (o : Opening) (store : ℕ) : Type 0 where
 -- the next label's blocks are its node's
 label-blocks :
     (store : List ℕ) (o : Opening) → Labellable o (length store) → o .made < nodesAnew (o .depth) (o .memory)
-    → anewBlocks store o
+    → nextBlocksOf store o
     ≡ nodeBlocks (o .depth) (nextNode (o .depth - o .memory) (ancestor (o .depth) (o .leaf) (o .memory)) (o .made))
-unfolding anewBlocks
+unfolding nextBlocksOf
 label-blocks store o can few =
     let n : ℕ = o .depth in
     let m : ℕ = o .memory in
@@ -212,5 +212,5 @@ module _ (store : List ℕ) (s : Open) where
     pub opening-call : (budget : ℕ) → blocksIn store s budget ≡ nextSum (labelsIn store s budget)
     opening-call = call-sum (openingMachine store) (stepBlocks store) s left (goes-on (can .goes)) nextSum sums
 
-    pub opening-calls : (budgets : List ℕ) → reportedAnew store s budgets ≡ nextSum (min (total budgets) left)
+    pub opening-calls : (budgets : List ℕ) → reportedBlocksAnew store s budgets ≡ nextSum (min (total budgets) left)
     opening-calls = calls-sum (openingMachine store) (stepBlocks store) s left (goes-on (can .goes)) nextSum sums

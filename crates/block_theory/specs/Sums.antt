@@ -1,6 +1,6 @@
 -- W-207, 'Blocks beside labels': the blocks of some nodes' labels added up, and what calls with budgets report.
 use Prim.Native.Nat.{ℕ, zero, suc, _+_, _-_}
-use mathlib.Core.List.{List, [], _∷_}
+use mathlib.Core.List.{List, [], _∷_, _++_}
 use lib.ListN.{take, drop}
 use Rattle.machine.specs.Calls.{labelsOver}
 use Rattle.tree.specs.Nodes.{Node, labellingOrder, orderBelow}
@@ -28,24 +28,28 @@ nextNodes n made k = take k (drop made (labellingOrder n))
 abbrev pub nextNodesAnew : ℕ → ℕ → ℕ → ℕ → ℕ → List Node
 nextNodesAnew n m leaf made k = take k (drop made (orderBelow (n - m) (ancestor n leaf m)))
 
--- those of a whole tree, of a whole opening, and of the openings of the first t challenges
+-- the nodes that are labelled anew for the openings of the first t challenges, one opening after another
+unfoldable pub fileNodes : ℕ → List ℕ → List ℕ → ℕ → ℕ → ℕ → List Node
+fileNodes edition statement root n m zero = []
+fileNodes edition statement root n m (suc t) =
+    fileNodes edition statement root n m t ++ nextNodesAnew n m (challengeLeaf edition n statement root (suc t)) 0 (nodesAnew n m)
+
+-- the blocks of a whole tree, of a whole opening, and of the openings of the first t challenges
 abbrev pub treeBlocks : ℕ → ℕ
 treeBlocks n = blocksSum n (labellingOrder n)
 
 abbrev pub openingBlocks : ℕ → ℕ → ℕ → ℕ
 openingBlocks n m leaf = blocksSum n (nextNodesAnew n m leaf 0 (nodesAnew n m))
 
-unfoldable pub fileBlocks : ℕ → List ℕ → List ℕ → ℕ → ℕ → ℕ → ℕ
-fileBlocks edition statement root n m zero = 0
-fileBlocks edition statement root n m (suc t) =
-    fileBlocks edition statement root n m t + openingBlocks n m (challengeLeaf edition n statement root (suc t))
+abbrev pub fileBlocks : ℕ → List ℕ → List ℕ → ℕ → ℕ → ℕ → ℕ
+fileBlocks edition statement root n m t = blocksSum n (fileNodes edition statement root n m t)
 
 -- what calls report, added up: of a run, an opening and a file
 abbrev pub reportedBlocks : Stamped → List ℕ → ℕ
 reportedBlocks s budgets = labelsOver runs.advanced runs.blocksIn s budgets
 
-abbrev pub reportedAnew : List ℕ → Open → List ℕ → ℕ
-reportedAnew store s budgets = labelsOver (openings.advanced store) (openings.blocksIn store) s budgets
+abbrev pub reportedBlocksAnew : List ℕ → Open → List ℕ → ℕ
+reportedBlocksAnew store s budgets = labelsOver (openings.advanced store) (openings.blocksIn store) s budgets
 
-abbrev pub reportedWritten : List ℕ → Written → List ℕ → ℕ
-reportedWritten store s budgets = labelsOver (writings.advanced store) (writings.blocksIn store) s budgets
+abbrev pub reportedBlocksWritten : List ℕ → Written → List ℕ → ℕ
+reportedBlocksWritten store s budgets = labelsOver (writings.advanced store) (writings.blocksIn store) s budgets

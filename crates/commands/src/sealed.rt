@@ -50,6 +50,7 @@ fn facts_of(run: Run, root: [u8; 32], count: u64) -> Facts
     requires { ⌜ IsDepth (run .depth) × IsMemory (run .depth) (run .memory) × (count ≤ maxChallenges) ⌝ }
     ensures { λ r. ⌜ r .blocks ≡ sealBlocks edition (run .statement) root (run .depth) (run .memory) count ⌝ }
     ensures { λ r. ⌜ r .hashes ≡ nodesIn (run .depth) + labelsAnew (run .depth) (run .memory) count ⌝ }
+    ensures { λ r. ⌜ (r .statement ≡ run .statement) × (r .root ≡ root) × (r .depth ≡ run .depth) × (r .count ≡ count) ⌝ }
 {
     let statement = run.statement;
     let blocks = seal_blocks(statement, root, run.depth, run.memory, count);

@@ -5,7 +5,7 @@ use Prim.Native.Nat.{ℕ, _+_, _-_, _*_, _/_, _^_, _≤_, _<_, min}
 use native.Mathlib.Omega.{arith}
 use mathlib.Core.List.{List, [], map, flatten}
 use lib.Count.{ones}
-use lib.ListN.{length, length-map}
+use lib.ListN.{length, take, length-map}
 use lib.Seq.{take-all}
 use Rattle.base.specs.Limits.{edition}
 use Rattle.base.proofs.RowLaws.{some-refused}
@@ -50,12 +50,12 @@ use Rattle.writing.specs.Steps as writings
 use Rattle.writing.specs.Steps.{Written, writingMachine}
 use Rattle.writing.specs.Possible.{writtenOf}
 use Rattle.writing_theory.proofs.Rows.{started-done}
-use Rattle.block_theory.specs.Sums.{blocksSum, nextNodes, nextNodesAnew, treeBlocks, openingBlocks, fileBlocks, reportedBlocks, reportedAnew, reportedWritten}
+use Rattle.block_theory.specs.Sums.{blocksSum, nextNodes, nextNodesAnew, fileNodes, treeBlocks, openingBlocks, fileBlocks, reportedBlocks, reportedBlocksAnew, reportedBlocksWritten}
 use Rattle.block_theory.proofs.Sums.{tree-formula, opening-formula}
-use Rattle.block_theory.proofs.NodeCosts.{inner-blocks, bare-blocks, most-blocks, dearest-blocks}
+use Rattle.block_theory.proofs.NodeCosts.{inner-blocks, no-parents-blocks, most-blocks, dearest-blocks}
 use Rattle.block_theory.proofs.RunCalls.{run-call, run-calls}
 use Rattle.block_theory.proofs.OpeningCalls.{Reopenable, opening-call, opening-calls}
-use Rattle.block_theory.proofs.FileCalls.{file-blocks}
+use Rattle.block_theory.proofs.FileCalls.{nodes-length, file-blocks}
 use Rattle.demands.specs.Demand1.{InBounds, startedRun, startedOpening, startedFile}
 use Rattle.demands.specs.Blocks.{MessageBlocks, PortionBlocks, RunBlocks, OpeningBlocks, NoneReported, Blocks}
 use Rattle.demands.proofs.Checks.{beside-refused}
@@ -224,34 +224,47 @@ module _
 
   opening-whole :
       (budgets : List ℕ) → 2 ^ (n - m + 1) - 2 ≤ total budgets
-      → reportedAnew store (startedOpening statement n m leaf store out) budgets ≡ openingBlocks n m leaf
+      → reportedBlocksAnew store (startedOpening statement n m leaf store out) budgets ≡ openingBlocks n m leaf
   opening-whole budgets enough =
       let all : min (total budgets) (nodesAnew n m - 0) ≡ nodesAnew n m = omega arith in
-      ap (λ (start : Open). reportedAnew store start budgets) opening-started
+      ap (λ (start : Open). reportedBlocksAnew store start budgets) opening-started
       ∙ opening-calls store new opening-reopenable budgets
       ∙ ap (λ (k : ℕ). blocksSum n (nextNodesAnew n m leaf 0 k)) all
 
   whole-opening :
       m < n → (budgets : List ℕ) → 2 ^ (n - m + 1) - 2 ≤ total budgets
-      → 4 * (reportedAnew store (startedOpening statement n m leaf store out) budgets + 4)
+      → 4 * (reportedBlocksAnew store (startedOpening statement n m leaf store out) budgets + 4)
       ≡ (2 * ones (leaf / 2 ^ (n - m)) + (n - m) + 13) * 2 ^ (n - m)
   whole-opening low budgets enough = rw (opening-whole budgets enough) (opening-formula n m leaf low inside)
 
 -- ---- a file from its start, whatever store and root are
-whole-file :
-    (statement root : List ℕ) (n m t : ℕ) (store file budgets : List ℕ) → length statement ≡ 32 → length root ≡ 32
-    → InBounds n m (length store) → (1 ≤ t) × (t ≤ 200) → fileSize n t ≤ length file → t * (2 ^ (n - m + 1) - 2) ≤ total budgets
-    → reportedWritten store (startedFile statement root n m t store file) budgets ≡ fileBlocks edition statement root n m t
-whole-file statement root n m t store file budgets size rootSize bounds count fits enough =
-    let all : ℕ = t * nodesAnew n m in
-    let start : Written = startedFile statement root n m t store file in
-    let whole : min (total budgets) all ≡ all = omega arith in
-    calls-cost (writingMachine store) start all (file-goes statement root n m t store file size rootSize bounds count fits) (writings.stepBlocks store)
-    budgets
-    ∙ ap (λ (k : ℕ). writings.blocksOver store k start) whole
-    ∙ ap (λ (s : Written). writings.blocksOver store all s)
-    (started-done statement root n m t store file (can-write n m (length store) bounds t (length file) count fits))
-    ∙ file-blocks statement root n m t store size (bounds .depth) (omega (arith, bounds .memory)) (bounds .room) file
+module _
+    (statement root : List ℕ) (n m t : ℕ) (store file budgets : List ℕ) (size : length statement ≡ 32) (rootSize : length root ≡ 32)
+    (bounds : InBounds n m (length store)) (count : (1 ≤ t) × (t ≤ 200)) (fits : fileSize n t ≤ length file) where
+  abbrev all : ℕ
+  all = t * (2 ^ (n - m + 1) - 2)
+
+  abbrev fileSum : ℕ → ℕ
+  fileSum k = blocksSum n (take k (fileNodes edition statement root n m t))
+
+  file-from-start : reportedBlocksWritten store (startedFile statement root n m t store file) budgets ≡ fileSum (min (total budgets) all)
+  file-from-start =
+      let k : ℕ = min (total budgets) all in
+      calls-cost (writingMachine store) (startedFile statement root n m t store file) all
+      (file-goes statement root n m t store file size rootSize bounds count fits) (writings.stepBlocks store) budgets
+      ∙ ap (λ (s : Written). writings.blocksOver store k s)
+      (started-done statement root n m t store file (can-write n m (length store) bounds t (length file) count fits))
+      ∙ file-blocks statement root n m t store size (bounds .depth) (omega (arith, bounds .memory)) (bounds .room) file k (omega arith)
+
+  whole-file :
+      all ≤ total budgets
+      → reportedBlocksWritten store (startedFile statement root n m t store file) budgets ≡ fileBlocks edition statement root n m t
+  whole-file enough =
+      let nodes : List Node = fileNodes edition statement root n m t in
+      let whole : min (total budgets) all ≡ all = omega arith in
+      file-from-start
+      ∙ ap fileSum whole
+      ∙ ap (blocksSum n) (take-all all nodes (omega (arith, nodes-length edition statement root n m t)))
 
 pub blocks : Blocks
 blocks =
@@ -263,7 +276,7 @@ blocks =
       refusedMessage = refused-message;
       nodeInput = node-input;
       inner = inner-blocks;
-      noParents = bare-blocks;
+      noParents = no-parents-blocks;
       most = λ n v shallow inTree. omega (arith, most-blocks n v (omega (arith, shallow)) inTree);
       dearest = dearest-blocks;
       run = run-reports;
@@ -278,5 +291,6 @@ blocks =
       wholeRun = λ statement n m store budgets size bounds enough. whole-run statement n m store size bounds budgets enough;
       wholeOpening = λ statement n m leaf store out budgets size bounds low inside fits enough.
           whole-opening statement n m leaf store out size bounds inside fits low budgets enough;
+      fileFromStart = file-from-start;
       wholeFile = whole-file;
     }

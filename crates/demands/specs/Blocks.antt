@@ -4,7 +4,7 @@ use mathlib.Core.Logic.{_⊎_}
 use Prim.Native.Nat.{ℕ, _+_, _-_, _*_, _/_, _^_, _≤_, _<_, min}
 use mathlib.Core.List.{List, [], map, flatten}
 use lib.Count.{ones}
-use lib.ListN.{length}
+use lib.ListN.{length, take}
 use Rattle.base.specs.Limits.{edition}
 use Rattle.compression.specs.Constants.{initial}
 use Rattle.sha256.specs.declared.Hash.{Hash}
@@ -30,7 +30,7 @@ use Rattle.writing.specs.declared.Writing.{Writing}
 use Rattle.writing.specs.Rows.{rewriteRow}
 use Rattle.writing.specs.Steps as writings
 use Rattle.writing.specs.Possible.{writtenOf}
-use Rattle.block_theory.specs.Sums.{blocksSum, nextNodes, nextNodesAnew, fileBlocks, reportedBlocks, reportedAnew, reportedWritten}
+use Rattle.block_theory.specs.Sums.{blocksSum, nextNodes, nextNodesAnew, fileNodes, fileBlocks, reportedBlocks, reportedBlocksAnew, reportedBlocksWritten}
 use Rattle.demands.specs.Demand1.{InBounds, startedRun, startedOpening, startedFile}
 
 -- ---- 'Hashing a message answers with the 64-byte blocks it compressed ..'
@@ -66,7 +66,7 @@ pub record OpeningBlocks (store : List ℕ) (s : Open) : Type 0 where
       (nextNodesAnew (s .opening .depth) (s .opening .memory) (s .opening .leaf) (s .opening .made) (openings.labelsIn store s budget))
   pub calls :
       (budgets : List ℕ)
-      → reportedAnew store s budgets
+      → reportedBlocksAnew store s budgets
       ≡ blocksSum (s .opening .depth)
       (nextNodesAnew (s .opening .depth) (s .opening .memory) (s .opening .leaf) (s .opening .made)
       (min (total budgets) (2 ^ (s .opening .depth - s .opening .memory + 1) - 2 - s .opening .made)))
@@ -129,10 +129,17 @@ pub record Blocks : Type 0 where
   pub wholeOpening :
       (statement : List ℕ) (n m leaf : ℕ) (store out budgets : List ℕ) → length statement ≡ 32 → InBounds n m (length store) → m < n
       → leaf < 2 ^ n → 32 * (n + 1) ≤ length out → 2 ^ (n - m + 1) - 2 ≤ total budgets
-      → 4 * (reportedAnew store (startedOpening statement n m leaf store out) budgets + 4)
+      → 4 * (reportedBlocksAnew store (startedOpening statement n m leaf store out) budgets + 4)
       ≡ (2 * ones (leaf / 2 ^ (n - m)) + (n - m) + 13) * 2 ^ (n - m)
-  -- for a whole file the openings' added up, whatever the store holds
+  -- a file from a start, any list of budgets: the sum over the first k nodes of its openings, one opening after another, whatever the
+  -- store holds
+  pub fileFromStart :
+      (statement root : List ℕ) (n m t : ℕ) (store file budgets : List ℕ) → length statement ≡ 32 → length root ≡ 32
+      → InBounds n m (length store) → (1 ≤ t) × (t ≤ 200) → fileSize n t ≤ length file
+      → reportedBlocksWritten store (startedFile statement root n m t store file) budgets
+      ≡ blocksSum n (take (min (total budgets) (t * (2 ^ (n - m + 1) - 2))) (fileNodes edition statement root n m t))
+  -- for a whole file all of them
   pub wholeFile :
       (statement root : List ℕ) (n m t : ℕ) (store file budgets : List ℕ) → length statement ≡ 32 → length root ≡ 32
       → InBounds n m (length store) → (1 ≤ t) × (t ≤ 200) → fileSize n t ≤ length file → t * (2 ^ (n - m + 1) - 2) ≤ total budgets
-      → reportedWritten store (startedFile statement root n m t store file) budgets ≡ fileBlocks edition statement root n m t
+      → reportedBlocksWritten store (startedFile statement root n m t store file) budgets ≡ fileBlocks edition statement root n m t

@@ -14,7 +14,7 @@ use Rattle.labelling.specs.Step.{nextNode, heldWith}
 use Rattle.opening.specs.Rows.{nodesAnew}
 use Rattle.opening.specs.Names.{openingOf, openOf, nextAnew, labelAnew, blocksAnew}
 use Rattle.opening_places.specs.Places.{ancestor, placed, front}
-use Rattle.opening.specs.Steps.{Open, stepped, openingMachine, steps, anewBlocks, stepBlocks}
+use Rattle.opening.specs.Steps.{Open, stepped, openingMachine, steps, nextBlocksOf, stepBlocks}
 
 -- the ancestor's own label is not made anew
 pub anew-few : (n m k : ℕ) → k < nodesAnew n m → k + 1 < nodesIn (n - m)
@@ -66,5 +66,5 @@ module _ (store : List ℕ) (s : Open) (i : ℕ) (statement : List ℕ) (n m lea
 
   pub step-blocks : (blocks : ℕ) → blocks ≡ blocksAnew statement n m leaf aboves held (made + i)
       → blocks ≡ stepBlocks store (openOf (openingOf statement n m leaf (made + i) held) out)
-  unfolding anewBlocks
+  unfolding nextBlocksOf
   step-blocks blocks e = e ∙ ap (λ (x : List ℕ). blocksAnew statement n m leaf x held (made + i)) read

@@ -75,13 +75,13 @@ abbrev pub labelsIn : List ℕ → Open → ℕ → ℕ
 labelsIn store s budget = machines.doneIn (openingMachine store) s budget
 
 -- W-207: the blocks of the next label made anew, and those of the labels that a call makes
-unfoldable pub anewBlocks : List ℕ → Opening → ℕ
-anewBlocks store o =
+unfoldable pub nextBlocksOf : List ℕ → Opening → ℕ
+nextBlocksOf store o =
     nextBlocks edition (o .statement) (o .depth - o .memory) (ancestor (o .depth) (o .leaf) (o .memory))
     (front (o .depth) (o .memory) (o .leaf) store) (o .held) (o .made)
 
 abbrev pub stepBlocks : List ℕ → Open → ℕ
-stepBlocks store s = anewBlocks store (s .opening)
+stepBlocks store s = nextBlocksOf store (s .opening)
 
 abbrev pub blocksOver : List ℕ → ℕ → Open → ℕ
 blocksOver store k s = machines.costOf (openingMachine store) (stepBlocks store) k s

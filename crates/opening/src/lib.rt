@@ -87,7 +87,8 @@ impl Opening {
         }
     }
 
-    // Labels exactly the smaller of the budget and what remains, and puts each label of the opening in its place.
+    // Labels exactly the smaller of the budget and what remains, and puts each label of the opening in its place. The blocks are those of
+    // these labels.
     pub fn advance(self, budget: u64, store: &[u8], out: &mut [u8]) -> Advanced
         ensures { λ r. ⌜ outcomeNumber (r .outcome) ≡ reopenRow self (length (now (store .entry))) (length (now (out .entry))) ⌝ }
         ensures { λ r. ⌜ r .labels ≡ labelsIn (now (store .entry)) (openOf self (now (out .entry))) budget ⌝ }

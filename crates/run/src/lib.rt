@@ -76,7 +76,7 @@ impl Run {
         }
     }
 
-    // Labels exactly the smaller of the budget and what remains.
+    // Labels exactly the smaller of the budget and what remains; the blocks are those of these labels.
     pub fn advance(self, budget: u64, store: &mut [u8]) -> Advanced
         ensures { λ r. ⌜ outcomeNumber (r .outcome) ≡ continueRow self (length (now (store .entry))) ⌝ }
         ensures { λ r. ⌜ r .labels ≡ labelsIn (stamped self (now (store .entry))) budget ⌝ }

@@ -73,7 +73,8 @@ finishRow s = firstOf ((tooMany s 0, 5) ∷ [])
 unfoldable pub finishDigest : Hash → List ℕ
 finishDigest s = pick (tooMany s 0) (zeros 32) (digestOf (pushedAll s (padding (s .taken)) .words))
 
--- W-207: the message's blocks, those compressed with its portions and those compressed at the end; 0 where it is refused
+-- W-207: the blocks of a message of so many bytes (as many are compressed with its portions and at the end: `portions-counted`), 0 where it
+-- is refused
 unfoldable pub finishBlocks : Hash → ℕ
 finishBlocks s = pick (tooMany s 0) 0 (blocksOf (s .taken))
 

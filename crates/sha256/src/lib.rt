@@ -101,7 +101,7 @@ impl Hash {
         }
     }
 
-    // The digest of all that was taken.
+    // The digest of all that was taken, and its blocks.
     pub fn finish(self) -> Finished
         ensures { λ r. ⌜ (outcomeNumber (r .outcome) ≡ finishRow self) × (r .blocks ≡ finishBlocks self) ⌝ }
         ensures { λ r. ⌜ (r .digest ≡ finishDigest self) × (r .hash ≡ finishState self) ⌝ }
@@ -126,7 +126,7 @@ impl Hash {
     }
 }
 
-// The digest of a whole message.
+// The digest of a whole message, and its blocks.
 pub fn digest(message: &[u8]) -> Digested
     ensures { λ r. ⌜ (outcomeNumber (r .outcome) ≡ digestRow (now (message .entry))) × (r .blocks ≡ digestBlocks (now (message .entry))) ⌝ }
     ensures { λ r. ⌜ r .digest ≡ digestAnswer (now (message .entry)) ⌝ }

@@ -1,5 +1,5 @@
 // W-207: the blocks of messages, and of calls on runs and openings, one after another. The stored output has the lines of the shared
-// vectors.
+// vectors but that of 2^61 − 1 bytes, whose end digests.rt has.
 use opening::Opening;
 use run::Run;
 use sha256::digest;

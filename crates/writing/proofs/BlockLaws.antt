@@ -56,4 +56,4 @@ module _ (store : List ℕ) (s : Written) (out : List ℕ) where
   blocks-under zero few = refl
   blocks-under (suc k) few =
       ap₂ (λ (a b : ℕ). a + b) (blocks-under k (omega arith))
-      (ap (λ (v : Writing). openings.anewBlocks store (v .opening)) (writing-under k (omega arith)))
+      (ap (λ (v : Writing). openings.nextBlocksOf store (v .opening)) (writing-under k (omega arith)))

@@ -108,7 +108,7 @@ labelsIn store s budget = machines.doneIn (writingMachine store) s budget
 
 -- W-207: the blocks of the next label of the opening under way, and those of the labels that a call makes
 abbrev pub stepBlocks : List ℕ → Written → ℕ
-stepBlocks store s = openings.anewBlocks store (s .writing .opening)
+stepBlocks store s = openings.nextBlocksOf store (s .writing .opening)
 
 abbrev pub blocksOver : List ℕ → ℕ → Written → ℕ
 blocksOver store k s = machines.costOf (writingMachine store) (stepBlocks store) k s

@@ -94,7 +94,8 @@ impl Writing {
         }
     }
 
-    // Makes exactly the smaller of the budget and the labels that remain, and begins the next opening when one is done.
+    // Makes exactly the smaller of the budget and the labels that remain, and begins the next opening when one is done. The blocks are those
+    // of these labels, without the challenges'.
     pub fn advance(self, budget: u64, store: &[u8], file: &mut [u8]) -> Advanced
         ensures { λ r. ⌜ outcomeNumber (r .outcome) ≡ rewriteRow self (length (now (store .entry))) (length (now (file .entry))) ⌝ }
         ensures { λ r. ⌜ r .labels ≡ labelsIn (now (store .entry)) (writtenOf self (now (file .entry))) budget ⌝ }
