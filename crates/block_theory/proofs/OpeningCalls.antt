@@ -1,26 +1,20 @@
 -- The blocks that an opening's calls report are those of the nodes labelled anew in them, of every opening that a call does not refuse
 -- and whatever the store holds.
 use mathlib.Core.Path.{_≡_, refl, _∙_}
-use mathlib.Core.Bool.{Bool, true, false}
 use mathlib.Core.List.{List}
-use Prim.Native.Nat.{ℕ, zero, suc, _+_, _-_, _*_, _/_, _^_, _≤_, _<_, min}
+use Prim.Native.Nat.{ℕ, zero, suc, _+_, _-_, _/_, _^_, _≤_, _<_, min}
 use native.Mathlib.Omega.{arith}
-use borrow.Author.Tests.{eqb-false}
 use lib.ListN.{length}
-use Rattle.base.specs.Choice.{pick}
-use Rattle.base.specs.Limits.{edition, maxDepth, heldSize, IsDepth, IsMemory}
-use Rattle.base.specs.Bytes.{zeros, written}
-use Rattle.base.proofs.Copying.{length-written}
+use Rattle.base.specs.Limits.{edition, heldSize, IsDepth, IsMemory}
 use Rattle.machine.specs.Machines as machines
 use Rattle.machine.specs.Machines.{Goes}
 use Rattle.machine.specs.Calls.{total}
 use Rattle.sha256.proofs.Digests.{digest-length}
 use Rattle.tree.specs.Nodes.{Node, node}
-use Rattle.tree.specs.Walk.{nodesIn}
 use Rattle.tree.specs.Store.{storeSize}
-use Rattle.labelling.specs.Step.{nextNode, placeOf, isLeaf, nextLabel, heldWith}
+use Rattle.labelling.specs.Step.{nextNode, nextLabel}
 use Rattle.labelling.specs.Blocks.{nodeBlocks}
-use Rattle.labelling.proofs.OneStep.{place-le, next-level}
+use Rattle.labelling.proofs.HeldSize.{held-size}
 use Rattle.labelling.proofs.BlockLaws.{next-blocks}
 use Rattle.opening_places.specs.Places.{ancestor, front}
 use Rattle.opening_places.proofs.PlaceLaws.{way-inside}
@@ -36,37 +30,6 @@ use Rattle.run_theory.proofs.Anew.{anew-count}
 use Rattle.writing.proofs.OpenLaws.{statement-kept, depth-kept, memory-kept, leaf-kept, made-after, anew-kept, steps-length}
 use Rattle.block_theory.specs.Sums.{blocksSum, nextNodesAnew, reportedBlocksAnew}
 use Rattle.block_theory.proofs.StepSums.{steps-sum, call-sum, calls-sum}
-
--- ---- a label is put among the held ones, whose bytes stay as many
-module _
-    (height level position made : ℕ) (shallow : level + height ≤ maxDepth) (few : made < nodesIn height) (held label : List ℕ)
-    (whole : length held ≡ heldSize) (size : length label ≡ 32) where
-  abbrev next : Node
-  next = nextNode height (node level position) made
-
-  abbrev at : ℕ
-  at = 32 * placeOf (node level position) next
-
-  place-few : placeOf (node level position) next ≤ next .level - level
-  place-few = place-le (next .level - level) (next .position)
-
-  inside : (level ≤ next .level) × (next .level ≤ level + height)
-  inside = next-level height level position made (next .level) (next .position) few refl
-
-  own-place : length (written held at label) ≡ heldSize
-  own-place = length-written held at label (omega (arith, place-few, inside)) ∙ whole
-
-  size-after :
-      (t : Bool) → isLeaf height (node level position) next ≡ t
-      → length (pick t (written held at label) (written (written held at label) (at + 32) (zeros 32))) ≡ heldSize
-  size-after true leaf = own-place
-  size-after false inner =
-      let lower : next .level ≡ level + height → ⊥ = eqb-false (next .level) (level + height) inner in
-      length-written (written held at label) (at + 32) (zeros 32) (omega (arith, place-few, inside, own-place)) ∙ own-place
-
-  pub held-size : length (heldWith height (node level position) held next label) ≡ heldSize
-  unfolding heldWith
-  held-size = size-after (isLeaf height (node level position) next) refl
 
 -- ---- an opening of any bytes that can be labelled over a store of so many bytes
 pub record Labellable (o : Opening) (store : ℕ) : Type 0 where

@@ -50,7 +50,8 @@ use Rattle.writing.specs.Steps as writings
 use Rattle.writing.specs.Steps.{Written, writingMachine}
 use Rattle.writing.specs.Possible.{writtenOf}
 use Rattle.writing_theory.proofs.Rows.{started-done}
-use Rattle.block_theory.specs.Sums.{blocksSum, nextNodes, nextNodesAnew, fileNodes, treeBlocks, openingBlocks, fileBlocks, reportedBlocks, reportedBlocksAnew, reportedBlocksWritten}
+use Rattle.block_theory.specs.Sums.{blocksSum, nextNodes, nextNodesAnew, fileNodes, treeBlocks, openingBlocks, fileBlocks}
+use Rattle.block_theory.specs.Sums.{reportedBlocks, reportedBlocksAnew, reportedBlocksWritten}
 use Rattle.block_theory.proofs.Sums.{tree-formula, opening-formula}
 use Rattle.block_theory.proofs.NodeCosts.{inner-blocks, no-parents-blocks, most-blocks, dearest-blocks}
 use Rattle.block_theory.proofs.RunCalls.{run-call, run-calls}

@@ -1,4 +1,5 @@
 pub mod OneStep
+pub mod HeldSize
 pub mod BlockLaws
 pub mod Walking
 pub mod Filled

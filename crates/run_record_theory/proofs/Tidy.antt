@@ -9,7 +9,6 @@ use lib.Seq.{take-at, drop-at, take-add, drop-drop, length-take-le}
 use Rattle.base.specs.Limits.{edition, maxDepth, heldSize}
 use Rattle.base.specs.Bytes.{zeros, written}
 use Rattle.base.specs.Choice.{pick}
-use Rattle.base.proofs.Copying.{length-written}
 use Rattle.base.proofs.Parts.{written-behind}
 use Rattle.base.proofs.WrittenLaws.{written-two}
 use Rattle.base.proofs.Zeros.{zeros-split, filled-more}
@@ -19,6 +18,7 @@ use Rattle.tree.specs.Held.{held}
 use Rattle.tree.specs.Walk.{nodesIn}
 use Rattle.labelling.specs.Rule.{stampRule}
 use Rattle.labelling.specs.Step.{nextNode, placeOf, isLeaf, hashedLabels, nextLabel, heldWith}
+use Rattle.labelling.proofs.HeldSize.{held-size}
 use Rattle.run.specs.declared.Run.{Run}
 use Rattle.run.specs.Steps.{runOf, Stamped, stamped, stored, stepped}
 use Rattle.run_record.specs.Layout.{heldLength, recordOf}
@@ -150,22 +150,8 @@ module _ (n k : ℕ) (places : List ℕ) (whole : length places ≡ heldSize) (s
     unfolding heldWith
     held-same = places-same (isLeaf n root (nextNode n root k)) refl (32 * placeOf root (nextNode n root k)) refl
 
-    size-same :
-        (t : Bool) → isLeaf n root (nextNode n root k) ≡ t
-        → (at : ℕ) → at ≡ 32 * placeOf root (nextNode n root k)
-        → length (pick t (written places at label) (written (written places at label) (at + 32) (zeros 32))) ≡ heldSize
-    size-same true leaf at is =
-        length-written places at label (omega (arith, place-fits n k small shallow)) ∙ whole
-    size-same false inner at is =
-        let first : length (written places at label) ≡ heldSize =
-        length-written places at label (omega (arith, place-fits n k small shallow)) ∙ whole in
-        length-written (written places at label) (at + 32) (zeros 32)
-        (omega (arith, count-inner n k small inner, held-fits n k shallow (omega arith)))
-        ∙ first
-
     pub places-size : length (heldWith n root places (nextNode n root k) label) ≡ heldSize
-    unfolding heldWith
-    places-size = size-same (isLeaf n root (nextNode n root k)) refl (32 * placeOf root (nextNode n root k)) refl
+    places-size = held-size n 0 0 k (omega arith) small places label whole size
 
 -- ---- runs
 -- tidying keeps the front of the places
