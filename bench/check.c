@@ -68,7 +68,8 @@ static double checked(int proved) {
     uint64_t refused = 0;
     double start = now();
     for (int i = 0; i < COUNT; i++)
-        refused += proved ? mastdock_check_opening(statement, root, DEPTH, leaves[i], openings + i * SIZE, SIZE)
+        refused += proved ? mastdock_check_opening(MASTDOCK_NEW_EDITION, statement, root, DEPTH, leaves[i], openings + i * SIZE,
+                                                   SIZE)
                           : (uint64_t)plain_check_opening(statement, root, DEPTH, leaves[i], openings + i * SIZE);
     double took = now() - start;
     if (refused) {
@@ -80,7 +81,8 @@ static double checked(int proved) {
 
 static double compared(void) {
     double start = now();
-    mastdock_compared c = mastdock_compare(statement, DEPTH, leaves, COUNT, openings, sizeof openings);
+    mastdock_compared c =
+        mastdock_compare(MASTDOCK_NEW_EDITION, statement, DEPTH, leaves, COUNT, openings, sizeof openings);
     double took = now() - start;
     if (c.refusal || c.clash.i) {
         printf("the openings disagree\n");

@@ -1,4 +1,5 @@
-/* Plain C versions of what Mastdock does, written from the documents for comparison of speed. */
+/* Plain C versions of what Mastdock does, written from the documents for comparison of speed. Labels are those of edition 2,
+   which new runs have: of a label's parents the one made last is hashed first (W-206). */
 #ifndef PLAIN_H
 #define PLAIN_H
 #include <stddef.h>

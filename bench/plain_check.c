@@ -1,4 +1,4 @@
-/* One opening of document 01 checked, in plain C. */
+/* One opening of document 01 checked in the order of edition 2, in plain C. */
 #include "plain.h"
 #include <string.h>
 
@@ -13,7 +13,7 @@ static size_t head(const uint8_t statement[32], unsigned level, uint64_t positio
 void plain_leaf_label(const uint8_t statement[32], unsigned depth, uint64_t leaf, const uint8_t *siblings, uint8_t label[32]) {
     uint8_t input[41 + 32 * 40];
     size_t at = head(statement, depth, leaf, input);
-    for (unsigned level = 1; level <= depth; level++)
+    for (unsigned level = depth; level >= 1; level--) /* largest level first */
         if (leaf >> (depth - level) & 1) {
             memcpy(input + at, siblings + 32 * (depth - level), 32);
             at += 32;
@@ -25,8 +25,8 @@ void plain_inner_label(const uint8_t statement[32], unsigned level, uint64_t pos
                        const uint8_t right[32], uint8_t label[32]) {
     uint8_t input[105];
     head(statement, level, position, input);
-    memcpy(input + 41, left, 32);
-    memcpy(input + 73, right, 32);
+    memcpy(input + 41, right, 32);
+    memcpy(input + 73, left, 32);
     plain_sha256(input, 105, label);
 }
 

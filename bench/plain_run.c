@@ -1,7 +1,8 @@
-/* A run of document 01 in plain C: one label at a time, held labels and the store in lent memory. */
+/* A run of document 01 in plain C, of edition 2: one label at a time, held labels and the store in lent memory. */
 #include "plain.h"
 #include <string.h>
 
+/* The parents stand in the order made; the last comes first. */
 static void label(struct plain_run *run, unsigned level, uint64_t position, const uint8_t *parents, size_t len,
                   uint8_t out[32]) {
     uint8_t input[41 + 32 * 40];
@@ -9,7 +10,8 @@ static void label(struct plain_run *run, unsigned level, uint64_t position, cons
     input[32] = (uint8_t)level;
     for (int i = 0; i < 8; i++)
         input[33 + i] = (uint8_t)(position >> (56 - 8 * i));
-    memcpy(input + 41, parents, len);
+    for (size_t at = 0; at < len; at += 32)
+        memcpy(input + 41 + at, parents + len - 32 - at, 32);
     plain_sha256(input, 41 + len, out);
 }
 

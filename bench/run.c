@@ -64,7 +64,8 @@ static int compare(const char *name, uint64_t budget) {
 static double opened(uint8_t *store) {
     uint8_t statement[32] = {1, 2, 3}, out[32 * (DEPTH + 1)];
     double start = now();
-    mastdock_opening o = mastdock_opening_start(statement, DEPTH, 0, 12345, store, 32, out, sizeof out).opening;
+    mastdock_opening o =
+        mastdock_opening_start(MASTDOCK_NEW_EDITION, statement, DEPTH, 0, 12345, store, 32, out, sizeof out).opening;
     mastdock_opening_advance(o, ALL - 1, store, 32, out, sizeof out);
     return now() - start;
 }
@@ -87,7 +88,7 @@ static void openings(void) {
 static double recorded(int read, double *sum) {
     enum { TURNS = 20000 };
     uint8_t record[MASTDOCK_MAX_RECORD];
-    mastdock_run run = {.depth = 40, .memory = 14, .made = MASTDOCK_LABELS(40) - 40};
+    mastdock_run run = {.edition = MASTDOCK_NEW_EDITION, .depth = 40, .memory = 14, .made = MASTDOCK_LABELS(40) - 40};
     memset(run.held, 7, sizeof run.held);
     size_t size = mastdock_run_record(run, record, sizeof record).size;
     double start = now();

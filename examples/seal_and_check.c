@@ -37,8 +37,8 @@ static void hash_report(const char *report, size_t len, uint8_t statement[32]) {
     memcpy(statement, finished.digest, 32);
 }
 
-/* Labels the tree, some labels a call; the root is the last one held. */
-static void label_tree(const uint8_t statement[32], uint8_t *store, size_t store_len, uint8_t root[32]) {
+/* Labels the tree, some labels a call; the root is the last one held. Gives the run's edition, which its openings and file need. */
+static uint64_t label_tree(const uint8_t statement[32], uint8_t *store, size_t store_len, uint8_t root[32]) {
     mastdock_run_started started = mastdock_run_start(statement, DEPTH, MEMORY, store, store_len);
     if (started.refusal)
         fail("mastdock_run_start", started.refusal);
@@ -50,13 +50,14 @@ static void label_tree(const uint8_t statement[32], uint8_t *store, size_t store
         run = advanced.run;
     }
     memcpy(root, run.held, 32);
+    return run.edition;
 }
 
 /* The head and the openings, some labels a call. */
-static void write_file(const uint8_t statement[32], const uint8_t root[32], const uint8_t *store, size_t store_len,
-                       uint8_t *file, size_t file_len) {
+static void write_file(uint64_t edition, const uint8_t statement[32], const uint8_t root[32], const uint8_t *store,
+                       size_t store_len, uint8_t *file, size_t file_len) {
     mastdock_writing_started started =
-        mastdock_writing_start(statement, root, DEPTH, MEMORY, COUNT, store, store_len, file, file_len);
+        mastdock_writing_start(edition, statement, root, DEPTH, MEMORY, COUNT, store, store_len, file, file_len);
     if (started.refusal)
         fail("mastdock_writing_start", started.refusal);
     mastdock_writing writing = started.writing;
@@ -85,22 +86,23 @@ int main(void) {
         return 1;
     hash_report(REPORT, strlen(REPORT), statement);
     print_label("statement", statement);
-    label_tree(statement, store, store_len, root);
+    uint64_t edition = label_tree(statement, store, store_len, root);
     print_label("root", root);
     memset(file, 0, file_len);
-    write_file(statement, root, store, store_len, file, file_len);
+    write_file(edition, statement, root, store, store_len, file, file_len);
     print_label("file", mastdock_digest(file, file_len).digest);
     mastdock_head head = mastdock_read_head(file, file_len);
-    printf("head depth %llu count %llu\n", (unsigned long long)head.depth, (unsigned long long)head.count);
+    printf("head edition %llu depth %llu count %llu\n", (unsigned long long)head.edition, (unsigned long long)head.depth,
+           (unsigned long long)head.count);
     printf("check %llu\n", (unsigned long long)mastdock_check_file(file, file_len, statement, DEPTH, COUNT));
     draw_chain(statement, file, file_len);
 
     /* One byte of opening 5 changed, checked in the file and alone. */
     mastdock_place place = mastdock_opening_place(file, file_len, 5);
-    uint64_t leaf = mastdock_challenge(statement, root, DEPTH, 5).leaf;
+    uint64_t leaf = mastdock_challenge(head.edition, statement, root, DEPTH, 5).leaf;
     file[place.offset] ^= 1;
     uint64_t code = mastdock_check_file(file, file_len, statement, DEPTH, COUNT);
-    uint64_t refusal = mastdock_check_opening(statement, root, DEPTH, leaf, file + place.offset, place.length);
+    uint64_t refusal = mastdock_check_opening(head.edition, statement, root, DEPTH, leaf, file + place.offset, place.length);
     printf("damaged: check %llu, opening %llu\n", (unsigned long long)code, (unsigned long long)refusal);
     free(store);
     free(file);

@@ -15,7 +15,17 @@
  * - A pointer to an array of 32 bytes points to 32 readable bytes and is not null. A pointer with a number of elements points to so
  *   many, readable or, where it is not const, writable. A uint64_t pointer is aligned, unless it is null.
  * - Memory that a call may write overlaps no other memory lent to that call.
- * Nothing else is asked. No call keeps a pointer, allocates, or uses global data, so calls on different memory may run at once. */
+ * Nothing else is asked. No call keeps a pointer, allocates, or uses global data, so calls on different memory may run at once.
+ *
+ * Editions (W-206)
+ * - The edition of a run, an opening or a file decides in which order a node's label hashes the labels of its parents. In edition 1 the
+ *   label made first comes first: left child before right, and for a leaf the smallest level first. In edition 2 the label made last comes
+ *   first: right child before left, and for a leaf the largest level first. Nothing else differs: a challenge's leaf comes
+ *   from statement and root in the same way.
+ * - A new run has MASTDOCK_NEW_EDITION. A run, an opening and a file under writing keep their edition, and a record carries it. A run of
+ *   edition 1 comes only from a record of edition 1 or from a struct with that edition.
+ * - A file is checked and drawn by the edition that its head says; mastdock_read_head tells it. The other calls about openings take the
+ *   edition as their first argument: it is the edition of the run whose store, root or opening it is. */
 #ifndef MASTDOCK_H
 #define MASTDOCK_H
 
@@ -31,8 +41,8 @@ enum mastdock_refusal {
     MASTDOCK_DEPTH = 1,           /* depth n not 1..40 */
     MASTDOCK_MEMORY_LEVEL = 2,    /* memory level m over min(n, 14) */
     MASTDOCK_SHORT_STORE = 3,     /* store short */
-    MASTDOCK_STATE = 4,           /* a state that cannot be continued: n not 1..40, m over min(n, 14), a leaf of 2^n or more, or more
-                                     labels made than there are to make; or a record of such numbers */
+    MASTDOCK_STATE = 4,           /* a state that cannot be continued: an edition that does not exist, n not 1..40, m over min(n, 14), a
+                                     leaf of 2^n or more, or more labels made than there are to make; or a record of such numbers */
     MASTDOCK_TOO_MANY_BYTES = 5,  /* over 2^61 - 1 bytes to hash in all */
     MASTDOCK_LEAF_POSITION = 6,   /* a leaf's position 2^n or more */
     MASTDOCK_SHORT_OUTPUT = 7,    /* output short */
@@ -40,7 +50,7 @@ enum mastdock_refusal {
     MASTDOCK_NOT_WANTED = 9,      /* statement, depth or count not those wanted */
     MASTDOCK_BYTES_END = 10,      /* bytes end, or are too few */
     MASTDOCK_NOT_SHORTEST = 11,   /* a number of a file or record not in its shortest form, or too long */
-    MASTDOCK_EDITION = 12,        /* edition not 1 */
+    MASTDOCK_EDITION = 12,        /* edition neither 1 nor 2 */
     MASTDOCK_BYTES_LEFT = 13,     /* bytes too many */
     MASTDOCK_LEAF_LABEL = 14,     /* leaf label wrong */
     MASTDOCK_ROOT = 15,           /* root wrong */
@@ -58,6 +68,8 @@ enum mastdock_refusal {
 #define MASTDOCK_SIZE(x) ((size_t)(x))
 #define MASTDOCK_NUMBER(x) ((uint64_t)(x))
 #endif
+#define MASTDOCK_MAX_EDITION 2                                              /* the editions that exist are 1 to this one */
+#define MASTDOCK_NEW_EDITION 2                                              /* the edition of a new run */
 #define MASTDOCK_MAX_DEPTH 40
 #define MASTDOCK_MAX_MEMORY 14
 #define MASTDOCK_MAX_COUNT 200
@@ -121,9 +133,10 @@ mastdock_digested mastdock_digest(const uint8_t *message, size_t message_len);
  * finished cannot be carried on. The store of a finished one is opened, and its file written, at level 14 over the same bytes, since a
  * label's slot does not depend on the level. Files do not carry the level: all old ones are good. */
 
-/* A run: statement, n, m, the labels made, and the held labels. When all labels are made, the root is in held[0..31]. */
+/* A run: statement, edition, n, m, the labels made, and the held labels. When all labels are made, the root is in held[0..31]. */
 typedef struct mastdock_run {
     uint8_t statement[32];
+    uint64_t edition;
     uint64_t depth;
     uint64_t memory;
     uint64_t made;
@@ -142,7 +155,8 @@ typedef struct mastdock_run_advanced {
     mastdock_run run;
 } mastdock_run_advanced;
 
-/* A new run, for a store of MASTDOCK_STORE_SIZE(memory) bytes or more, which it leaves as it is. Refusals: 1, 2, 3. */
+/* A new run of MASTDOCK_NEW_EDITION, for a store of MASTDOCK_STORE_SIZE(memory) bytes or more, which it leaves as it is. Refusals: 1, 2,
+ * 3. */
 mastdock_run_started mastdock_run_start(const uint8_t statement[32], uint64_t depth, uint64_t memory, const uint8_t *store,
                                         size_t store_len);
 
@@ -155,7 +169,7 @@ mastdock_run_advanced mastdock_run_advance(mastdock_run run, uint64_t budget, ui
  *
  * The record of a run is those bytes of it that another machine needs to go on: edition, depth, memory level and labels made, then the
  * statement, then the held labels and no place beyond them. The store travels separately. Over the same store a run that was paused
- * after any label and resumed ends with the root and store of one never paused. */
+ * after any label and resumed ends with the root and store of one never paused. A resumed run has the edition of its record. */
 
 typedef struct mastdock_run_recorded {
     uint64_t refusal;
@@ -176,6 +190,7 @@ mastdock_run_started mastdock_run_resume(const uint8_t *record, size_t record_le
 /* An opening under way: a run's state with the leaf; count and held labels are those of the nodes labelled anew. */
 typedef struct mastdock_opening {
     uint8_t statement[32];
+    uint64_t edition;
     uint64_t depth;
     uint64_t memory;
     uint64_t leaf;
@@ -196,9 +211,9 @@ typedef struct mastdock_opening_advanced {
 } mastdock_opening_advanced;
 
 /* A new opening of a leaf: copies what the store holds of it to the MASTDOCK_OPENING_SIZE(depth) bytes of the output. The store is
- * a finished run's of the same statement and depth, and of this memory level or a higher one. Refusals: 1, 2, 3, 6, 7. */
-mastdock_opening_started mastdock_opening_start(const uint8_t statement[32], uint64_t depth, uint64_t memory, uint64_t leaf,
-                                                const uint8_t *store, size_t store_len, uint8_t *out, size_t out_len);
+ * a finished run's of the same edition, statement and depth, and of this memory level or a higher one. Refusals: 12, 1, 2, 3, 6, 7. */
+mastdock_opening_started mastdock_opening_start(uint64_t edition, const uint8_t statement[32], uint64_t depth, uint64_t memory,
+                                                uint64_t leaf, const uint8_t *store, size_t store_len, uint8_t *out, size_t out_len);
 
 /* Makes anew exactly the smaller of the budget and the labels that remain, and puts those of the opening in their places of the
  * output. `blocks` are those of the labels made in this call, counted as by mastdock_run_advance. Refusals: 4, 3, 7. */
@@ -218,36 +233,37 @@ typedef struct mastdock_place {
     size_t length;
 } mastdock_place;
 
-/* The leaf of challenge i, from 1. Refusals: 1, 8. */
-mastdock_challenged mastdock_challenge(const uint8_t statement[32], const uint8_t root[32], uint64_t depth, uint64_t i);
+/* The leaf of challenge i, from 1. Refusals: 12, 1, 8. */
+mastdock_challenged mastdock_challenge(uint64_t edition, const uint8_t statement[32], const uint8_t root[32], uint64_t depth, uint64_t i);
 
 /* Writes the head of a file of so many openings: MASTDOCK_HEAD_SIZE(count) bytes at its front. The openings follow it in the order
- * of their challenges. Gives the refusal: 1, 8, 7 (the whole file must fit). */
-uint64_t mastdock_write_head(const uint8_t statement[32], const uint8_t root[32], uint64_t depth, uint64_t count, uint8_t *file,
-                             size_t file_len);
+ * of their challenges. Gives the refusal: 12, 1, 8, 7 (the whole file must fit). */
+uint64_t mastdock_write_head(uint64_t edition, const uint8_t statement[32], const uint8_t root[32], uint64_t depth, uint64_t count,
+                             uint8_t *file, size_t file_len);
 
 typedef struct mastdock_head {
     uint64_t refusal;
+    uint64_t edition;
     uint64_t depth;
     uint64_t count;
 } mastdock_head;
 
-/* Reads depth and count out of a file's head, whose first bytes are enough; what follows them is not looked at. The statement is the
- * 32 bytes from MASTDOCK_HEAD_SIZE(count) - 64 on, the root the 32 after it, and the file should be MASTDOCK_FILE_SIZE(depth, count)
- * bytes long. Refusals: edition 10, 11, 12; depth 10, 11, 1; count 10, 11, 8. */
+/* Reads edition, depth and count out of a file's head, whose first bytes are enough; what follows them is not looked at. The statement
+ * is the 32 bytes from MASTDOCK_HEAD_SIZE(count) - 64 on, the root the 32 after it, and the file should be
+ * MASTDOCK_FILE_SIZE(depth, count) bytes long. Refusals: edition 10, 11, 12; depth 10, 11, 1; count 10, 11, 8. */
 mastdock_head mastdock_read_head(const uint8_t *file, size_t file_len);
 
 /* Where opening i, from 1, lies in a file: nowhere if a head number is refused, the length is not the layout's, or there is no
  * opening of that number. No refusal. */
 mastdock_place mastdock_opening_place(const uint8_t *file, size_t file_len, uint64_t i);
 
-/* Checks one opening of a leaf against a root. Gives the refusal, 0 if it is right: 1, 6, 10, 13, 14, 15. */
-uint64_t mastdock_check_opening(const uint8_t statement[32], const uint8_t root[32], uint64_t depth, uint64_t leaf,
+/* Checks one opening of a leaf against a root. Gives the refusal, 0 if it is right: 12, 1, 6, 10, 13, 14, 15. */
+uint64_t mastdock_check_opening(uint64_t edition, const uint8_t statement[32], const uint8_t root[32], uint64_t depth, uint64_t leaf,
                                 const uint8_t *opening, size_t opening_len);
 
-/* Checks a file against the statement, depth and count that are wanted. Gives 0 if it is accepted, else 256 * refusal + opening,
- * the opening from 1, or 0 outside openings. Refusals: edition 10, 11, 12; depth 10, 11, 1; count 10, 11, 8; 10; 13; 9; then for
- * each opening 14, 15. */
+/* Checks a file, by the edition that its head says, against the statement, depth and count that are wanted. Gives 0 if it is accepted,
+ * else 256 * refusal + opening, the opening from 1, or 0 outside openings. Refusals: edition 10, 11, 12; depth 10, 11, 1; count 10, 11,
+ * 8; 10; 13; 9; then for each opening 14, 15. */
 uint64_t mastdock_check_file(const uint8_t *file, size_t file_len, const uint8_t statement[32], uint64_t depth, uint64_t count);
 
 /* ---- The whole file written by budgets ---- */
@@ -275,9 +291,9 @@ typedef struct mastdock_writing_advanced {
 } mastdock_writing_advanced;
 
 /* Begins a file of so many openings: writes its head and what the store holds of the first opening, and of the next ones where
- * nothing is to be labelled anew. The store is a finished run's of the same statement and depth, and of this memory level or a higher
- * one, and the root its root. Refusals: 1, 2, 3, 8, 7 (the whole file must fit). */
-mastdock_writing_started mastdock_writing_start(const uint8_t statement[32], const uint8_t root[32], uint64_t depth,
+ * nothing is to be labelled anew. The store is a finished run's of the same edition, statement and depth, and of this memory level or
+ * a higher one, and the root its root. Refusals: 12, 1, 2, 3, 8, 7 (the whole file must fit). */
+mastdock_writing_started mastdock_writing_start(uint64_t edition, const uint8_t statement[32], const uint8_t root[32], uint64_t depth,
                                                 uint64_t memory, uint64_t count, const uint8_t *store, size_t store_len,
                                                 uint8_t *file, size_t file_len);
 
@@ -320,9 +336,9 @@ typedef struct mastdock_compared {
 
 /* Compares openings of leaves, given one after the other in one piece; they need not be right. Two disagree at a shared inner node
  * if their child labels there, computed or given, differ. Holds a table of 512,000 bytes on the stack: its thread wants 0.6 MB.
- * Refusals: 1, 8 (not 1..200 leaves), 6, 10, 13. */
-mastdock_compared mastdock_compare(const uint8_t statement[32], uint64_t depth, const uint64_t *leaves, size_t leaves_len,
-                                   const uint8_t *openings, size_t openings_len);
+ * The inputs of a clash are of this edition. Refusals: 12, 1, 8 (not 1..200 leaves), 6, 10, 13. */
+mastdock_compared mastdock_compare(uint64_t edition, const uint8_t statement[32], uint64_t depth, const uint64_t *leaves,
+                                   size_t leaves_len, const uint8_t *openings, size_t openings_len);
 
 /* What drawing found. */
 enum mastdock_drawing {
@@ -349,8 +365,9 @@ mastdock_drawn mastdock_draw(const uint8_t *file, size_t file_len, const uint8_t
 }
 #endif
 
-/* The layout that the library was compiled with. Since W-207 five answers have `blocks` and are 8 bytes longer: a program compiled with an
- * older header still links and must be compiled again. */
+/* The layout that the library was compiled with. Since W-207 five answers have `blocks` and are 8 bytes longer; since W-206 runs, openings,
+ * all that holds one of them, and mastdock_head have `edition` and are 8 bytes longer, and six calls take an edition first. A program
+ * compiled with an older header still links and must be compiled again. */
 #ifdef __cplusplus
 #define MASTDOCK_ASSERT(condition) static_assert(condition, #condition)
 #else
@@ -380,18 +397,19 @@ MASTDOCK_AT(mastdock_digested, refusal, 0);
 MASTDOCK_AT(mastdock_digested, blocks, 8);
 MASTDOCK_AT(mastdock_digested, digest, 16);
 
-MASTDOCK_ASSERT(sizeof(mastdock_run) == 1368);
+MASTDOCK_ASSERT(sizeof(mastdock_run) == 1376);
 MASTDOCK_AT(mastdock_run, statement, 0);
-MASTDOCK_AT(mastdock_run, depth, 32);
-MASTDOCK_AT(mastdock_run, memory, 40);
-MASTDOCK_AT(mastdock_run, made, 48);
-MASTDOCK_AT(mastdock_run, held, 56);
+MASTDOCK_AT(mastdock_run, edition, 32);
+MASTDOCK_AT(mastdock_run, depth, 40);
+MASTDOCK_AT(mastdock_run, memory, 48);
+MASTDOCK_AT(mastdock_run, made, 56);
+MASTDOCK_AT(mastdock_run, held, 64);
 
-MASTDOCK_ASSERT(sizeof(mastdock_run_started) == 1376);
+MASTDOCK_ASSERT(sizeof(mastdock_run_started) == 1384);
 MASTDOCK_AT(mastdock_run_started, refusal, 0);
 MASTDOCK_AT(mastdock_run_started, run, 8);
 
-MASTDOCK_ASSERT(sizeof(mastdock_run_advanced) == 1392);
+MASTDOCK_ASSERT(sizeof(mastdock_run_advanced) == 1400);
 MASTDOCK_AT(mastdock_run_advanced, refusal, 0);
 MASTDOCK_AT(mastdock_run_advanced, labels, 8);
 MASTDOCK_AT(mastdock_run_advanced, blocks, 16);
@@ -401,19 +419,20 @@ MASTDOCK_ASSERT(sizeof(mastdock_run_recorded) == 16);
 MASTDOCK_AT(mastdock_run_recorded, refusal, 0);
 MASTDOCK_AT(mastdock_run_recorded, size, 8);
 
-MASTDOCK_ASSERT(sizeof(mastdock_opening) == 1376);
+MASTDOCK_ASSERT(sizeof(mastdock_opening) == 1384);
 MASTDOCK_AT(mastdock_opening, statement, 0);
-MASTDOCK_AT(mastdock_opening, depth, 32);
-MASTDOCK_AT(mastdock_opening, memory, 40);
-MASTDOCK_AT(mastdock_opening, leaf, 48);
-MASTDOCK_AT(mastdock_opening, made, 56);
-MASTDOCK_AT(mastdock_opening, held, 64);
+MASTDOCK_AT(mastdock_opening, edition, 32);
+MASTDOCK_AT(mastdock_opening, depth, 40);
+MASTDOCK_AT(mastdock_opening, memory, 48);
+MASTDOCK_AT(mastdock_opening, leaf, 56);
+MASTDOCK_AT(mastdock_opening, made, 64);
+MASTDOCK_AT(mastdock_opening, held, 72);
 
-MASTDOCK_ASSERT(sizeof(mastdock_opening_started) == 1384);
+MASTDOCK_ASSERT(sizeof(mastdock_opening_started) == 1392);
 MASTDOCK_AT(mastdock_opening_started, refusal, 0);
 MASTDOCK_AT(mastdock_opening_started, opening, 8);
 
-MASTDOCK_ASSERT(sizeof(mastdock_opening_advanced) == 1400);
+MASTDOCK_ASSERT(sizeof(mastdock_opening_advanced) == 1408);
 MASTDOCK_AT(mastdock_opening_advanced, refusal, 0);
 MASTDOCK_AT(mastdock_opening_advanced, labels, 8);
 MASTDOCK_AT(mastdock_opening_advanced, blocks, 16);
@@ -423,26 +442,27 @@ MASTDOCK_ASSERT(sizeof(mastdock_challenged) == 16);
 MASTDOCK_AT(mastdock_challenged, refusal, 0);
 MASTDOCK_AT(mastdock_challenged, leaf, 8);
 
-MASTDOCK_ASSERT(sizeof(mastdock_head) == 24);
+MASTDOCK_ASSERT(sizeof(mastdock_head) == 32);
 MASTDOCK_AT(mastdock_head, refusal, 0);
-MASTDOCK_AT(mastdock_head, depth, 8);
-MASTDOCK_AT(mastdock_head, count, 16);
+MASTDOCK_AT(mastdock_head, edition, 8);
+MASTDOCK_AT(mastdock_head, depth, 16);
+MASTDOCK_AT(mastdock_head, count, 24);
 
 MASTDOCK_ASSERT(sizeof(mastdock_place) == 16);
 MASTDOCK_AT(mastdock_place, offset, 0);
 MASTDOCK_AT(mastdock_place, length, 8);
 
-MASTDOCK_ASSERT(sizeof(mastdock_writing) == 1424);
+MASTDOCK_ASSERT(sizeof(mastdock_writing) == 1432);
 MASTDOCK_AT(mastdock_writing, root, 0);
 MASTDOCK_AT(mastdock_writing, count, 32);
 MASTDOCK_AT(mastdock_writing, number, 40);
 MASTDOCK_AT(mastdock_writing, opening, 48);
 
-MASTDOCK_ASSERT(sizeof(mastdock_writing_started) == 1432);
+MASTDOCK_ASSERT(sizeof(mastdock_writing_started) == 1440);
 MASTDOCK_AT(mastdock_writing_started, refusal, 0);
 MASTDOCK_AT(mastdock_writing_started, writing, 8);
 
-MASTDOCK_ASSERT(sizeof(mastdock_writing_advanced) == 1448);
+MASTDOCK_ASSERT(sizeof(mastdock_writing_advanced) == 1456);
 MASTDOCK_AT(mastdock_writing_advanced, refusal, 0);
 MASTDOCK_AT(mastdock_writing_advanced, labels, 8);
 MASTDOCK_AT(mastdock_writing_advanced, blocks, 16);

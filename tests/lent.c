@@ -1,6 +1,6 @@
 /* What include/mastdock.h says of lent memory and of answers: a null pointer where the number is 0, for every call that takes a
-   pointer with a number, and answers without padding; of the memory level's limit; of a run's record; and of blocks. The refusals are
-   document 01's for memory of no bytes. Prints nothing. */
+   pointer with a number, and answers without padding; of the memory level's limit; of a run's record; of blocks; and of editions. The
+   refusals are document 01's for memory of no bytes. Prints nothing. */
 #include "mastdock.h"
 #include <stdio.h>
 #include <stdlib.h>
@@ -47,20 +47,20 @@ static void null_hashes(void) {
 static void null_states(void) {
     uint8_t store[MASTDOCK_STORE_SIZE(1)] = {0}, out[MASTDOCK_OPENING_SIZE(1)] = {0};
     mastdock_run_started run = mastdock_run_start(ZERO, 1, 1, store, sizeof store);
-    mastdock_opening_started opening = mastdock_opening_start(ZERO, 1, 1, 0, store, sizeof store, out, sizeof out);
+    mastdock_opening_started opening = mastdock_opening_start(2, ZERO, 1, 1, 0, store, sizeof store, out, sizeof out);
     uint8_t file[MASTDOCK_FILE_SIZE(1, 1)] = {0};
-    mastdock_writing_started writing = mastdock_writing_start(ZERO, ZERO, 1, 1, 1, store, sizeof store, file, sizeof file);
+    mastdock_writing_started writing = mastdock_writing_start(2, ZERO, ZERO, 1, 1, 1, store, sizeof store, file, sizeof file);
     EXPECT(run.refusal + opening.refusal + writing.refusal, 0);
     EXPECT(mastdock_run_start(ZERO, 1, 0, NULL, 0).refusal, MASTDOCK_SHORT_STORE);
     EXPECT(mastdock_run_advance(run.run, 1, NULL, 0).refusal, MASTDOCK_SHORT_STORE);
     EXPECT(mastdock_run_record(run.run, NULL, 0).refusal, MASTDOCK_SHORT_OUTPUT);
     EXPECT(mastdock_run_resume(NULL, 0).refusal, MASTDOCK_BYTES_END);
-    EXPECT(mastdock_opening_start(ZERO, 1, 1, 0, NULL, 0, NULL, 0).refusal, MASTDOCK_SHORT_STORE);
-    EXPECT(mastdock_opening_start(ZERO, 1, 1, 0, store, sizeof store, NULL, 0).refusal, MASTDOCK_SHORT_OUTPUT);
+    EXPECT(mastdock_opening_start(2, ZERO, 1, 1, 0, NULL, 0, NULL, 0).refusal, MASTDOCK_SHORT_STORE);
+    EXPECT(mastdock_opening_start(2, ZERO, 1, 1, 0, store, sizeof store, NULL, 0).refusal, MASTDOCK_SHORT_OUTPUT);
     EXPECT(mastdock_opening_advance(opening.opening, 1, NULL, 0, NULL, 0).refusal, MASTDOCK_SHORT_STORE);
     EXPECT(mastdock_opening_advance(opening.opening, 1, store, sizeof store, NULL, 0).refusal, MASTDOCK_SHORT_OUTPUT);
-    EXPECT(mastdock_writing_start(ZERO, ZERO, 1, 1, 1, NULL, 0, NULL, 0).refusal, MASTDOCK_SHORT_STORE);
-    EXPECT(mastdock_writing_start(ZERO, ZERO, 1, 1, 1, store, sizeof store, NULL, 0).refusal, MASTDOCK_SHORT_OUTPUT);
+    EXPECT(mastdock_writing_start(2, ZERO, ZERO, 1, 1, 1, NULL, 0, NULL, 0).refusal, MASTDOCK_SHORT_STORE);
+    EXPECT(mastdock_writing_start(2, ZERO, ZERO, 1, 1, 1, store, sizeof store, NULL, 0).refusal, MASTDOCK_SHORT_OUTPUT);
     EXPECT(mastdock_writing_advance(writing.writing, 1, NULL, 0, NULL, 0).refusal, MASTDOCK_SHORT_STORE);
     EXPECT(mastdock_writing_advance(writing.writing, 1, store, sizeof store, NULL, 0).refusal, MASTDOCK_SHORT_OUTPUT);
 }
@@ -68,12 +68,12 @@ static void null_states(void) {
 /* Starting and continuing a run, an opening and a file: refused with these numbers. */
 static void at_level(uint64_t depth, uint64_t memory, uint8_t *store, size_t len, uint64_t start, uint64_t go_on) {
     uint8_t out[MASTDOCK_OPENING_SIZE(40)] = {0}, file[MASTDOCK_FILE_SIZE(40, 1)] = {0};
-    mastdock_run run = {.depth = depth, .memory = memory};
-    mastdock_opening opening = {.depth = depth, .memory = memory};
+    mastdock_run run = {.edition = 2, .depth = depth, .memory = memory};
+    mastdock_opening opening = {.edition = 2, .depth = depth, .memory = memory};
     mastdock_writing writing = {.count = 1, .number = 1, .opening = opening};
     EXPECT(mastdock_run_start(ZERO, depth, memory, store, len).refusal, start);
-    EXPECT(mastdock_opening_start(ZERO, depth, memory, 0, store, len, out, sizeof out).refusal, start);
-    EXPECT(mastdock_writing_start(ZERO, ZERO, depth, memory, 1, store, len, file, sizeof file).refusal, start);
+    EXPECT(mastdock_opening_start(2, ZERO, depth, memory, 0, store, len, out, sizeof out).refusal, start);
+    EXPECT(mastdock_writing_start(2, ZERO, ZERO, depth, memory, 1, store, len, file, sizeof file).refusal, start);
     EXPECT(mastdock_run_advance(run, 1, store, len).refusal, go_on);
     EXPECT(mastdock_opening_advance(opening, 1, store, len, out, sizeof out).refusal, go_on);
     EXPECT(mastdock_writing_advance(writing, 1, store, len, file, sizeof file).refusal, go_on);
@@ -99,8 +99,8 @@ static void levels(void) {
 
 /* W-201: the record of a run with something in every place, over an output of just its size with bytes behind it and a byte short;
    and what is read back, whose other places are zero. */
-static void recorded(uint64_t depth, uint64_t made, size_t numbers, size_t held) {
-    mastdock_run run = {.depth = depth, .memory = 1, .made = made};
+static void recorded(uint64_t edition, uint64_t depth, uint64_t made, size_t numbers, size_t held) {
+    mastdock_run run = {.edition = edition, .depth = depth, .memory = 1, .made = made};
     uint8_t out[MASTDOCK_MAX_RECORD + 1];
     size_t size = numbers + 32 + 32 * held;
     memset(run.statement, 201, sizeof run.statement);
@@ -115,6 +115,7 @@ static void recorded(uint64_t depth, uint64_t made, size_t numbers, size_t held)
     EXPECT(answer.refusal, 0);
     EXPECT(answer.size, size);
     EXPECT(out[size], 90);
+    EXPECT(out[0], edition);
     EXPECT((uint64_t)memcmp(out + numbers, run.statement, 32), 0);
     EXPECT((uint64_t)memcmp(out + numbers + 32, run.held, 32 * held), 0);
     fill_stack();
@@ -128,11 +129,12 @@ static void recorded(uint64_t depth, uint64_t made, size_t numbers, size_t held)
 
 /* Records refused: writing with 4 before 7, reading with 4 before 18; beside a refusal all is zero. */
 static void records_refused(void) {
-    const uint8_t numbers[][4] = {{1, 0, 0, 0}, {1, 41, 0, 0}, {1, 1, 2, 0}, {1, 40, 15, 0}, {1, 3, 1, 16}};
+    const uint8_t numbers[][4] = {{1, 0, 0, 0}, {2, 41, 0, 0}, {1, 1, 2, 0}, {2, 40, 15, 0}, {2, 3, 1, 16}};
     uint8_t out[MASTDOCK_MAX_RECORD];
     memset(out, 90, sizeof out);
     for (size_t i = 0; i < sizeof numbers / sizeof *numbers; i++) {
-        mastdock_run run = {.depth = numbers[i][1], .memory = numbers[i][2], .made = numbers[i][3]};
+        mastdock_run run = {
+            .edition = numbers[i][0], .depth = numbers[i][1], .memory = numbers[i][2], .made = numbers[i][3]};
         EXPECT(mastdock_run_record(run, NULL, 0).refusal, MASTDOCK_STATE);
         EXPECT(mastdock_run_record(run, out, sizeof out).refusal, MASTDOCK_STATE);
         EXPECT(mastdock_run_record(run, out, sizeof out).size, 0);
@@ -147,12 +149,14 @@ static void records_refused(void) {
 
 /* 41 labels are held when the last leaf of depth 40 is labelled. */
 static void records(void) {
-    recorded(1, 0, 4, 0);
-    recorded(1, 2, 4, 2);
-    recorded(3, 11, 4, 3);
-    recorded(3, 15, 4, 1);
-    recorded(40, MASTDOCK_LABELS(40) - 40, 9, 41);
-    recorded(40, MASTDOCK_LABELS(40), 9, 1);
+    for (uint64_t edition = 1; edition <= MASTDOCK_MAX_EDITION; edition++) {
+        recorded(edition, 1, 0, 4, 0);
+        recorded(edition, 1, 2, 4, 2);
+        recorded(edition, 3, 11, 4, 3);
+        recorded(edition, 3, 15, 4, 1);
+        recorded(edition, 40, MASTDOCK_LABELS(40) - 40, 9, 41);
+        recorded(edition, 40, MASTDOCK_LABELS(40), 9, 1);
+    }
     records_refused();
 }
 
@@ -173,7 +177,7 @@ static void message_blocks(void) {
 
 /* W-207: the dearest leaf, which is the last of depth 40; and no block of budget 0, of a refused run and of a finished one. */
 static void label_blocks(void) {
-    mastdock_run run = {.depth = 40, .made = MASTDOCK_LABELS(40) - 41};
+    mastdock_run run = {.edition = 2, .depth = 40, .made = MASTDOCK_LABELS(40) - 41};
     uint8_t store[MASTDOCK_STORE_SIZE(0)] = {0};
     EXPECT(mastdock_run_advance(run, 1, store, sizeof store).blocks, 21);
     EXPECT(mastdock_run_advance(run, 0, store, sizeof store).blocks, 0);
@@ -185,15 +189,68 @@ static void label_blocks(void) {
     EXPECT(mastdock_run_advance(run, 1, store, sizeof store).blocks, 0);
 }
 
+/* W-206: in the calls that take it, an edition that does not exist is refused first, whatever else is wrong. */
+static void no_edition(uint64_t edition) {
+    const uint64_t leaf = 2;
+    EXPECT(mastdock_opening_start(edition, ZERO, 0, 9, 9, NULL, 0, NULL, 0).refusal, MASTDOCK_EDITION);
+    EXPECT(mastdock_challenge(edition, ZERO, ZERO, 0, 0).refusal, MASTDOCK_EDITION);
+    EXPECT(mastdock_write_head(edition, ZERO, ZERO, 0, 0, NULL, 0), MASTDOCK_EDITION);
+    EXPECT(mastdock_check_opening(edition, ZERO, ZERO, 0, 9, NULL, 0), MASTDOCK_EDITION);
+    EXPECT(mastdock_writing_start(edition, ZERO, ZERO, 0, 9, 0, NULL, 0, NULL, 0).refusal, MASTDOCK_EDITION);
+    EXPECT(mastdock_compare(edition, ZERO, 0, &leaf, 1, NULL, 0).refusal, MASTDOCK_EDITION);
+}
+
+/* W-206: in a state it is 4, before a store or an output that is short; the state is handed back as it was. */
+static void no_edition_in_states(uint64_t edition) {
+    mastdock_run run = {.edition = edition, .depth = 1};
+    mastdock_opening opening = {.edition = edition, .depth = 1};
+    mastdock_writing writing = {.count = 1, .number = 1, .opening = opening};
+    mastdock_run_advanced advanced = mastdock_run_advance(run, 1, NULL, 0);
+    EXPECT(advanced.refusal, MASTDOCK_STATE);
+    EXPECT((uint64_t)memcmp(&advanced.run, &run, sizeof run), 0);
+    EXPECT(mastdock_run_record(run, NULL, 0).refusal, MASTDOCK_STATE);
+    EXPECT(mastdock_opening_advance(opening, 1, NULL, 0, NULL, 0).refusal, MASTDOCK_STATE);
+    EXPECT(mastdock_writing_advance(writing, 1, NULL, 0, NULL, 0).refusal, MASTDOCK_STATE);
+}
+
+/* The head of a file: its edition, and 0 beside a refusal. */
+static void head_edition(uint8_t edition, uint64_t refusal) {
+    const uint8_t bytes[] = {edition, 1, 1};
+    mastdock_head head = mastdock_read_head(bytes, sizeof bytes);
+    EXPECT(head.refusal, refusal);
+    EXPECT(head.edition, refusal ? 0 : edition);
+    EXPECT(head.depth, refusal ? 0 : 1);
+    EXPECT(head.count, refusal ? 0 : 1);
+}
+
+static void editions(void) {
+    const uint64_t none[] = {0, 3, 4, 128, (MASTDOCK_NUMBER(1) << 32) + 2, UINT64_MAX};
+    uint8_t store[MASTDOCK_STORE_SIZE(1)] = {0}, record[36] = {1, 1, 1, 0};
+    for (size_t i = 0; i < sizeof none / sizeof *none; i++) {
+        no_edition(none[i]);
+        no_edition_in_states(none[i]);
+    }
+    head_edition(0, MASTDOCK_EDITION);
+    head_edition(1, 0);
+    head_edition(2, 0);
+    head_edition(3, MASTDOCK_EDITION);
+    mastdock_run run = mastdock_run_start(ZERO, 1, 1, store, sizeof store).run;
+    EXPECT(run.edition, MASTDOCK_NEW_EDITION);
+    EXPECT(mastdock_run_advance(run, 9, store, sizeof store).run.edition, MASTDOCK_NEW_EDITION);
+    run = mastdock_run_resume(record, sizeof record).run;
+    EXPECT(run.edition, 1);
+    EXPECT(mastdock_run_advance(run, 9, store, sizeof store).run.edition, 1);
+}
+
 /* A file, an opening, leaves and a list of no elements. */
 static void null_files(void) {
     const uint64_t leaf = 0;
     uint64_t list[2] = {7, 7};
     mastdock_place place = mastdock_opening_place(NULL, 0, 1);
     EXPECT(place.offset + place.length, 0);
-    EXPECT(mastdock_write_head(ZERO, ZERO, 1, 1, NULL, 0), MASTDOCK_SHORT_OUTPUT);
+    EXPECT(mastdock_write_head(2, ZERO, ZERO, 1, 1, NULL, 0), MASTDOCK_SHORT_OUTPUT);
     EXPECT(mastdock_read_head(NULL, 0).refusal, MASTDOCK_BYTES_END);
-    EXPECT(mastdock_check_opening(ZERO, ZERO, 1, 0, NULL, 0), MASTDOCK_BYTES_END);
+    EXPECT(mastdock_check_opening(2, ZERO, ZERO, 1, 0, NULL, 0), MASTDOCK_BYTES_END);
     EXPECT(mastdock_check_file(NULL, 0, ZERO, 1, 1), 256 * MASTDOCK_BYTES_END);
     mastdock_planned planned = mastdock_plan(1, NULL, 0, list, 2);
     EXPECT(planned.refusal + planned.count, 0);
@@ -203,8 +260,8 @@ static void null_files(void) {
     EXPECT(planned.refusal + planned.count, 0);
     EXPECT(mastdock_plan(41, NULL, 0, NULL, 0).refusal, MASTDOCK_DEPTH);
     EXPECT(mastdock_plan(1, &leaf, 1, NULL, 0).refusal, MASTDOCK_SHORT_LIST);
-    EXPECT(mastdock_compare(ZERO, 1, NULL, 0, NULL, 0).refusal, MASTDOCK_COUNT);
-    EXPECT(mastdock_compare(ZERO, 1, &leaf, 1, NULL, 0).refusal, MASTDOCK_BYTES_END);
+    EXPECT(mastdock_compare(2, ZERO, 1, NULL, 0, NULL, 0).refusal, MASTDOCK_COUNT);
+    EXPECT(mastdock_compare(2, ZERO, 1, &leaf, 1, NULL, 0).refusal, MASTDOCK_BYTES_END);
     EXPECT(mastdock_draw(NULL, 0, ZERO, 1, 1, NULL, 0).code, 256 * MASTDOCK_BYTES_END);
 }
 
@@ -216,15 +273,21 @@ static void answers(void) {
     mastdock_drawn drawn;
     memset(&compared, 0xa5, sizeof compared);
     fill_stack();
-    compared = mastdock_compare(ZERO, 1, leaves, 2, openings, sizeof openings);
+    compared = mastdock_compare(2, ZERO, 1, leaves, 2, openings, sizeof openings);
     EXPECT((uint64_t)all_zero(&compared, sizeof compared), 1);
     openings[sizeof openings - 1] = 1;
     fill_stack();
-    compared = mastdock_compare(ZERO, 1, leaves, 2, openings, sizeof openings);
+    compared = mastdock_compare(2, ZERO, 1, leaves, 2, openings, sizeof openings);
     EXPECT(compared.refusal, 0);
     EXPECT(compared.clash.i, 1);
     EXPECT(compared.clash.j, 2);
     EXPECT(compared.clash.level, 0);
+    /* the right child's label, whose last byte differs, is the first after 41 bytes in edition 2, and the second in edition 1 */
+    EXPECT((uint64_t)memcmp(compared.clash.first, compared.clash.second, 72), 0);
+    EXPECT(compared.clash.first[72], 0);
+    EXPECT(compared.clash.second[72], 1);
+    EXPECT((uint64_t)memcmp(compared.clash.first + 73, compared.clash.second + 73, 32), 0);
+    compared = mastdock_compare(1, ZERO, 1, leaves, 2, openings, sizeof openings);
     EXPECT((uint64_t)memcmp(compared.clash.first, compared.clash.second, 104), 0);
     EXPECT(compared.clash.first[104], 0);
     EXPECT(compared.clash.second[104], 1);
@@ -243,6 +306,7 @@ int main(void) {
     records();
     message_blocks();
     label_blocks();
+    editions();
     null_files();
     answers();
     return 0;

@@ -32,12 +32,18 @@ fn found(clash: ffi::Clash) -> Option<Clash> {
 }
 
 /// Compares openings of leaves, given one after the other in one piece; they need not be right. Holds a table of 512,000 bytes on
-/// the stack: its thread wants 0.6 MB. Refused with 1, 8 (not 1 to 200 leaves), 6, 10, 13.
-pub fn compare(statement: &[u8; 32], depth: u64, leaves: &[u64], openings: &[u8]) -> Result<Option<Clash>, Refusal> {
+/// the stack: its thread wants 0.6 MB. The inputs of a clash are of this edition. Refused with 12, 1, 8 (not 1 to 200 leaves), 6, 10, 13.
+pub fn compare(
+    edition: u64,
+    statement: &[u8; 32],
+    depth: u64,
+    leaves: &[u64],
+    openings: &[u8],
+) -> Result<Option<Clash>, Refusal> {
     // SAFETY: pointers and lengths are those of a reference and slices.
     let compared = unsafe {
         let (leaves_len, openings_len) = (leaves.len(), openings.len());
-        ffi::mastdock_compare(statement, depth, leaves.as_ptr(), leaves_len, openings.as_ptr(), openings_len)
+        ffi::mastdock_compare(edition, statement, depth, leaves.as_ptr(), leaves_len, openings.as_ptr(), openings_len)
     };
     answered(compared.refusal, found(compared.clash))
 }

@@ -99,6 +99,7 @@ pub struct Planned {
 #[derive(Clone, Debug, PartialEq, Eq)]
 pub struct HeadRead {
     pub refusal: u64,
+    pub edition: u64,
     pub depth: u64,
     pub count: u64,
 }
@@ -147,6 +148,7 @@ extern "C" {
     pub fn mastdock_run_record(run: Run, out: *mut u8, out_len: usize) -> RunRecorded;
     pub fn mastdock_run_resume(record: *const u8, record_len: usize) -> RunStarted;
     pub fn mastdock_opening_start(
+        edition: u64,
         statement: *const [u8; 32],
         depth: u64,
         memory: u64,
@@ -164,8 +166,15 @@ extern "C" {
         out: *mut u8,
         out_len: usize,
     ) -> OpeningAdvanced;
-    pub fn mastdock_challenge(statement: *const [u8; 32], root: *const [u8; 32], depth: u64, i: u64) -> Challenged;
+    pub fn mastdock_challenge(
+        edition: u64,
+        statement: *const [u8; 32],
+        root: *const [u8; 32],
+        depth: u64,
+        i: u64,
+    ) -> Challenged;
     pub fn mastdock_write_head(
+        edition: u64,
         statement: *const [u8; 32],
         root: *const [u8; 32],
         depth: u64,
@@ -176,6 +185,7 @@ extern "C" {
     pub fn mastdock_read_head(file: *const u8, file_len: usize) -> HeadRead;
     pub fn mastdock_opening_place(file: *const u8, file_len: usize, i: u64) -> Place;
     pub fn mastdock_check_opening(
+        edition: u64,
         statement: *const [u8; 32],
         root: *const [u8; 32],
         depth: u64,
@@ -191,6 +201,7 @@ extern "C" {
         count: u64,
     ) -> u64;
     pub fn mastdock_writing_start(
+        edition: u64,
         statement: *const [u8; 32],
         root: *const [u8; 32],
         depth: u64,
@@ -212,6 +223,7 @@ extern "C" {
     pub fn mastdock_plan(depth: u64, leaves: *const u64, leaves_len: usize, list: *mut u64, list_len: usize)
         -> Planned;
     pub fn mastdock_compare(
+        edition: u64,
         statement: *const [u8; 32],
         depth: u64,
         leaves: *const u64,

@@ -3,7 +3,15 @@
 //! request's. States are plain data and may be kept and continued later; a run that goes on elsewhere has a record ([`Run::record`]).
 //! All memory is lent by the caller.
 //!
-//! A report sealed and checked:
+//! # Editions
+//!
+//! The edition of a run, an opening or a file decides in which order a node's label hashes the labels of its parents: in edition 1 the
+//! label made first comes first (left child before right, and for a leaf the smallest level first), in edition 2 the label made last
+//! (right child before left, and for a leaf the largest level first). New runs have [`NEW_EDITION`]; a run, an opening and a file under
+//! writing keep theirs, and a record carries it, so a run of edition 1 comes only from a record of edition 1 or from a [`Run`] with that
+//! edition. A file is checked and drawn by the edition that its head says ([`read_head`]).
+//!
+//! # A report sealed and checked
 //!
 //! ```
 //! use mastdock::{check_file, digest, draw, file_size, head_size, store_size, Drawing, Run, Writing, MAX_CHAIN};
@@ -20,7 +28,7 @@
 //!
 //! // The file: its head, then the opening of each challenge.
 //! let mut file = vec![0; file_size(depth, count).unwrap()];
-//! let mut writing = Writing::start(&statement, &root, depth, memory, count, &store, &mut file)?;
+//! let mut writing = Writing::start(run.edition, &statement, &root, depth, memory, count, &store, &mut file)?;
 //! while writing.advance(100, &store, &mut file)?.labels != 0 {}
 //!
 //! // The check, and the chain of the nodes that were opened.
@@ -58,6 +66,6 @@ pub use refusal::{Refusal, Rejected};
 pub use run::{Made, Run};
 pub use sizes::{
     file_size, head_size, labels, labels_anew, opening_size, store_size, HELD_SIZE, MAX_CHAIN, MAX_COUNT, MAX_DEPTH,
-    MAX_MEMORY, MAX_RECORD, MAX_STORE,
+    MAX_EDITION, MAX_MEMORY, MAX_RECORD, MAX_STORE, NEW_EDITION,
 };
 pub use writing::Writing;

@@ -10,6 +10,8 @@ use crate::sizes::HELD_SIZE;
 #[derive(Clone, Debug, PartialEq, Eq)]
 pub struct Opening {
     pub statement: [u8; 32],
+    /// The edition of the run whose store it is.
+    pub edition: u64,
     pub depth: u64,
     /// The memory level of the store.
     pub memory: u64,
@@ -22,9 +24,10 @@ pub struct Opening {
 
 impl Opening {
     /// A new opening of a leaf: copies what the store holds of it to the first [`opening_size`](crate::opening_size) bytes of the
-    /// output. The store is a finished run's of the same statement and depth, and of this memory level or a higher one, also of 15 to
-    /// 20 from before W-209. Refused with 1, 2, 3, 6, 7.
+    /// output. The store is a finished run's of the same edition, statement and depth, and of this memory level or a higher one, also of
+    /// 15 to 20 from before W-209. Refused with 12, 1, 2, 3, 6, 7.
     pub fn start(
+        edition: u64,
         statement: &[u8; 32],
         depth: u64,
         memory: u64,
@@ -35,6 +38,7 @@ impl Opening {
         // SAFETY: pointers and lengths are those of references and slices; the output is borrowed alone.
         let started = unsafe {
             ffi::mastdock_opening_start(
+                edition,
                 statement,
                 depth,
                 memory,

@@ -12,7 +12,7 @@ pub enum Refusal {
     MemoryLevel = 2,
     /// Store short.
     ShortStore = 3,
-    /// A state that cannot be continued, or a record of numbers that no run has.
+    /// A state that cannot be continued, one of an edition that does not exist among them, or a record of numbers that no run has.
     State = 4,
     /// Over 2^61 − 1 bytes to hash in all.
     TooManyBytes = 5,
@@ -28,7 +28,7 @@ pub enum Refusal {
     BytesEnd = 10,
     /// A number of a file or record not in its shortest form, or too long.
     NotShortest = 11,
-    /// Edition not 1.
+    /// Edition neither 1 nor 2.
     Edition = 12,
     /// Bytes too many.
     BytesLeft = 13,
@@ -90,7 +90,7 @@ impl Refusal {
             Refusal::NotWanted => "statement, depth or count not those wanted",
             Refusal::BytesEnd => "bytes too few",
             Refusal::NotShortest => "number not in its shortest form",
-            Refusal::Edition => "edition not 1",
+            Refusal::Edition => "edition neither 1 nor 2",
             Refusal::BytesLeft => "bytes too many",
             Refusal::LeafLabel => "leaf label wrong",
             Refusal::Root => "root wrong",

@@ -8,6 +8,8 @@ use crate::sizes::{labels, HELD_SIZE};
 #[derive(Clone, Debug, PartialEq, Eq)]
 pub struct Run {
     pub statement: [u8; 32],
+    /// The edition, which a run keeps: see the [crate's page](crate#editions).
+    pub edition: u64,
     pub depth: u64,
     /// The memory level: the store keeps levels 0 to this one.
     pub memory: u64,
@@ -28,7 +30,8 @@ pub struct Made {
 }
 
 impl Run {
-    /// A new run, for a store of [`store_size`](crate::store_size) bytes or more, which it leaves as it is. Refused with 1, 2, 3.
+    /// A new run of edition [`NEW_EDITION`](crate::NEW_EDITION), for a store of [`store_size`](crate::store_size) bytes or more, which it
+    /// leaves as it is. Refused with 1, 2, 3.
     pub fn start(statement: &[u8; 32], depth: u64, memory: u64, store: &[u8]) -> Result<Run, Refusal> {
         // SAFETY: pointers and lengths are those of a reference and a slice.
         let started = unsafe { ffi::mastdock_run_start(statement, depth, memory, store.as_ptr(), store.len()) };
@@ -53,8 +56,8 @@ impl Run {
         answered(recorded.refusal, recorded.size)
     }
 
-    /// The run of a record. Over the same store it ends as the run that was written out would have. Places that hold no label are
-    /// zero. Refused for the edition with 10, 11, 12, for depth, memory level and labels made with 10, 11 each; then with 4 (no run has
+    /// The run of a record, in the record's edition. Over the same store it ends as the run that was written out would have. Places that
+    /// hold no label are zero. Refused for the edition with 10, 11, 12, for depth, memory level and labels made with 10, 11 each; then with 4 (no run has
     /// such numbers), 18.
     pub fn resume(record: &[u8]) -> Result<Run, Refusal> {
         // SAFETY: pointer and length are a slice's.

@@ -1,5 +1,9 @@
 //! Sizes and limits; none for arguments outside these limits, which are document 01's as the change requests amend them.
 
+/// The editions that exist are 1 to this one.
+pub const MAX_EDITION: u64 = 2;
+/// The edition of a new run.
+pub const NEW_EDITION: u64 = 2;
 /// The largest depth.
 pub const MAX_DEPTH: u64 = 40;
 /// The largest memory level.

@@ -21,8 +21,10 @@ pub struct Writing {
 impl Writing {
     /// Begins a file of `count` openings over the front of `file`: writes its head and what the store holds of the first opening,
     /// and of the next ones where nothing is to be labelled anew. The store is a finished run's as for an
-    /// [`Opening`], and the root its root. Refused with 1, 2, 3, 8, 7 (the whole file must fit), which changes nothing.
+    /// [`Opening`], and the root its root. Refused with 12, 1, 2, 3, 8, 7 (the whole file must fit), which changes nothing.
+    #[allow(clippy::too_many_arguments)] // as many as the call has
     pub fn start(
+        edition: u64,
         statement: &[u8; 32],
         root: &[u8; 32],
         depth: u64,
@@ -34,6 +36,7 @@ impl Writing {
         // SAFETY: pointers and lengths are those of references and slices; the file is borrowed alone.
         let started = unsafe {
             ffi::mastdock_writing_start(
+                edition,
                 statement,
                 root,
                 depth,

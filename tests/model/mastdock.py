@@ -2,6 +2,7 @@
 hashlib's. Nothing of it comes from the proved code; it is slow and simple."""
 import hashlib
 
+EDITIONS, NEW_EDITION = (1, 2), 2  # W-206
 MAX_DEPTH, MAX_MEMORY, MAX_COUNT, PLACES = 40, 14, 200, 41
 ZERO = bytes(32)
 
@@ -25,8 +26,10 @@ def parents(n, level, position):
     return [(level + 1, 2 * position), (level + 1, 2 * position + 1)]
 
 
-def hash_input(statement, level, position, labels):
-    return statement + bytes([level]) + position.to_bytes(8, "big") + b"".join(labels)
+def hash_input(edition, statement, level, position, labels):
+    """Of the parents' labels in the order made. W-206: in edition 2 'the label made last comes first after the position'."""
+    hashed = labels if edition == 1 else labels[::-1]
+    return statement + bytes([level]) + position.to_bytes(8, "big") + b"".join(hashed)
 
 
 def blocks(length):
@@ -69,13 +72,13 @@ def held_before(height, k):
 
 
 class Tree:
-    """All labels of a tree, by the definition."""
+    """All labels of a tree in an edition, by the definition."""
 
-    def __init__(self, statement, n):
-        self.statement, self.n, self.labels = statement, n, {}
+    def __init__(self, edition, statement, n):
+        self.edition, self.statement, self.n, self.labels = edition, statement, n, {}
         for level, position in labelling_order(n):
             above = [self.labels[node] for node in parents(n, level, position)]
-            self.labels[level, position] = sha(hash_input(statement, level, position, above))
+            self.labels[level, position] = sha(hash_input(edition, statement, level, position, above))
         self.root = self.labels[0, 0]
 
     def store(self, m):
@@ -87,7 +90,7 @@ class Tree:
 
     def file(self, t):
         leaves = challenge_leaves(self.n, self.statement, self.root, t)
-        return head(self.statement, self.root, self.n, t) + b"".join(map(self.opening, leaves))
+        return head(self.edition, self.statement, self.root, self.n, t) + b"".join(map(self.opening, leaves))
 
 
 # Sizes
@@ -106,7 +109,7 @@ def nodes_anew(n, m):
 
 
 def file_size(n, t):
-    return len(head(ZERO, ZERO, n, t)) + t * opening_size(n)
+    return head_size(n, t) + t * opening_size(n)
 
 
 # The checks, by place: each row gives the first number whose condition holds, or 0
@@ -117,6 +120,11 @@ def row(*checks):
         if condition():
             return number
     return 0
+
+
+def bad_edition(edition):
+    """W-206: 'neither 1 nor 2'."""
+    return edition not in EDITIONS
 
 
 def bad_depth(n):
@@ -135,20 +143,25 @@ def start_row(n, m, store):
     return row((1, lambda: bad_depth(n)), (2, lambda: bad_memory(n, m)), (3, lambda: store < store_size(m)))
 
 
-def open_row(n, m, leaf, store, out):
-    return start_row(n, m, store) or row((6, lambda: leaf >= 2**n), (7, lambda: out < opening_size(n)))
+def edition_row(edition):
+    """W-206: 12 'comes first where an opening, a head or a challenge is given its edition'."""
+    return row((12, lambda: bad_edition(edition)))
 
 
-def write_row(n, m, t, store, file):
-    return start_row(n, m, store) or row((8, lambda: bad_count(t)), (7, lambda: file < file_size(n, t)))
+def open_row(edition, n, m, leaf, store, out):
+    return edition_row(edition) or start_row(n, m, store) or row((6, lambda: leaf >= 2**n), (7, lambda: out < opening_size(n)))
 
 
-def head_row(n, t, file):
-    return row((1, lambda: bad_depth(n)), (8, lambda: bad_count(t)), (7, lambda: file < file_size(n, t)))
+def write_row(edition, n, m, t, store, file):
+    return edition_row(edition) or start_row(n, m, store) or row((8, lambda: bad_count(t)), (7, lambda: file < file_size(n, t)))
 
 
-def challenge_row(n, i):
-    return row((1, lambda: bad_depth(n)), (8, lambda: bad_count(i)))
+def head_row(edition, n, t, file):
+    return edition_row(edition) or row((1, lambda: bad_depth(n)), (8, lambda: bad_count(t)), (7, lambda: file < file_size(n, t)))
+
+
+def challenge_row(edition, n, i):
+    return edition_row(edition) or row((1, lambda: bad_depth(n)), (8, lambda: bad_count(i)))
 
 
 # Runs, openings and writings in lent memory; store, output and file are bytearrays
@@ -168,7 +181,7 @@ class Subtree:
         h = held_before(height, self.made)
         places = [self.held[32 * i : 32 * i + 32] for i in range(PLACES)]
         taken = above + places[:h] if level == self.n else places[h - 2 : h]
-        data = hash_input(self.statement, level, position, taken)
+        data = hash_input(self.edition, self.statement, level, position, taken)
         label = sha(data)
         if level < self.n:
             places[h - 2 : h] = [label, ZERO]
@@ -180,14 +193,15 @@ class Subtree:
 
 
 class Run(Subtree):
-    def __init__(self, statement=ZERO, n=0, m=0, made=0, held=bytes(32 * PLACES)):
-        self.statement, self.n, self.m, self.made, self.held = statement, n, m, made, held
+    def __init__(self, edition=0, statement=ZERO, n=0, m=0, made=0, held=bytes(32 * PLACES)):
+        self.edition, self.statement, self.n, self.m, self.made, self.held = edition, statement, n, m, made, held
 
     def bytes(self):
-        return self.statement + b"".join(x.to_bytes(8, "big") for x in (self.n, self.m, self.made)) + self.held
+        numbers = self.edition, self.n, self.m, self.made
+        return self.statement + b"".join(x.to_bytes(8, "big") for x in numbers) + self.held
 
     def impossible(self):
-        return bad_depth(self.n) or bad_memory(self.n, self.m) or self.made > 2 ** (self.n + 1) - 1
+        return bad_edition(self.edition) or bad_depth(self.n) or bad_memory(self.n, self.m) or self.made > 2 ** (self.n + 1) - 1
 
     def continue_row(self, store):
         return row((4, self.impossible), (3, lambda: store < store_size(self.m)))
@@ -207,17 +221,20 @@ class Run(Subtree):
 
 
 def start_run(statement, n, m, store):
+    """W-206: 'New runs write 2'."""
     refusal = start_row(n, m, store)
-    return refusal, Run() if refusal else Run(statement, n, m)
+    return refusal, Run() if refusal else Run(NEW_EDITION, statement, n, m)
 
 
 class Opening(Subtree):
-    def __init__(self, statement=ZERO, n=0, m=0, leaf=0, made=0, held=bytes(32 * PLACES)):
-        self.statement, self.n, self.m, self.leaf, self.made, self.held = statement, n, m, leaf, made, held
+    def __init__(self, edition=0, statement=ZERO, n=0, m=0, leaf=0, made=0, held=bytes(32 * PLACES)):
+        self.edition, self.statement = edition, statement
+        self.n, self.m, self.leaf, self.made, self.held = n, m, leaf, made, held
 
     def impossible(self):
         n, m = self.n, self.m
-        return bad_depth(n) or bad_memory(n, m) or self.made > nodes_anew(n, m) or self.leaf >= 2**n
+        bad = bad_edition(self.edition) or bad_depth(n) or bad_memory(n, m)
+        return bad or self.made > nodes_anew(n, m) or self.leaf >= 2**n
 
     def remaining(self):
         return nodes_anew(self.n, self.m) - self.made
@@ -253,11 +270,11 @@ class Opening(Subtree):
         return 0, labels, sum(self.step(store, out) for _ in range(labels))
 
 
-def start_opening(statement, n, m, leaf, store, out):
-    refusal = open_row(n, m, leaf, len(store), len(out))
+def start_opening(edition, statement, n, m, leaf, store, out):
+    refusal = open_row(edition, n, m, leaf, len(store), len(out))
     if refusal:
         return refusal, Opening()
-    opening = Opening(statement, n, m, leaf)
+    opening = Opening(edition, statement, n, m, leaf)
     opening.copy(store, out)
     return 0, opening
 
@@ -268,7 +285,7 @@ class Writing:
 
     def place(self):
         o = self.opening
-        return len(head(ZERO, ZERO, o.n, self.count)) + (self.number - 1) * opening_size(o.n)
+        return head_size(o.n, self.count) + (self.number - 1) * opening_size(o.n)
 
     def begin(self, number, store, file):
         """Begins an opening, and the next ones where nothing is to be labelled anew."""
@@ -276,7 +293,7 @@ class Writing:
         while True:
             self.number = number
             leaf = challenge_leaf(o.n, o.statement, self.root, number)
-            self.opening = Opening(o.statement, o.n, o.m, leaf)
+            self.opening = Opening(o.edition, o.statement, o.n, o.m, leaf)
             self.opening.copy(store, file, self.place())
             if self.opening.remaining() or number == self.count:
                 return
@@ -304,13 +321,13 @@ class Writing:
         return 0, labels, cost
 
 
-def start_writing(statement, root, n, m, t, store, file):
-    refusal = write_row(n, m, t, len(store), len(file))
+def start_writing(edition, statement, root, n, m, t, store, file):
+    refusal = write_row(edition, n, m, t, len(store), len(file))
     if refusal:
         return refusal, Writing()
-    front = head(statement, root, n, t)
+    front = head(edition, statement, root, n, t)
     file[: len(front)] = front
-    writing = Writing(root, t, 1, Opening(statement, n, m))
+    writing = Writing(root, t, 1, Opening(edition, statement, n, m))
     writing.begin(1, store, file)
     return 0, writing
 
@@ -332,8 +349,13 @@ def groups(x):
     return bytes([x]) if x < 128 else bytes([x % 128 + 128]) + groups(x // 128)
 
 
-def head(statement, root, n, t):
-    return groups(1) + groups(n) + groups(t) + statement + root
+def head(edition, statement, root, n, t):
+    return groups(edition) + groups(n) + groups(t) + statement + root
+
+
+def head_size(n, t):
+    """The same for both editions, whose numbers take one byte."""
+    return len(head(NEW_EDITION, ZERO, ZERO, n, t))
 
 
 class Refused(Exception):
@@ -363,9 +385,9 @@ def read_number(data, at, most=2):
 
 
 def read_head(data):
-    """Depth, count and where the numbers end."""
+    """Edition, depth, count and where the numbers end."""
     edition, at = read_number(data, 0)
-    if edition != 1:
+    if bad_edition(edition):
         raise Refused(12)
     n, at = read_number(data, at)
     if bad_depth(n):
@@ -373,13 +395,13 @@ def read_head(data):
     t, at = read_number(data, at)
     if bad_count(t):
         raise Refused(8)
-    return n, t, at
+    return edition, n, t, at
 
 
 def opening_part(data, i):
     """Opening i, from 1; empty if there is none."""
     try:
-        n, t, at = read_head(data)
+        _, n, t, at = read_head(data)
     except Refused:
         return b""
     if len(data) != at + 64 + t * opening_size(n) or not 1 <= i <= t:
@@ -388,38 +410,38 @@ def opening_part(data, i):
     return data[start : start + opening_size(n)]
 
 
-def inputs(statement, n, leaf, opening):
-    """The hash input that an opening gives at each node on its leaf's way, by level from n to 0."""
+def inputs(edition, statement, n, leaf, opening):
+    """The hash input that an opening gives at each node on its leaf's way, by level from n to 0, in an edition's order."""
     place = lambda i: opening[32 * i : 32 * i + 32]
     given = {level: place(n - level + 1) for level in range(1, n + 1)}
-    result = {n: hash_input(statement, n, leaf, [given[level] for level, _ in left_siblings(n, leaf)])}
+    result = {n: hash_input(edition, statement, n, leaf, [given[level] for level, _ in left_siblings(n, leaf)])}
     label = place(0)
     for level in range(n - 1, -1, -1):
         right = (leaf >> (n - level - 1)) % 2 == 1
         children = [given[level + 1], label] if right else [label, given[level + 1]]
-        result[level] = hash_input(statement, level, leaf >> (n - level), children)
+        result[level] = hash_input(edition, statement, level, leaf >> (n - level), children)
         label = sha(result[level])
     return result
 
 
-def opening_right(statement, n, leaf, root, opening):
-    given = inputs(statement, n, leaf, opening)
+def opening_right(edition, statement, n, leaf, root, opening):
+    given = inputs(edition, statement, n, leaf, opening)
     return row((14, lambda: sha(given[n]) != opening[:32]), (15, lambda: sha(given[0]) != root))
 
 
-def check_opening(statement, n, leaf, root, opening):
+def check_opening(edition, statement, n, leaf, root, opening):
     size = len(opening)
-    return row(
+    return edition_row(edition) or row(
         (1, lambda: bad_depth(n)),
         (6, lambda: leaf >= 2**n),
         (10, lambda: size < opening_size(n)),
         (13, lambda: size > opening_size(n)),
-    ) or opening_right(statement, n, leaf, root, opening)
+    ) or opening_right(edition, statement, n, leaf, root, opening)
 
 
 def check_file(data, statement, n, t):
-    """Root, leaves and openings of an accepted file."""
-    depth, count, at = read_head(data)
+    """Leaves and openings of an accepted file. W-206: 'files of edition 1 are still checked by their own order'."""
+    edition, depth, count, at = read_head(data)
     size = at + 64 + count * opening_size(depth)
     refusal = row(
         (10, lambda: len(data) < size),
@@ -432,7 +454,7 @@ def check_file(data, statement, n, t):
     leaves = challenge_leaves(n, statement, root, t)
     openings = [opening_part(data, i) for i in range(1, t + 1)]
     for i, (leaf, opening) in enumerate(zip(leaves, openings), 1):
-        refusal = opening_right(statement, n, leaf, root, opening)
+        refusal = opening_right(edition, statement, n, leaf, root, opening)
         if refusal:
             raise Refused(refusal, i)
     return leaves, openings
@@ -455,7 +477,7 @@ def held_size(run):
 
 
 def record(run):
-    return b"".join(map(groups, (1, run.n, run.m, run.made))) + run.statement + run.held[: held_size(run)]
+    return b"".join(map(groups, (run.edition, run.n, run.m, run.made))) + run.statement + run.held[: held_size(run)]
 
 
 def write_record(run, out):
@@ -471,12 +493,12 @@ def write_record(run, out):
 def resumed(data):
     """The run of a record; raises Refused."""
     edition, at = read_number(data, 0)
-    if edition != 1:
+    if bad_edition(edition):
         raise Refused(12)
     n, at = read_number(data, at)
     m, at = read_number(data, at)
     made, at = read_number(data, at, 6)
-    run = Run(bytes(data[at : at + 32]), n, m, made, bytes(data[at + 32 :]).ljust(32 * PLACES, b"\0"))
+    run = Run(edition, bytes(data[at : at + 32]), n, m, made, bytes(data[at + 32 :]).ljust(32 * PLACES, b"\0"))
     refusal = row((4, run.impossible), (18, lambda: len(data) != at + 32 + held_size(run)))
     if refusal:
         raise Refused(refusal)
@@ -508,7 +530,7 @@ def openings_taken(run, t, data):
     while run.made == 2 ** (run.n + 1) - 1 and len(taken) < t:
         opening = data[len(taken) * size :][:size]
         leaf = challenge_leaf(run.n, run.statement, root, len(taken) + 1)
-        if check_opening(run.statement, run.n, leaf, root, opening):
+        if check_opening(run.edition, run.statement, run.n, leaf, root, opening):
             break
         taken.append(opening)
     return taken
@@ -561,9 +583,9 @@ def plan(n, leaves, places):
     return 0, len(nodes), nodes + places[len(nodes) :]
 
 
-def first_clash(statement, n, leaves, openings):
+def first_clash(edition, statement, n, leaves, openings):
     """The first pair i < j that disagrees, by i, then j, with the smallest level and both inputs; None if there is none."""
-    given = [inputs(statement, n, leaf, opening) for leaf, opening in zip(leaves, openings)]
+    given = [inputs(edition, statement, n, leaf, opening) for leaf, opening in zip(leaves, openings)]
     for i in range(len(leaves)):
         for j in range(i + 1, len(leaves)):
             for level in range(n):
@@ -574,20 +596,20 @@ def first_clash(statement, n, leaves, openings):
     return None
 
 
-def compare(statement, n, leaves, data):
+def compare(edition, statement, n, leaves, data):
     """The refusal, and the clash or None. Unlike planning it takes at least one leaf."""
-    refusal = plan_row(n, leaves) or row((8, lambda: not leaves))
+    refusal = edition_row(edition) or plan_row(n, leaves) or row((8, lambda: not leaves))
     size = opening_size(n) if not refusal else 0
     refusal = refusal or row((10, lambda: len(data) < len(leaves) * size), (13, lambda: len(data) > len(leaves) * size))
     if refusal:
         return refusal, None
-    return 0, first_clash(statement, n, leaves, [data[i * size : (i + 1) * size] for i in range(len(leaves))])
+    return 0, first_clash(edition, statement, n, leaves, [data[i * size : (i + 1) * size] for i in range(len(leaves))])
 
 
 def draw(data, statement, n, t, places):
-    """('chain', count, list) or ('clash', clash, list); raises Refused."""
+    """('chain', count, list) or ('clash', clash, list), whose inputs are of the file's own edition; raises Refused."""
     leaves, openings = check_file(data, statement, n, t)
-    clash = first_clash(statement, n, leaves, openings)
+    clash = first_clash(read_head(data)[0], statement, n, leaves, openings)
     if clash:
         return "clash", clash, places
     nodes = chain(n, leaves)

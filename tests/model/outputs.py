@@ -72,39 +72,53 @@ def digests():
 RUNS = """1 0 0|2 1 0|3 3 3|4 3 3|5 1 0|6 3 0|7 6 6|8 0 7|9 4 3|10 9 1|11 5 0|12 0 0|13 10 8|14 0 14|15 12 6|16 13 0"""
 
 
-def run_lines(statement, n, m):
-    labels = tree(statement, n)
+# W-206: those of edition 2, at the memory levels of its shared roots
+RUNS_2 = """1 1 1|2 2 0|3 0 3|4 2 3|5 3 5|6 1 0|7 7 5|8 7 8|9 5 5|10 5 8|11 1 3|12 0 5|13 10 8|14 2 11"""
+
+
+def run_lines(edition, statement, n, m):
+    labels = tree(edition, statement, n)
     held = labels.root + bytes(1280)
     end = f" made {2 ** (n + 1) - 1} root {labels.root.hex()} held {sha(held).hex()} store {sha(labels.store(m)).hex()} behind 90\n"
-    return f"depth {n} memory {m}\n" + "".join(f"budget {budget}{end}" for budget in (1000000, 1000, 1))
+    return f"edition {edition} depth {n} memory {m}\n" + "".join(f"budget {budget}{end}" for budget in (1000000, 1000, 1))
 
 
 def runs():
     text = ""
-    for entry in RUNS.split("|"):
+    for edition, entry in [(1, entry) for entry in RUNS.split("|")] + [(2, entry) for entry in RUNS_2.split("|")]:
         n, *levels = map(int, entry.split())
         for words, m in zip((b"", b"hull %d" % n), levels):
-            text += "".join(run_lines(sha(words), n, level) for level in (m, 0, min(n, md.MAX_MEMORY)))
+            text += "".join(run_lines(edition, sha(words), n, level) for level in (m, 0, min(n, md.MAX_MEMORY)))
     return text
 
 
 # W-209: depths and levels about 14, with a store for every level, one a byte short of it, and one a byte short of level 13's
 LEVELS = [(n, m, size) for n in (13, 14, 15, 40) for m in (13, 14, 15, 20, 21) for size in (1048544, 1048543, 524255)]
 
+# W-206: editions that exist or not
+EDITIONS = [0, 1, 2, 3, 2**32 + 2, BIG]
+
+
+def with_editions(edges, edition_edges):
+    """Edges of edition 2, and then some of every edition."""
+    return [(2, *edge) for edge in edges] + [(edition, *edge) for edition in EDITIONS for edge in edition_edges]
+
+
 RUN_EDGES = [
     (0, 0, 0, 32), (1, 0, 0, 32), (40, 0, 0, 32), (41, 0, 0, 32), (BIG, 0, 0, 32), (3, 3, 0, 480), (3, 4, 0, 992), (3, 1, 0, 96),
     (3, 1, 0, 95), (3, 1, 14, 96), (3, 1, 15, 96), (3, 1, 15, 95), (3, 1, 16, 96), (3, 1, 16, 95), (3, 1, BIG, 96), (41, 42, BIG, 0),
 ] + [(n, m, 0, size) for n, m, size in LEVELS]
+RUN_EDITION_EDGES = [(3, 1, 14, 96), (3, 1, 14, 95), (3, 1, 16, 95)]
 
 
 def run_edges():
     text = ""
-    for n, m, made, size in RUN_EDGES:
+    for edition, n, m, made, size in with_editions(RUN_EDGES, RUN_EDITION_EDGES):
         store = bytearray([90] * size)
         before = sha(store)
         refusal, run = md.start_run(bytes([7] * 32), n, m, size)
-        text += f"n {n} m {m} made {made} store {size}: start {refusal} run {sha(run.bytes()).hex()} store {before.hex()} same"
-        run = md.Run(bytes([7] * 32), n, m, made, bytes([9] * 1312))
+        text += f"edition {edition} n {n} m {m} made {made} store {size}: start {refusal} run {sha(run.bytes()).hex()} store {before.hex()} same"
+        run = md.Run(edition, bytes([7] * 32), n, m, made, bytes([9] * 1312))
         old = run.bytes()
         refusal, labels, cost = run.advance(1, store)
         text += f" continue {refusal} labels {labels} blocks {cost} run {sha(run.bytes()).hex()}{flag(run.bytes() == old)}"
@@ -116,7 +130,7 @@ def opened(labels, m, leaf, size):
     """An opening over bytes that held something else: by the machine, which must give the definition's."""
     out = bytearray([90] * size)
     store = bytearray(labels.store(m))
-    refusal, opening = md.start_opening(labels.statement, labels.n, m, leaf, store, out)
+    refusal, opening = md.start_opening(labels.edition, labels.statement, labels.n, m, leaf, store, out)
     refusal, made, _ = opening.advance(BIG, store, out)
     assert out[: md.opening_size(labels.n)] == labels.opening(leaf) and made == md.nodes_anew(labels.n, m)
     return bytes(out), made
@@ -128,22 +142,24 @@ OPENING_EDGES = [
     (3, 1, 8, 0, 96, 128), (3, 1, 8, 0, 96, 127), (3, 1, 7, 0, 96, 127), (3, 1, 7, 5, 96, 128), (3, 1, 7, 6, 96, 128),
     (3, 1, 7, 7, 96, 128), (3, 1, 7, 7, 95, 127), (BIG, BIG, BIG, BIG, 0, 0),
 ] + [(n, m, 0, 0, size, 1312) for n, m, size in LEVELS]
+OPENING_EDITION_EDGES = [(3, 1, 7, 0, 96, 128), (3, 1, 7, 0, 95, 127), (41, 42, 8, 7, 0, 0)]
 
 
 def openings():
     text = ""
-    for n in range(1, 7):
-        labels = tree(sha(b"openings"), n)
-        for m in range(n + 1):
-            made = [opened(labels, m, leaf, 1313) for leaf in range(2**n)]
-            digest = sha(b"".join(out + count.to_bytes(8, "big") for out, count in made)).hex()
-            text += f"depth {n} memory {m} {digest} {digest} {digest}\n"
-    for n, m, leaf, made, store_len, out_len in OPENING_EDGES:
+    for edition in md.EDITIONS:
+        for n in range(1, 7):
+            labels = tree(edition, sha(b"openings"), n)
+            for m in range(n + 1):
+                made = [opened(labels, m, leaf, 1313) for leaf in range(2**n)]
+                digest = sha(b"".join(out + count.to_bytes(8, "big") for out, count in made)).hex()
+                text += f"edition {edition} depth {n} memory {m} {digest} {digest} {digest}\n"
+    for edition, n, m, leaf, made, store_len, out_len in with_editions(OPENING_EDGES, OPENING_EDITION_EDGES):
         store, out = bytearray([1] * store_len), bytearray([2] * out_len)
-        refusal, _ = md.start_opening(bytes([7] * 32), n, m, leaf, store, out)
-        text += f"{n} {m} {leaf} {made} {store_len} {out_len}: start {refusal}{flag(out == bytes([2] * out_len))}"
+        refusal, _ = md.start_opening(edition, bytes([7] * 32), n, m, leaf, store, out)
+        text += f"{edition} {n} {m} {leaf} {made} {store_len} {out_len}: start {refusal}{flag(out == bytes([2] * out_len))}"
         out = bytearray([2] * out_len)
-        opening = md.Opening(bytes([7] * 32), n, m, leaf, made, bytes([9] * 1312))
+        opening = md.Opening(edition, bytes([7] * 32), n, m, leaf, made, bytes([9] * 1312))
         refusal, labels, cost = opening.advance(1, store, out)
         text += f" continue {refusal} labels {labels} blocks {cost}{flag(out == bytes([2] * out_len))}\n"
     return text
@@ -153,20 +169,25 @@ def flipped(data, at, mask):
     return data[:at] + bytes([data[at] ^ mask]) + data[at + 1 :]
 
 
+def leaf_checked(labels, m, leaf):
+    """A leaf's opening as it is, a byte short, a byte more, for another leaf, with another root, by the other edition, by none, and changed."""
+    edition, statement, n, root, size = labels.edition, labels.statement, labels.n, labels.root, md.opening_size(labels.n)
+    out, _ = opened(labels, m, leaf, 1313)
+    tries = [(edition, leaf, root, out[:length]) for length in (size, size - 1, size + 1)]
+    tries += [(edition, leaf ^ 1, root, out[:size]), (edition, leaf, statement, out[:size])]
+    tries += [(other, leaf, root, out[:size]) for other in (3 - edition, 3)]
+    answers = [md.check_opening(e, statement, n, l, r, o) for e, l, r, o in tries]
+    changed = [md.check_opening(edition, statement, n, leaf, root, flipped(out, at, 4)[:size]) for at in range(5, size, 33)]
+    return f"leaf {leaf} {' '.join(map(str, answers))} changed {' '.join(map(str, changed))}\n"
+
+
 def openings_checked():
     text = ""
-    for n in range(1, 7):
-        labels = tree(sha(b"openings"), n)
-        statement, root, size = labels.statement, labels.root, md.opening_size(n)
-        for m in range(n + 1):
-            text += f"depth {n} memory {m}\n"
-            for leaf in range(2**n):
-                out, _ = opened(labels, m, leaf, 1313)
-                tries = [(leaf, root, out[:size]), (leaf, root, out[: size - 1]), (leaf, root, out[: size + 1])]
-                tries += [(leaf ^ 1, root, out[:size]), (leaf, statement, out[:size])]
-                answers = [md.check_opening(statement, n, l, r, o) for l, r, o in tries]
-                changed = [md.check_opening(statement, n, leaf, root, flipped(out, at, 4)[:size]) for at in range(5, size, 33)]
-                text += f"leaf {leaf} {' '.join(map(str, answers))} changed {' '.join(map(str, changed))}\n"
+    for edition in md.EDITIONS:
+        for n in range(1, 7):
+            labels = tree(edition, sha(b"openings"), n)
+            for m in range(n + 1):
+                text += f"edition {edition} depth {n} memory {m}\n" + "".join(leaf_checked(labels, m, leaf) for leaf in range(2**n))
     return text
 
 
@@ -182,11 +203,11 @@ def block_numbers(kind, *given):
         return (cost,)
     *state, made, budget = given
     if kind == "r":
-        lent, called = [bytearray(32)], md.Run(bytes([9] * 32), *state, 0)
+        lent, called = [bytearray(32)], md.Run(md.NEW_EDITION, bytes([9] * 32), *state, 0)
     else:
         n, m, leaf = state
         lent = [bytearray(md.store_size(m)), bytearray(md.opening_size(n))]
-        _, called = md.start_opening(bytes([9] * 32), n, m, leaf, *lent)
+        _, called = md.start_opening(md.NEW_EDITION, bytes([9] * 32), n, m, leaf, *lent)
     called.advance(made, *lent)
     refusal, labels, cost = called.advance(budget, *lent)
     assert refusal == 0 and called.made == made + labels
@@ -214,18 +235,18 @@ def wrote(run, size):
     """The line of a record written over so many bytes that held something else, the record's size and the bytes afterwards."""
     out = bytearray([90] * size)
     refusal, count = md.write_record(run, out)
-    return f"{run.n} {run.m} {run.made} {size} {refusal} {count} {sha(out).hex()}", count, out
+    return f"{run.edition} {run.n} {run.m} {run.made} {size} {refusal} {count} {sha(out).hex()}", count, out
 
 
 def record_line(run):
     """A run's record, and the run that it gives."""
     text, size, out = wrote(run, 1353)
     refusal, back = md.read_record(out[:size])
-    return f"{text} {refusal} {back.n} {back.m} {back.made} {sha(back.statement).hex()} {sha(back.held).hex()}\n"
+    return f"{text} {refusal} {back.edition} {back.n} {back.m} {back.made} {sha(back.statement).hex()} {sha(back.held).hex()}\n"
 
 
-def by_hand(n, m, made):
-    return md.Run(bytes([201] * 32), n, m, made, bytes(i % 251 for i in range(1312)))
+def by_hand(edition, n, m, made):
+    return md.Run(edition, bytes([201] * 32), n, m, made, bytes(i % 251 for i in range(1312)))
 
 
 RECORD_EDGES = [
@@ -235,28 +256,34 @@ RECORD_EDGES = [
 ]
 
 
-def records_written():
+def record_edge(run, enough):
+    """No room, one byte less than the record takes, just enough, and more."""
+    return "".join(wrote(run, size)[0] + "\n" for size in (0, enough - 1, enough, 1353))
+
+
+def records_written(edition):
     text = ""
     for n in range(1, 5):
-        run, store = md.Run(sha(b"hull"), n, min(n, 2)), bytearray(224)
+        run, store = md.Run(edition, sha(b"hull"), n, min(n, 2)), bytearray(224)
         for _ in range(2 ** (n + 1)):
             text += record_line(run)
             run.advance(1, store)
     for made in (0, 1, 2**41 - 41, 2**41 - 2, 2**41 - 1):
-        text += record_line(by_hand(40, 14, made))
-    for n, m, made, enough in RECORD_EDGES:
-        for size in (0, enough - 1, enough, 1353):
-            text += wrote(by_hand(n, m, made), size)[0] + "\n"
-    return text
+        text += record_line(by_hand(edition, 40, 14, made))
+    return text + "".join(record_edge(by_hand(edition, n, m, made), enough) for n, m, made, enough in RECORD_EDGES)
 
 
-def pauses():
+def no_edition():
+    return "".join(record_edge(by_hand(edition, 3, 1, 14), 101 if edition == 128 else 100) for edition in (0, 3, 128, 2**32 + 2, BIG))
+
+
+def pauses(edition):
     """By the definition: what a run that was never paused has at its end."""
     text = ""
     for n, level in enumerate((0, 1, 3, 3, 1, 3, 6, 0), 1):
-        labels = tree(sha(b""), n)
+        labels = tree(edition, sha(b""), n)
         for m in (level, 0 if level == n else n):
-            text += f"{n} {m} {2 ** (n + 1) - 1} {labels.root.hex()} {sha(labels.store(m)).hex()}\n"
+            text += f"{edition} {n} {m} {2 ** (n + 1) - 1} {labels.root.hex()} {sha(labels.store(m)).hex()}\n"
     return text
 
 
@@ -272,30 +299,37 @@ def numbers_line(form, *numbers):
     return " ".join(map(str, (form, *numbers, *answers))) + "\n"
 
 
+# W-206: a form with numbers of which the first is the edition
+EDITION_NUMBERS = [
+    (0, 0, 40, 14, 0), (0, 1, 40, 14, 0), (0, 2, 40, 14, 0), (0, 3, 40, 14, 0), (0, 3, 41, 99, 99), (0, 127, 40, 14, 0),
+    (1000, 1, 40, 14, 0), (1000, 2, 40, 14, 0), (1000, 128, 40, 14, 0), (1000, 130, 40, 14, 0), (1000, 200, 0, 99, 99),
+    (1003, 200, 0, 99, 0),
+]
+# the same without the edition, which is each that exists
 NUMBERS = [
-    (0, 0, 40, 14, 0), (0, 2, 40, 14, 0), (0, 3, 41, 99, 99), (1000, 128, 40, 14, 0), (1000, 200, 0, 99, 99), (1003, 200, 0, 99, 0),
-    (0, 1, 0, 0, 0), (0, 1, 41, 0, 0), (0, 1, 127, 0, 0), (100, 1, 128, 0, 0), (1, 1, 0, 0, 0), (0, 1, 40, 13, 0), (0, 1, 40, 14, 0),
-    (0, 1, 40, 15, 0), (0, 1, 40, 20, 0), (0, 1, 40, 21, 0), (0, 1, 13, 14, 0), (10, 1, 40, 128, 0),
-    (0, 1, 3, 1, 1), (0, 1, 3, 1, 2), (0, 1, 3, 1, 14), (0, 1, 3, 1, 15), (0, 1, 3, 1, 16), (1, 1, 3, 1, 128), (1, 1, 40, 14, 128),
-    (4, 1, 40, 14, 2**35 - 1), (5, 1, 40, 14, 2**35 - 1), (5, 1, 40, 14, 2**41 - 2), (5, 1, 40, 14, 2**41 - 1), (5, 1, 40, 14, 2**41),
-    (5, 1, 40, 14, 2**42 - 1), (6, 1, 40, 14, 2**41 - 1), (6, 1, 40, 14, 2**42), (9, 1, 40, 14, 0),
+    (0, 0, 0, 0), (0, 41, 0, 0), (0, 127, 0, 0), (100, 128, 0, 0), (1, 0, 0, 0), (0, 40, 13, 0), (0, 40, 14, 0),
+    (0, 40, 15, 0), (0, 40, 20, 0), (0, 40, 21, 0), (0, 13, 14, 0), (10, 40, 128, 0),
+    (0, 3, 1, 1), (0, 3, 1, 2), (0, 3, 1, 14), (0, 3, 1, 15), (0, 3, 1, 16), (1, 3, 1, 128), (1, 40, 14, 128),
+    (4, 40, 14, 2**35 - 1), (5, 40, 14, 2**35 - 1), (5, 40, 14, 2**41 - 2), (5, 40, 14, 2**41 - 1), (5, 40, 14, 2**41),
+    (5, 40, 14, 2**42 - 1), (6, 40, 14, 2**41 - 1), (6, 40, 14, 2**42), (9, 40, 14, 0),
 ]
 
 
-def records_read():
+def records_read(edition):
     text = ""
     for n, m, made in ((1, 0, 0), (3, 2, 9), (40, 14, 2**41 - 1)):
-        data = md.record(by_hand(n, m, made))
+        data = md.record(by_hand(edition, n, m, made))
         longer = data + bytes([90] * 140)
         answers = [md.read_record(longer[:size])[0] for size in range(140)]
         text += " ".join(map(str, (len(data), *answers))) + "\n"
-    for numbers in ((1, 3, 1, 15), (1, 41, 99, 99)):
+    for numbers in ((edition, 3, 1, 15), (edition, 41, 99, 99)):
         text += "".join(numbers_line(place * more, *numbers) for more in (1, 2, 3) for place in (1000, 100, 10, 1))
-    return text + "".join(numbers_line(*line) for line in NUMBERS)
+    return text + "".join(numbers_line(form, edition, *numbers) for form, *numbers in NUMBERS)
 
 
 def record_vectors():
-    return records_written() + pauses() + records_read()
+    written, paused, read = ("".join(map(part, md.EDITIONS)) for part in (records_written, pauses, records_read))
+    return written + no_edition() + paused + read + "".join(numbers_line(*line) for line in EDITION_NUMBERS)
 
 
 # file_vectors
@@ -304,19 +338,24 @@ def record_vectors():
 def written(labels, m, t, budget):
     """A file written by budgets over bytes that held something else: calls, labels, their blocks, and bytes."""
     file, store, calls, made, cost = bytearray([90] * 1024), bytearray(labels.store(m)), 0, 0, 0
-    refusal, writing = md.start_writing(labels.statement, labels.root, labels.n, m, t, store, file)
+    refusal, writing = md.start_writing(labels.edition, labels.statement, labels.root, labels.n, m, t, store, file)
     while (step := writing.advance(budget, store, file))[1]:
         calls, made, cost = calls + 1, made + step[1], cost + step[2]
     assert file[: md.file_size(labels.n, t)] == labels.file(t)
     return refusal, calls, made, cost, bytes(file)
 
 
-def files():
+def shared_files(edition):
+    """Those of edition 1 are the program's standard input, those of edition 2 its data."""
+    return lines("file_vectors", "stdin" if edition == 1 else "data/files-2")
+
+
+def files(edition):
     text = ""
-    for field, depth, count, file in lines("file_vectors"):
-        labels, n, t, file = tree(sha(report(field)), int(depth)), int(depth), int(count), bytes.fromhex(file)
+    for field, depth, count, file in shared_files(edition):
+        labels, n, t, file = tree(edition, sha(report(field)), int(depth)), int(depth), int(count), bytes.fromhex(file)
         for m in (0, n // 2, n):
-            text += f"file {n} {t} {m}"
+            text += f"file {edition} {n} {t} {m}"
             for budget in (1, 7, BIG):
                 refusal, calls, made, cost, out = written(labels, m, t, budget)
                 code = md.check_code(out[: len(file)], labels.statement, n, t)
@@ -338,61 +377,84 @@ FILE_EDGES = [
     (3, 1, 2, 2, 7, 6, 96, 322), (3, 1, 2, BIG, 7, 0, 96, 323), (3, 1, BIG, 1, 7, 0, 96, 323), (3, 1, 2, 1, BIG, 0, 96, 323),
     (3, 1, 2, 1, 7, BIG, 96, 323),
 ] + [(n, m, 1, 1, 0, 0, size, 1379) for n, m, size in LEVELS]
+FILE_EDITION_EDGES = [(3, 1, 2, 2, 7, 0, 96, 323), (3, 1, 2, 2, 7, 0, 95, 322), (41, 42, 0, 0, 8, 7, 0, 0)]
 
 
 def file_edges():
     text = ""
-    for n, m, t, number, leaf, made, store_len, file_len in FILE_EDGES:
+    for edition, n, m, t, number, leaf, made, store_len, file_len in with_editions(FILE_EDGES, FILE_EDITION_EDGES):
         store, file = bytearray([1] * store_len), bytearray([2] * file_len)
-        refusal, _ = md.start_writing(bytes([7] * 32), bytes([8] * 32), n, m, t, store, file)
-        text += f"edge {n} {m} {t} {number} {leaf} {made} {store_len} {file_len}: start {refusal}"
+        refusal, _ = md.start_writing(edition, bytes([7] * 32), bytes([8] * 32), n, m, t, store, file)
+        text += f"edge {edition} {n} {m} {t} {number} {leaf} {made} {store_len} {file_len}: start {refusal}"
         text += flag(file == bytes([2] * file_len))
         file = bytearray([2] * file_len)
-        opening = md.Opening(bytes([7] * 32), n, m, leaf, made, bytes([9] * 1312))
+        opening = md.Opening(edition, bytes([7] * 32), n, m, leaf, made, bytes([9] * 1312))
         writing = md.Writing(bytes([8] * 32), t, number, opening)
         refusal, labels, cost = writing.advance(1, store, file)
         o = writing.opening
         text += f" continue {refusal} labels {labels} blocks {cost}{flag(file == bytes([2] * file_len))}"
-        text += f" {writing.count} {writing.number} {o.n} {o.m} {o.leaf} {o.made}"
+        text += f" {writing.count} {writing.number} {o.edition} {o.n} {o.m} {o.leaf} {o.made}"
         text += "".join(" " + sha(part).hex() for part in (writing.root, o.statement, o.held)) + "\n"
     return text
 
 
-def challenged():
+def challenged(edition):
     text = ""
-    for field, n, t, _ in lines("file_vectors"):
-        labels = tree(sha(report(field)), int(n))
-        digest = sha(labels.file(int(t))[len(md.head(md.ZERO, md.ZERO, int(n), int(t))) :]).hex()
+    for field, n, t, _ in shared_files(edition):
+        labels = tree(edition, sha(report(field)), int(n))
+        digest = sha(labels.file(int(t))[md.head_size(int(n), int(t)) :]).hex()
         for m in range(int(n) + 1):
-            text += f"file depth {n} count {t} memory {m} {digest} {digest} {digest}\n"
+            text += f"file edition {edition} depth {n} count {t} memory {m} {digest} {digest} {digest}\n"
     return text
 
 
-def checks():
+def checks(name):
     text = ""
-    vectors = lines("file_vectors", "data/checks")
-    for file, statement, n, t, *_ in vectors:
+    for file, statement, n, t, *_ in lines("file_vectors", "data/" + name):
         text += f"vector {n} {t} {md.check_code(report(file), bytes.fromhex(statement), int(n), int(t))}\n"
-    file, statement = report(vectors[0][0])[:131], bytes.fromhex(vectors[0][1])
+    return text
+
+
+def bits(name):
+    """The first of them whole, empty, a byte short, a byte longer, and with every bit changed."""
+    field, statement, *_ = lines("file_vectors", "data/" + name)[0]
+    file, statement = report(field)[:131], bytes.fromhex(statement)
     code = lambda data: md.check_code(data, statement, 1, 1)
-    text += "lengths " + " ".join(str(code(data)) for data in (file, b"", file[:130], file + b"\0")) + "\n"
+    text = "lengths " + " ".join(str(code(data)) for data in (file, b"", file[:130], file + b"\0")) + "\n"
     for at in range(131):
         text += "flipped " + " ".join(str(code(flipped(file, at, 1 << bit))) for bit in range(8)) + "\n"
-    for n in (0, 1, 2, 39, 40, 41, BIG):
+    return text
+
+
+def other_editions(edges):
+    """Edges of every edition but 2."""
+    return [(edition, *edge) for edition in EDITIONS if edition != 2 for edge in edges]
+
+
+def challenge_rows():
+    text = ""
+    depths = [(2, n) for n in (0, 1, 2, 39, 40, 41, BIG)] + other_editions([(40,), (41,)])
+    for edition, n in depths:
         for i in (0, 1, 2, 199, 200, 201, 2**32 + 1, BIG):
-            refusal = md.challenge_row(n, i)
+            refusal = md.challenge_row(edition, n, i)
             leaf = 0 if refusal else md.challenge_leaf(n, sha(b"challenged"), sha(b"root"), i)
-            text += f"challenge {n} {i} {refusal} {leaf}\n"
+            text += f"challenge {edition} {n} {i} {refusal} {leaf}\n"
+    return text
+
+
+def head_rows():
+    text = ""
     heads = [(0, 1, 262469), (0, 0, 0), (41, 1, 262469), (1, 0, 131), (1, 0, 0), (1, 201, 262469), (BIG, BIG, 0), (40, BIG, 262469)]
     heads += [(1, 1, 131), (1, 1, 130), (1, 1, 132), (40, 200, 262468), (40, 200, 262467), (40, 200, 262469)]
     heads += [(1, 127, 8195), (1, 127, 8194), (1, 128, 8260), (1, 128, 8259)]
-    for n, t, size in heads:
+    of_editions = other_editions([(1, 1, 131), (1, 1, 130), (40, 200, 262468), (41, 201, 0)])
+    for edition, n, t, size in [(2, *head) for head in heads] + of_editions:
         out = bytearray([90] * size)
-        refusal = md.head_row(n, t, size)
+        refusal = md.head_row(edition, n, t, size)
         if not refusal:
-            front = md.head(sha(b"headed"), sha(b"root"), n, t)
+            front = md.head(edition, sha(b"headed"), sha(b"root"), n, t)
             out[: len(front)] = front
-        text += f"head {n} {t} {size} {refusal} {sha(out).hex()}\n"
+        text += f"head {edition} {n} {t} {size} {refusal} {sha(out).hex()}\n"
     return text
 
 
@@ -409,26 +471,33 @@ def drawn(name, file, statement, n, t, places):
     return f"{name} {answer} {sha(first).hex()} {sha(second).hex()} {places_digest(after)}\n"
 
 
-def chains():
+def chain_line(edition, field, n, t):
+    """A line of chains by the model: the report, depth, challenges, size and digest of the file, length and digest of the chain."""
+    labels = tree(edition, sha(report(field)), n)
+    file, nodes = labels.file(t), md.chain(n, md.challenge_leaves(n, labels.statement, labels.root, t))
+    return [field, *map(str, (n, t, len(file))), sha(file).hex(), str(len(nodes)), places_digest(nodes)]
+
+
+def chains(edition, name):
     text = ""
-    for field, n, t, size, _, count, _ in lines("file_vectors", "data/chains"):
-        labels, n, t, size, count = tree(sha(report(field)), int(n)), int(n), int(t), int(size), int(count)
+    for field, n, t, size, digest, count, nodes in lines("file_vectors", "data/" + name):
+        assert [field, n, t, size, digest, count, nodes] == chain_line(edition, field, int(n), int(t)), field
+        labels, n, t, size, count = tree(edition, sha(report(field)), int(n)), int(n), int(t), int(size), int(count)
         file, statement = labels.file(t), labels.statement
-        assert len(file) == size
         leaves = md.challenge_leaves(n, statement, labels.root, t)
-        level = f"vector 90\nfile {size} {sha(file).hex()} {md.check_code(file, statement, n, t)}\n"
-        for name, places in [("just enough", count), ("more", 1064), ("one short", count - 1), ("none", 0)]:
+        level = f"vector {edition} 90\nfile {size} {sha(file).hex()} {md.check_code(file, statement, n, t)}\n"
+        for name, places in [("just enough", count), ("more", 1108), ("one short", count - 1), ("none", 0)]:
             level += drawn(name, file, statement, n, t, [9] * places)
-        level += drawn("not wanted", file, statement, n, 1, [9] * 1064)
+        level += drawn("not wanted", file, statement, n, 1, [9] * 1108)
         if size > 5000:
-            level += drawn("changed", flipped(file, 5000, 16), statement, n, t, [9] * 1064)
+            level += drawn("changed", flipped(file, 5000, 16), statement, n, t, [9] * 1108)
         refusal, planned, after = md.plan(n, leaves, [9] * count)
         text += 2 * (level + f"planned {refusal} {planned} {places_digest(after)}\n")
     return text
 
 
-def compared(name, n, leaves, data):
-    refusal, clash = md.compare(sha(b"compared"), n, leaves, data)
+def compared(name, edition, n, leaves, data):
+    refusal, clash = md.compare(edition, sha(b"compared"), n, leaves, data)
     pair = "agree" if clash is None else "clash {} {} {}".format(*clash[:3])
     first, second = (bytes(105), bytes(105)) if clash is None else clash[3:]
     return f"{name} {refusal} {pair} {sha(first).hex()} {sha(second).hex()}\n"
@@ -451,25 +520,31 @@ COMPARE_EDGES = [
 ]
 
 
-def comparisons():
-    labels, text = tree(sha(b"compared"), 3), ""
+def comparisons(edition):
+    labels, text = tree(edition, sha(b"compared"), 3), f"edition {edition}\n"
     for name, leaves, changes in COMPARED:
         data = b"".join(map(labels.opening, leaves))
         for at in changes:
             data = flipped(data, at, 1)
-        text += compared(name, 3, leaves, data)
-    eight = b"".join(map(labels.opening, range(8)))
-    for n, count, leaf, size in COMPARE_EDGES:
-        text += compared(f"edge {n} {count} {leaf} {size}", n, [leaf, *range(1, 8)][:count], eight[:size])
-    text += compared("201 leaves", 3, [0] * 201, b"") + compared("200 leaves", 3, [0] * 200, b"")
+        text += compared(name, edition, 3, leaves, data)
     pattern = bytes((7 + 31 * i) % 256 for i in range(2624))
     for leaves in [(0, 2**40 - 1), (733007751850, 733007751851), (733007751850, 733007751850)]:
-        text += compared("deep", 40, list(leaves), pattern)
+        text += compared("deep", edition, 40, list(leaves), pattern)
     return text
 
 
+def compare_edges():
+    eight, text = b"".join(map(tree(2, sha(b"compared"), 3).opening, range(8))), ""
+    for edition, n, count, leaf, size in with_editions(COMPARE_EDGES, [(3, 8, 0, 1024), (41, 0, 8, 1)]):
+        text += compared(f"edge {edition} {n} {count} {leaf} {size}", edition, n, [leaf, *range(1, 8)][:count], eight[:size])
+    return text + compared("201 leaves", 2, 3, [0] * 201, b"") + compared("200 leaves", 2, 3, [0] * 200, b"")
+
+
 def file_vectors():
-    return files() + file_edges() + challenged() + checks() + chains() + comparisons()
+    written = "".join(files(edition) + challenged(edition) for edition in md.EDITIONS) + file_edges()
+    checked = "".join(checks(name) + bits(name) for name in ("checks", "checks-2")) + checks("checks-number")
+    drawn_from = chains(1, "chains") + chains(2, "chains-2")
+    return written + checked + challenge_rows() + head_rows() + drawn_from + comparisons(1) + comparisons(2) + compare_edges()
 
 
 # plan, and the plans of program_scenarios
@@ -495,18 +570,18 @@ def plans():
 
 
 def seal_and_check():
-    labels = tree(sha(b"big 14 21"), 14)
+    labels = tree(md.NEW_EDITION, sha(b"big 14 21"), 14)
     statement, n, t = labels.statement, 14, 21
     file = labels.file(t)
     leaves = md.challenge_leaves(n, statement, labels.root, t)
     nodes = md.chain(n, leaves)
-    at = len(md.head(md.ZERO, md.ZERO, n, t)) + 4 * md.opening_size(n)
+    at = md.head_size(n, t) + 4 * md.opening_size(n)
     damaged = flipped(file, at, 1)
     code = md.check_code(damaged, statement, n, t)
-    alone = md.check_opening(statement, n, leaves[4], labels.root, md.opening_part(damaged, 5))
-    depth, count, _ = md.read_head(file)
+    alone = md.check_opening(md.NEW_EDITION, statement, n, leaves[4], labels.root, md.opening_part(damaged, 5))
+    edition, depth, count, _ = md.read_head(file)
     return (
-        f"statement {statement.hex()}\nroot {labels.root.hex()}\nfile {sha(file).hex()}\nhead depth {depth} count {count}\n"
+        f"statement {statement.hex()}\nroot {labels.root.hex()}\nfile {sha(file).hex()}\nhead edition {edition} depth {depth} count {count}\n"
         f"check {md.check_code(file, statement, n, t)}\nchain {len(nodes)} nodes, last {nodes[-1]}\n"
         f"damaged: check {code}, opening {alone}\n"
     )

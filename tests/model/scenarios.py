@@ -82,9 +82,9 @@ def carried(run, t, store, openings):
     """The file that a checkpoint's run, store and openings lead to."""
     run.advance(BIG, store)
     root, file = run.held[:32], bytearray(md.file_size(run.n, t))
-    _, writing = md.start_writing(run.statement, root, run.n, run.m, t, store, file)
+    _, writing = md.start_writing(run.edition, run.statement, root, run.n, run.m, t, store, file)
     writing.advance(BIG, store, file)
-    at, taken = len(md.head(run.statement, root, run.n, t)), b"".join(openings)
+    at, taken = md.head_size(run.n, t), b"".join(openings)
     file[at : at + len(taken)] = taken
     return bytes(file)
 
@@ -93,7 +93,7 @@ def taken_up(folder, proof, statement, n, t, m):
     """Of the checkpoint, if there is one: the lines on it, the labels made, and the file; no file where it is refused."""
     name = proof + ".run"
     if name not in folder.files:
-        return "", 0, tree(statement, n).file(t)
+        return "", 0, tree(md.NEW_EDITION, statement, n).file(t)
     fault, *found = md.read_checkpoint(folder.files[name])
     if fault != "whole":
         return f"mastdock: {name}: {FAULTS[fault]}\n", 0, None
@@ -128,7 +128,7 @@ def seal_text(folder, statement, proof, n, t, m):
     err += lines
     if file is None:
         return "", err, REFUSED
-    if folder.is_foreign(proof + ".part", md.head(statement, md.ZERO, n, t)[:35], len(file)):
+    if folder.is_foreign(proof + ".part", md.head(file[0], statement, md.ZERO, n, t)[:35], len(file)):
         return "", err, UNTRIED
     err += share(made, labels + anew) + share(labels + anew, labels + anew)
     if md.check_code(file, statement, n, t):
@@ -136,7 +136,7 @@ def seal_text(folder, statement, proof, n, t, m):
     for ending in BESIDE[:4]:
         folder.files.pop(proof + ending, None)
     folder.files[proof] = file
-    root = file[len(md.head(md.ZERO, md.ZERO, n, t)) - 32 :][:32]
+    root = file[md.head_size(n, t) - 32 :][:32]
     return facts(statement, root, n, t, m), err, DONE
 
 
@@ -168,7 +168,7 @@ def refused(why):
 
 def differing(file, statement, n, t):
     """What of a file is not as wanted."""
-    depth, count, at = md.read_head(file)
+    _, depth, count, at = md.read_head(file)
     text = "the proof is not of this report\n" if file[at : at + 32] != statement else ""
     text += f"the proof's depth is {depth}, not {n}\n" if depth != n else ""
     return text + (f"the proof has {count} challenges, not {t}\n" if count != t else "")
@@ -176,7 +176,7 @@ def differing(file, statement, n, t):
 
 def head_numbers(file):
     try:
-        return md.read_head(file)[:2]
+        return md.read_head(file)[1:3]
     except md.Refused:
         return 0, 0
 
@@ -196,7 +196,8 @@ def verify(folder, least, report, proof, *wanted):
         assert kind == "chain"
     except md.Refused as why:
         return said + (differing(file, statement, n, t) if why.number == 9 else "") + refused(why), "", REFUSED
-    return said + f"accepted depth {n} challenges {t} chain {count}\n", "", DONE
+    edition = md.read_head(file)[0]
+    return f"edition {edition}\n{said}accepted depth {n} challenges {t} chain {count}\n", "", DONE
 
 
 def chain(folder, _, report, proof):
@@ -218,9 +219,9 @@ def info(folder, _, proof):
         return NOTHING
     text = ""
     try:
-        n, t, at = md.read_head(file)
+        edition, n, t, at = md.read_head(file)
         size = md.file_size(n, t)
-        text = f"edition 1\ndepth {n}\nchallenges {t}\n"
+        text = f"edition {edition}\ndepth {n}\nchallenges {t}\n"
         if len(file) == size:
             text += f"statement {file[at : at + 32].hex()}\nroot {file[at + 32 : at + 64].hex()}\n"
         text += f"size {len(file)}\n"
@@ -297,7 +298,7 @@ def remove(folder, name):
 
 
 def pause(folder, report, proof, n, t, m, labels):
-    run, store = md.Run(sha(folder.read(report)), int(n), int(m)), bytearray(md.store_size(int(m)))
+    run, store = md.Run(md.NEW_EDITION, sha(folder.read(report)), int(n), int(m)), bytearray(md.store_size(int(m)))
     run.advance(int(labels), store)
     folder.files[proof + ".run"] = md.checkpoint(run, int(t), store)
 

@@ -36,6 +36,15 @@ refuses_checkpoint() { # WHAT WORDS...
   check "$what: nothing is left that was not there: $after" is_same "$(LC_ALL=C comm -13 <(tr ' ' '\n' <<<"$before" | LC_ALL=C sort) <(tr ' ' '\n' <<<"$after" | LC_ALL=C sort))" ''
 }
 
+# One of edition 1, as the program before edition 2 left it, is gone on with in edition 1.
+data=$top/crates/program_scenarios/data
+cp "$data/edition1.run" p.run
+answers 0 '^hashes 407$' seal "$data/report" p 6 20 3
+check "edition 1: going on" has_line "$err" 'p\.run: going on from label 50 of 127$'
+check "edition 1: the proof is of edition 1" cmp -s p "$data/edition1.proof"
+check "edition 1: nothing but the proof is left: $(names)" is_alone
+rm -f p
+
 order=(seal --every 0 report.txt p 18 150 14)
 keep_killed labels 0 "${order[@]}"
 

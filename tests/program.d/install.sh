@@ -8,7 +8,7 @@ check "./install: four files" is_same "$(files_in prefix)" "$installed"
 check "./install: says which" is_same "$(grep -c "^install: $PWD/prefix/" "$out")" 4
 status=0
 prefix/bin/mastdock --version >"$out" 2>"$err" || status=$?
-check "the installed program: its version" has_line "$out" '^mastdock 0\.9 \(edition 1\)$'
+check "the installed program: its version" has_line "$out" '^mastdock 0\.9 \(edition 2\)$'
 check "the installed program: status 0" has_status 0
 check "the manual page is there" grep -q '^\.TH MASTDOCK 1' prefix/share/man/man1/mastdock.1
 if command -v groff >/dev/null; then

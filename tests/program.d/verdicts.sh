@@ -4,12 +4,14 @@ cp "$(unbroken 12)" q
 size=$(stat -c %s q)
 
 answers 0 "$accepted" verify report.txt q
+check "verify tells the edition first" is_same "$(head -n 1 "$out")" 'edition 2'
 answers 0 "$accepted" verify report.txt q 12 150
 answers 0 "$accepted" verify report.txt q --at-least 12 150
 answers 0 "$accepted" verify --at-least 12 150 report.txt q
 answers 0 "$accepted" verify report.txt q --at-least 1 1
 answers 0 '^0 0$' chain report.txt q
 answers 0 . info q
+check "info tells the edition" has_line "$out" '^edition 2$'
 check "info tells the depth" has_line "$out" 'depth.* 12\b'
 check "info tells the challenges" has_line "$out" 'challenges.* 150\b'
 check "info tells the statement" has_line "$out" "$(sha256sum <report.txt | cut -d ' ' -f 1)"
@@ -29,6 +31,19 @@ open(sys.argv[2], "w").write(s.facts(tree.statement, tree.root, n, 150, min(n, 1
 else
   echo "   no python3 here: proofs and facts are not compared with the model's"
 fi
+
+# A proof of edition 1, as the program before edition 2 wrote it. With the first byte of another edition it is refused.
+data=$top/crates/program_scenarios/data
+answers 0 '^accepted depth 6 challenges 20 chain 62$' verify "$data/report" "$data/edition1.proof" 6 20
+check "an old proof: verify tells its edition first" is_same "$(head -n 1 "$out")" 'edition 1'
+answers 0 '^0 0$' chain "$data/report" "$data/edition1.proof"
+for byte in 0 2 3; do
+  # shellcheck disable=SC2059
+  { printf "\\$byte" && tail -c +2 "$data/edition1.proof"; } >old
+  answers 1 "^refused $([ "$byte" = 2 ] && echo '1[45]' || echo 12) " verify "$data/report" old
+  check "an old proof with first byte $byte: no edition is told" is_same "$(grep -c '^edition' "$out")" 0
+done
+rm -f old
 
 # Report and proof from pipes.
 answers 0 "$accepted" verify - q <report.txt

@@ -6,7 +6,7 @@ for word in help --help; do
   check "$word: the usage on standard output" has_line "$out" '^ *mastdock seal REPORT PROOF DEPTH'
   check "$word: nothing on standard error" is_silent "$err"
 done
-answers 0 '^mastdock 0\.9 \(edition 1\)$' --version
+answers 0 '^mastdock 0\.9 \(edition 2\)$' --version
 for word in seal verify chain info help; do
   answers 0 . "$word" --help
   check "$word --help: the usage on standard output" has_line "$out" "mastdock $word"

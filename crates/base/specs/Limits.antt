@@ -13,9 +13,13 @@ maxMemory = 14
 abbrev pub maxChallenges : ℕ
 maxChallenges = 200
 
--- the edition of every file and of every record of a run
-abbrev pub edition : ℕ
-edition = 1
+-- the last edition of files and of records of a run; the first is 1 (W-206)
+abbrev pub maxEdition : ℕ
+maxEdition = 2
+
+-- the edition of a new run
+abbrev pub newEdition : ℕ
+newEdition = 2
 
 -- the most bytes that SHA-256 takes here
 abbrev pub maxHashed : ℕ
@@ -53,6 +57,10 @@ abbrev pub maxChain : ℕ
 maxChain = 6855
 
 -- ---- within the limits
+-- an edition that exists
+abbrev pub IsEdition : ℕ → Type 0
+IsEdition e = (1 ≤ e) × (e ≤ maxEdition)
+
 -- n from 1 to 40
 abbrev pub IsDepth : ℕ → Type 0
 IsDepth n = (1 ≤ n) × (n ≤ maxDepth)

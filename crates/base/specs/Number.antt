@@ -16,7 +16,7 @@ numberOf Depth = 1
 numberOf MemoryLevel = 2
 -- store short
 numberOf ShortStore = 3
--- a run or an opening that cannot be continued, and a record's numbers that no run has (W-201)
+-- a run or an opening that cannot be continued, also of an edition that does not exist (W-206), and a record's numbers that no run has (W-201)
 numberOf State = 4
 -- over 2^61 − 1 bytes in all
 numberOf TooManyBytes = 5
@@ -32,7 +32,7 @@ numberOf NotWanted = 9
 numberOf BytesEnd = 10
 -- a number not in its shortest form, or in more bytes than are allowed
 numberOf NotShortest = 11
--- edition not 1
+-- an edition that does not exist: neither 1 nor 2 (W-206)
 numberOf Edition = 12
 -- bytes too many
 numberOf BytesLeft = 13

@@ -3,9 +3,9 @@
 use Prim.Native.Nat.{ℕ, zero, suc, min}
 use mathlib.Core.Bool.{Bool, true, false, not}
 use mathlib.Core.List.{List, [], _∷_}
-use lib.Dec.{ltb, leb, eqb}
+use lib.Dec.{ltb, leb}
 use Rattle.base.specs.Choice.{pick, both}
-use Rattle.base.specs.Limits.{maxMemory, edition}
+use Rattle.base.specs.Limits.{maxMemory, maxEdition}
 
 -- the number of the first condition of a row that holds; 0 where none does
 abbrev pub firstOf : List (Bool × ℕ) → ℕ
@@ -20,9 +20,9 @@ outside low high x = not (both (leb low x) (leb x high))
 abbrev pub memoryOver : ℕ → ℕ → Bool
 memoryOver n m = ltb (min n maxMemory) m
 
--- 12: no edition that there is
-abbrev pub otherEdition : ℕ → Bool
-otherEdition e = not (eqb e edition)
+-- 12: an edition that does not exist
+abbrev pub noEdition : ℕ → Bool
+noEdition e = outside 1 maxEdition e
 
 -- one of the two holds
 abbrev pub either : Bool → Bool → Bool

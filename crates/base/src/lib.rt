@@ -24,7 +24,9 @@ pub const MAX_CHALLENGES: u64 = 200;
 
 pub const MAX_LEAVES: usize = MAX_CHALLENGES as usize;
 
-pub const EDITION: u64 = 1;
+pub const MAX_EDITION: u64 = 2;
+
+pub const NEW_EDITION: u64 = 2;
 
 pub const MAX_INPUT: usize = 65536;
 

@@ -1,12 +1,11 @@
 // The blocks of labels, told without making them: of a whole run, of an opening, and of all that a proof file takes.
 ghost use mathlib.Core.Path.{_≡_};
 ghost use Prim.Native.Nat.{_+_, _^_, _<_, _≤_};
-ghost use Rattle.base.specs.Limits.{edition, maxDepth, maxChallenges, IsDepth, IsMemory};
+ghost use Rattle.base.specs.Limits.{maxDepth, maxChallenges, IsDepth, IsMemory};
 ghost use Rattle.tree.specs.Nodes.{node, orderBelow};
 ghost use Rattle.opening_places.specs.Possible.{Possible};
 ghost use Rattle.block_theory.specs.Sums.{blocksSum, treeBlocks, openingBlocks};
 ghost use Rattle.block_counts.specs.Seal.{sealBlocks};
-use base::EDITION;
 use file_head::challenge_leaf;
 
 // Those of the subtree of this height, from 1, at (level, position), by the closed formula.
@@ -41,8 +40,15 @@ pub fn opening_blocks(depth: u64, memory: u64, leaf: u64) -> u64
     subtree_blocks(height, memory, leaf >> height) - 2
 }
 
-// Those of a run and of the openings of its challenges.
-pub fn seal_blocks(statement: [u8; 32], root: [u8; 32], depth: u64, memory: u64, count: u64) -> u64
+// Those of a run of an edition and of the openings of its challenges.
+pub fn seal_blocks(
+    edition: u64,
+    statement: [u8; 32],
+    root: [u8; 32],
+    depth: u64,
+    memory: u64,
+    count: u64,
+) -> u64
     requires { ⌜ IsDepth depth × IsMemory depth memory × (count ≤ maxChallenges) ⌝ }
     ensures { λ r. ⌜ r ≡ sealBlocks edition statement root depth memory count ⌝ }
     ensures { λ r. ⌜ r < 2 ^ 54 ⌝ }
@@ -51,7 +57,7 @@ pub fn seal_blocks(statement: [u8; 32], root: [u8; 32], depth: u64, memory: u64,
     let mut i = 0;
     while i < count {
         i += 1;
-        let leaf = challenge_leaf(EDITION, depth, statement, root, i);
+        let leaf = challenge_leaf(edition, depth, statement, root, i);
         blocks += opening_blocks(depth, memory, leaf);
     }
     blocks

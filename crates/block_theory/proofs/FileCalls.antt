@@ -9,7 +9,7 @@ use native.Mathlib.Omega.{arith}
 use borrow.Author.Tests.{eq-eqb, ne-eqb, lt-ltb}
 use lib.ListN.{length, take, length-append}
 use lib.Seq.{length-take-le, take-all, take-take, take-append-le, take-append-add}
-use Rattle.base.specs.Limits.{edition, IsDepth, IsMemory}
+use Rattle.base.specs.Limits.{IsDepth, IsMemory}
 use Rattle.base.proofs.ChoiceLaws.{lt-or-le}
 use Rattle.machine.specs.Machines as machines
 use Rattle.machine.proofs.StepLaws.{steps-add, cost-add}
@@ -20,7 +20,7 @@ use Rattle.opening_places.specs.Places.{ancestor}
 use Rattle.opening.specs.declared.Opening.{Opening}
 use Rattle.opening.specs.Rows.{nodesAnew}
 use Rattle.opening.specs.Steps as openings
-use Rattle.opening.specs.Names.{openingOf, openOf}
+use Rattle.opening.specs.Names.{openOf}
 use Rattle.run_theory.proofs.Anew.{anew-count}
 use Rattle.file_head.specs.Challenge.{challengeLeaf}
 use Rattle.file_head.proofs.Leaves.{challengeLeaf-small}
@@ -53,13 +53,13 @@ sum-over :
     (n j k : ℕ) (us ws : List Node) → length us + j ≡ k → blocksSum n (take k (us ++ ws)) ≡ blocksSum n us + blocksSum n (take j ws)
 sum-over n j k us ws e = rw (← e, take-append-add us ws j, sum-append n us (take j ws))
 
-module _ (statement root : List ℕ) (n m t : ℕ) (store : List ℕ) where
+module _ (edition : ℕ) (statement root : List ℕ) (n m t : ℕ) (store : List ℕ) where
   abbrev anew : ℕ
   anew = nodesAnew n m
 
   -- opening i as it is begun
   abbrev first : ℕ → Opening
-  first i = openings.newOpening statement n m (challengeLeaf edition n statement root i)
+  first i = openings.newOpening edition statement n m (challengeLeaf edition n statement root i)
 
   abbrev begins : ℕ → Writing
   begins i = writingOf root t i (first i)
@@ -82,7 +82,7 @@ module _ (statement root : List ℕ) (n m t : ℕ) (store : List ℕ) where
     -- an opening with all its labels made, not the last, is followed by the next one
     next-begun :
         (left i leaf made : ℕ) (held file : List ℕ) → 1 ≤ left → i < t → made ≡ anew
-        → followed store left (writtenOf (writingOf root t i (openingOf statement n m leaf made held)) file) .writing ≡ begins (i + 1)
+        → followed store left (writtenOf (writingOf root t i (openings.openingOf edition statement n m leaf made held)) file) .writing ≡ begins (i + 1)
     unfolding followed begun
     next-begun zero i leaf made held file some few done = absurd (omega arith)
     next-begun (suc left) i leaf made held file some few done =
@@ -90,7 +90,7 @@ module _ (statement root : List ℕ) (n m t : ℕ) (store : List ℕ) where
 
     last-label :
         (i leaf made : ℕ) (held file : List ℕ) → i < t → made + 1 ≡ anew
-        → stepped store (writtenOf (writingOf root t i (openingOf statement n m leaf made held)) file) .writing ≡ begins (i + 1)
+        → stepped store (writtenOf (writingOf root t i (openings.openingOf edition statement n m leaf made held)) file) .writing ≡ begins (i + 1)
     unfolding stepped openings.stepped
     last-label i leaf made held file few done = next-begun t i leaf (made + 1) _ _ (omega arith) few done
 
@@ -99,7 +99,7 @@ module _ (statement root : List ℕ) (n m t : ℕ) (store : List ℕ) where
     unfolding machines.steps writingMachine
     labels-made k i file few all =
         let s : Written = writtenOf (begins i) file in
-        let under : steps store k s .writing ≡ writingOf root t i (openingOf statement n m (first i .leaf) (0 + k) _) =
+        let under : steps store k s .writing ≡ writingOf root t i (openings.openingOf edition statement n m (first i .leaf) (0 + k) _) =
         writing-under store s [] k (omega arith) ∙ ap (writingOf root t i) (opening-after store (openOf (first i) []) k) in
         ap (λ (w : Writing). stepped store (writtenOf w (steps store k s .file)) .writing) under
         ∙ last-label i (first i .leaf) (0 + k) _ (steps store k s .file) few (omega arith)
@@ -113,11 +113,11 @@ module _ (statement root : List ℕ) (n m t : ℕ) (store : List ℕ) where
 
     -- opening i + 1 is begun once the i before it are done
     opening-begun :
-        (file : List ℕ) (i : ℕ) → i < t → steps store (i * anew) (newWriting statement root n m t store file) .writing ≡ begins (suc i)
+        (file : List ℕ) (i : ℕ) → i < t → steps store (i * anew) (newWriting edition statement root n m t store file) .writing ≡ begins (suc i)
     unfolding newWriting begun machines.steps
     opening-begun file zero few = rw (zero-mul anew) (ap (λ (s : Written). s .writing) (begun-stays t 1 _))
     opening-begun file (suc i) few =
-        let start : Written = newWriting statement root n m t store file in
+        let start : Written = newWriting edition statement root n m t store file in
         rw (suc-mul i anew, ← steps-add (writingMachine store) anew (i * anew) start)
         (next-opening (suc i) (steps store (i * anew) start) (opening-begun file i (omega arith)) few)
 
@@ -143,7 +143,7 @@ module _ (statement root : List ℕ) (n m t : ℕ) (store : List ℕ) where
 
     module _ (file : List ℕ) where
       abbrev start : Written
-      start = newWriting statement root n m t store file
+      start = newWriting edition statement root n m t store file
 
       -- i whole openings and j labels of the next
       blocks-beyond :

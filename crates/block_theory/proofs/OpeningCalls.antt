@@ -1,11 +1,16 @@
 -- The blocks that an opening's calls report are those of the nodes labelled anew in them, of every opening that a call does not refuse
 -- and whatever the store holds.
 use mathlib.Core.Path.{_≡_, refl, _∙_}
+use mathlib.Core.Bool.{Bool}
 use mathlib.Core.List.{List}
 use Prim.Native.Nat.{ℕ, zero, suc, _+_, _-_, _/_, _^_, _≤_, _<_, min}
 use native.Mathlib.Omega.{arith}
+use lib.Dec.{leb, lit≤}
 use lib.ListN.{length}
-use Rattle.base.specs.Limits.{edition, heldSize, IsDepth, IsMemory}
+use Rattle.base.specs.Limits.{maxEdition, heldSize, IsEdition, IsDepth, IsMemory}
+use Rattle.base.specs.Row.{either}
+use Rattle.base.proofs.RowLaws.{passed}
+use Rattle.base.proofs.Ranges.{range-of, neither}
 use Rattle.machine.specs.Machines as machines
 use Rattle.machine.specs.Machines.{Goes}
 use Rattle.machine.specs.Calls.{total}
@@ -16,6 +21,8 @@ use Rattle.labelling.specs.Step.{nextNode, nextLabel}
 use Rattle.labelling.specs.Blocks.{nodeBlocks}
 use Rattle.labelling.proofs.HeldSize.{held-size}
 use Rattle.labelling.proofs.BlockLaws.{next-blocks}
+use Rattle.run.specs.Rows.{impossible}
+use Rattle.run.proofs.RowLaws.{not-impossible}
 use Rattle.opening_places.specs.Places.{ancestor, front}
 use Rattle.opening_places.proofs.PlaceLaws.{way-inside}
 use Rattle.opening_places.proofs.AboveLaws.{front-length}
@@ -27,7 +34,7 @@ use Rattle.opening.proofs.StepLaws.{anew-few}
 use Rattle.run_theory.specs.Openings.{Openable}
 use Rattle.run_theory.proofs.OpeningCalls.{reopen-fits}
 use Rattle.run_theory.proofs.Anew.{anew-count}
-use Rattle.writing.proofs.OpenLaws.{statement-kept, depth-kept, memory-kept, leaf-kept, made-after, anew-kept, steps-length}
+use Rattle.writing.proofs.OpenLaws.{edition-kept, statement-kept, depth-kept, memory-kept, leaf-kept, made-after, anew-kept, steps-length}
 use Rattle.block_theory.specs.Sums.{blocksSum, nextNodesAnew, reportedBlocksAnew}
 use Rattle.block_theory.proofs.StepSums.{steps-sum, call-sum, calls-sum}
 
@@ -54,7 +61,7 @@ label-blocks store o can few =
     let w : Node = nextNode (n - m) (ancestor n (o .leaf) m) (o .made) in
     rw all at
     (next-blocks (n - m) m (o .leaf / 2 ^ (n - m)) (o .made) (w .level) (w .position) (omega (arith, anew-few n m (o .made) few)) refl
-    (way-inside n (o .leaf) m above (can .position)) edition (o .statement) (front n m (o .leaf) store) (o .held) (can .statementSize)
+    (way-inside n (o .leaf) m above (can .position)) (o .edition) (o .statement) (front n m (o .leaf) store) (o .held) (can .statementSize)
     (omega (arith, can .depth)) (front-length n (o .leaf) m store above (can .position) (can .storeFits) m (omega arith)) (can .placesSize))
 
 -- a step keeps the length of the held labels
@@ -67,8 +74,18 @@ stepped-places store s can few =
     let h : ℕ = o .depth - o .memory in
     let p : ℕ = o .leaf / 2 ^ h in
     held-size h (o .memory) p (o .made) (omega (arith, can .depth, can .memory)) (omega (arith, anew-few (o .depth) (o .memory) (o .made) few))
-    (o .held) (nextLabel edition (o .statement) h (node (o .memory) p) (front (o .depth) (o .memory) (o .leaf) store) (o .held) (o .made))
+    (o .held) (nextLabel (o .edition) (o .statement) h (node (o .memory) p) (front (o .depth) (o .memory) (o .leaf) store) (o .held) (o .made))
     (can .placesSize) (digest-length _)
+
+-- an opening that a call does not refuse has an edition that exists
+edition-exists : (o : Opening) (store out : ℕ) → reopenRow o store out ≡ 0 → IsEdition (o .edition)
+unfolding reopenRow
+edition-exists o store out e =
+    let n : ℕ = o .depth in
+    let cannot : Bool = impossible (o .edition) n (o .memory) (o .made) (nodesAnew n (o .memory)) in
+    let (state, _) = passed (either cannot (leb (2 ^ n) (o .leaf))) 4 _ (lit≤ tt) e in
+    let (can, _) = neither cannot (leb (2 ^ n) (o .leaf)) state in
+    range-of 1 maxEdition (o .edition) (not-impossible (o .edition) n (o .memory) (o .made) (nodesAnew n (o .memory)) can .0)
 
 -- an opening of any bytes with its output, which a call does not refuse
 pub record Reopenable (store : List ℕ) (s : Open) : Type 0 where
@@ -132,10 +149,11 @@ module _ (store : List ℕ) (s : Open) where
     few-made : s .opening .made ≤ nodesAnew n m
     few-made = continue-ready (s .opening) (length store) (length (s .out)) goes .1
 
-    openable : Openable n m (s .opening .leaf) (length store) (length (s .out))
+    openable : Openable (s .opening .edition) n m (s .opening .leaf) (length store) (length (s .out))
     openable =
         let ready = continue-ready (s .opening) (length store) (length (s .out)) goes .0 in
         record {
+          exists = edition-exists (s .opening) (length store) (length (s .out)) goes;
           depth = (ready .possible .some, ready .possible .deep);
           memory = omega (arith, ready .possible .above, ready .possible .kept);
           storeFits = ready .room;
@@ -148,7 +166,7 @@ module _ (store : List ℕ) (s : Open) where
         let size : length (steps store k s .out) ≡ length (s .out) =
         steps-length store s k (omega (arith, few-made)) (openable .depth .0) (openable .outFits) in
         reopen-fits (steps store k s .opening) (length store) (length (steps store k s .out))
-        (rw (depth-kept store s k, memory-kept store s k, leaf-kept store s k, size) openable)
+        (rw (edition-kept store s k, depth-kept store s k, memory-kept store s k, leaf-kept store s k, size) openable)
         (omega (arith, made-after store s k, anew-kept store s k, few-made))
 
     pub goes-on : Goes (openingMachine store) s left

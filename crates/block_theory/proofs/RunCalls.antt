@@ -4,7 +4,7 @@ use mathlib.Core.List.{List, []}
 use Prim.Native.Nat.{ℕ, _+_, _≤_, _<_, min}
 use native.Mathlib.Nat.{zero-add}
 use native.Mathlib.Omega.{arith}
-use Rattle.base.specs.Limits.{edition, maxDepth}
+use Rattle.base.specs.Limits.{maxDepth}
 use Rattle.machine.specs.Calls.{total}
 use Rattle.tree.specs.Nodes.{Node, root, labellingOrder}
 use Rattle.tree.specs.Walk.{nodesIn}
@@ -27,8 +27,8 @@ unfolding stepBlocks
 label-blocks s arrays shallow few =
     let w : Node = nextNode (s .run .depth) root (s .run .made) in
     rw (zero-add (s .run .depth)) at
-    (next-blocks (s .run .depth) 0 0 (s .run .made) (w .level) (w .position) few refl (omega arith) edition (s .run .statement) [] (s .run .held)
-    (arrays .statementSize) (omega arith) (omega (arith, ones-zero)) (arrays .placesSize))
+    (next-blocks (s .run .depth) 0 0 (s .run .made) (w .level) (w .position) few refl (omega arith) (s .run .edition) (s .run .statement) []
+    (s .run .held) (arrays .statementSize) (omega arith) (omega (arith, ones-zero)) (arrays .placesSize))
 
 module _ (s : Stamped) (can : Continuable s) where
   abbrev n : ℕ

@@ -1,6 +1,6 @@
 -- Equal drawings have the same numbers, and so have equal pairs and equal heads.
 use mathlib.Core.Path.{_≡_, ap}
-use Rattle.file_head.specs.Head.{HeadAnswer, headRefusal, headDepth, headCount}
+use Rattle.file_head.specs.Head.{HeadAnswer, headRefusal, headEdition, headDepth, headCount}
 use Rattle.compare.specs.declared.Pair.{Pair}
 use Rattle.draw.specs.Drawing.{DrawingAnswer}
 use Rattle.capi.specs.Answers.{firstOf, secondOf, levelOf, kindOf, refusalOf, countOf}
@@ -20,5 +20,5 @@ same-pair p q same = (ap firstOf same, (ap secondOf same, ap levelOf same))
 pub same-head :
     (g h : HeadAnswer) →
     g ≡ h →
-    (headRefusal g ≡ headRefusal h) × ((headDepth g ≡ headDepth h) × (headCount g ≡ headCount h))
-same-head g h same = (ap headRefusal same, (ap headDepth same, ap headCount same))
+    ((headRefusal g ≡ headRefusal h) × (headEdition g ≡ headEdition h)) × ((headDepth g ≡ headDepth h) × (headCount g ≡ headCount h))
+same-head g h same = ((ap headRefusal same, ap headEdition same), (ap headDepth same, ap headCount same))

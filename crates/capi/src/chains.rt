@@ -1,7 +1,6 @@
 // Chains: planned and drawn, and the comparison of openings.
 ghost use mathlib.Core.Path.{_≡_};
 ghost use lib.ListN.{length};
-ghost use Rattle.base.specs.Limits.{edition};
 ghost use Rattle.base.specs.Bytes.{zeros};
 ghost use Rattle.chain.specs.PlanRow.{planRow, plannedCount, plannedList};
 ghost use Rattle.compare.specs.Comparison.{compareRow, compared, firstInput, secondInput};
@@ -78,15 +77,17 @@ pub struct Compared {
     pub clash: Clash,
 }
 
-// The first pair of openings that disagrees, the smallest level and both inputs there; all zero where no pair does.
+// The first pair of openings that disagrees, the smallest level and both inputs there, as an edition hashes them; all zero where no pair
+// does.
 #[no_mangle]
 pub extern "C" fn mastdock_compare(
+    edition: u64,
     statement: &[u8; 32],
     depth: u64,
     leaves: &[u64],
     openings: &[u8],
 ) -> Compared
-    ensures { λ r. ⌜ r .refusal ≡ compareRow depth (now (leaves .entry)) (length (now (openings .entry))) ⌝ }
+    ensures { λ r. ⌜ r .refusal ≡ compareRow edition depth (now (leaves .entry)) (length (now (openings .entry))) ⌝ }
     ensures { λ r. ⌜ r .clash .i ≡ firstOf (compared edition (now (statement .entry)) depth (now (leaves .entry)) (now (openings .entry))) ⌝ }
     ensures { λ r. ⌜ r .clash .j ≡ secondOf (compared edition (now (statement .entry)) depth (now (leaves .entry)) (now (openings .entry))) ⌝ }
     ensures { λ r. ⌜ r .clash .level ≡ levelOf (compared edition (now (statement .entry)) depth (now (leaves .entry)) (now (openings .entry))) ⌝ }
@@ -98,7 +99,7 @@ pub extern "C" fn mastdock_compare(
         (compared edition (now (statement .entry)) depth (now (leaves .entry)) (now (openings .entry))) ⌝ }
     ensures { λ r. ⌜ r .clash .zero ≡ zeros 6 ⌝ }
 {
-    let c = compare::compare(*statement, depth, leaves, openings);
+    let c = compare::compare(edition, *statement, depth, leaves, openings);
     let outcome = c.outcome;
     let pair = c.pair;
     let first = c.first;

@@ -24,6 +24,7 @@ pub struct OpeningAdvanced {
 // A new opening, with what the store holds of it copied to the output, or the refusal beside an all-zero one.
 #[no_mangle]
 pub extern "C" fn mastdock_opening_start(
+    edition: u64,
     statement: &[u8; 32],
     depth: u64,
     memory: u64,
@@ -31,11 +32,11 @@ pub extern "C" fn mastdock_opening_start(
     store: &[u8],
     out: &mut [u8],
 ) -> OpeningStarted
-    ensures { λ r. ⌜ r .refusal ≡ openRow depth memory leaf (length (now (store .entry))) (length (now (out .entry))) ⌝ }
-    ensures { λ r. ⌜ r .opening ≡ started (now (statement .entry)) depth memory leaf (length (now (store .entry))) (length (now (out .entry))) ⌝ }
-    ensures { λ r. ⌜ now (out .exit) ≡ startedOut depth memory leaf (now (store .entry)) (now (out .entry)) ⌝ }
+    ensures { λ r. ⌜ r .refusal ≡ openRow edition depth memory leaf (length (now (store .entry))) (length (now (out .entry))) ⌝ }
+    ensures { λ r. ⌜ r .opening ≡ started edition (now (statement .entry)) depth memory leaf (length (now (store .entry))) (length (now (out .entry))) ⌝ }
+    ensures { λ r. ⌜ now (out .exit) ≡ startedOut edition depth memory leaf (now (store .entry)) (now (out .entry)) ⌝ }
 {
-    let s = Opening::start(*statement, depth, memory, leaf, store, out);
+    let s = Opening::start(edition, *statement, depth, memory, leaf, store, out);
     let outcome = s.outcome;
     let opening = s.opening;
     OpeningStarted {

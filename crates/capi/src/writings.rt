@@ -24,6 +24,7 @@ pub struct WritingAdvanced {
 // A new writing, with the head and what the store holds of its openings written to the file, or the refusal beside an all-zero one.
 #[no_mangle]
 pub extern "C" fn mastdock_writing_start(
+    edition: u64,
     statement: &[u8; 32],
     root: &[u8; 32],
     depth: u64,
@@ -32,12 +33,22 @@ pub extern "C" fn mastdock_writing_start(
     store: &[u8],
     file: &mut [u8],
 ) -> WritingStarted
-    ensures { λ r. ⌜ r .refusal ≡ writeRow depth memory count (length (now (store .entry))) (length (now (file .entry))) ⌝ }
-    ensures { λ r. ⌜ r .writing ≡ started (now (statement .entry)) (now (root .entry)) depth memory count (now (store .entry)) (now (file .entry)) .writing ⌝ }
+    ensures { λ r. ⌜ r .refusal ≡ writeRow edition depth memory count (length (now (store .entry))) (length (now (file .entry))) ⌝ }
+    ensures { λ r. ⌜ r .writing
+        ≡ started edition (now (statement .entry)) (now (root .entry)) depth memory count (now (store .entry)) (now (file .entry)) .writing ⌝ }
     ensures { λ _. ⌜ now (file .exit)
-        ≡ started (now (statement .entry)) (now (root .entry)) depth memory count (now (store .entry)) (now (file .entry)) .file ⌝ }
+        ≡ started edition (now (statement .entry)) (now (root .entry)) depth memory count (now (store .entry)) (now (file .entry)) .file ⌝ }
 {
-    let s = Writing::start(*statement, *root, depth, memory, count, store, file);
+    let s = Writing::start(
+        edition,
+        *statement,
+        *root,
+        depth,
+        memory,
+        count,
+        store,
+        file,
+    );
     let outcome = s.outcome;
     let writing = s.writing;
     WritingStarted {

@@ -73,10 +73,10 @@ pub challenged : (r : Challenged) {a b : ℕ} → r .refusal ≡ a → r .leaf �
 challenged r pa pb = rw (sym pa, sym pb)
 
 pub head-read :
-    (r : HeadRead) {a b c : ℕ} →
-    r .refusal ≡ a → r .depth ≡ b → r .count ≡ c →
-    r ≡ record { refusal = a; depth = b; count = c }
-head-read r pa pb pc = rw (sym pa, sym pb, sym pc)
+    (r : HeadRead) {a b c d : ℕ} →
+    r .refusal ≡ a → r .edition ≡ b → r .depth ≡ c → r .count ≡ d →
+    r ≡ record { refusal = a; edition = b; depth = c; count = d }
+head-read r pa pb pc pd = rw (sym pa, sym pb, sym pc, sym pd)
 
 pub place : (r : Place) {a b : ℕ} → r .offset ≡ a → r .length ≡ b → r ≡ record { offset = a; length = b }
 place r pa pb = rw (sym pa, sym pb)

@@ -2,7 +2,6 @@
 use Prim.Native.Nat.{ℕ}
 use mathlib.Core.List.{List}
 use lib.ListN.{length}
-use Rattle.base.specs.Limits.{edition}
 use Rattle.base.specs.Bytes.{zeros}
 use Rattle.sha256.specs.declared.Hash.{Hash}
 use Rattle.sha256.specs.Portions.{updateRow, updateState, finishRow, finishBlocks, finishDigest, digestRow, digestBlocks, digestAnswer}
@@ -17,7 +16,7 @@ use Rattle.opening.specs.Names.{openOf}
 use Rattle.opening.specs.Steps as openings
 use Rattle.proof_file.specs.declared.place.Place.{Place}
 use Rattle.file_head.specs.Challenge.{challengeRow, challenged}
-use Rattle.file_head.specs.Head.{headRefusal, headDepth, headCount, headOf, partStart, partLength}
+use Rattle.file_head.specs.Head.{headRefusal, headEdition, headDepth, headCount, headOf, partStart, partLength}
 use Rattle.writing.specs.declared.Writing.{Writing}
 use Rattle.writing.specs.Rows.{writeRow, rewriteRow}
 use Rattle.writing.specs.Possible.{writtenOf}
@@ -85,11 +84,11 @@ abbrev pub runResume : List ℕ → RunStarted
 runResume bytes =
     record { refusal = resumeRow bytes; run = resumed bytes }
 
-abbrev pub openingStart : List ℕ → ℕ → ℕ → ℕ → List ℕ → List ℕ → OpeningStarted
-openingStart statement depth memory leaf store out =
+abbrev pub openingStart : ℕ → List ℕ → ℕ → ℕ → ℕ → List ℕ → List ℕ → OpeningStarted
+openingStart edition statement depth memory leaf store out =
     record {
-      refusal = openRow depth memory leaf (length store) (length out);
-      opening = openings.started statement depth memory leaf (length store) (length out);
+      refusal = openRow edition depth memory leaf (length store) (length out);
+      opening = openings.started edition statement depth memory leaf (length store) (length out);
     }
 
 abbrev pub openingAdvance : Opening → ℕ → List ℕ → List ℕ → OpeningAdvanced
@@ -101,23 +100,28 @@ openingAdvance opening budget store out =
       opening = openings.advanced store (openOf opening out) budget .opening;
     }
 
-abbrev pub challenge : List ℕ → List ℕ → ℕ → ℕ → Challenged
-challenge statement root depth i =
-    record { refusal = challengeRow depth i; leaf = challenged edition depth statement root i }
+abbrev pub challenge : ℕ → List ℕ → List ℕ → ℕ → ℕ → Challenged
+challenge edition statement root depth i =
+    record { refusal = challengeRow edition depth i; leaf = challenged edition depth statement root i }
 
 abbrev pub readHead : List ℕ → HeadRead
 readHead file =
-    record { refusal = headRefusal (headOf file); depth = headDepth (headOf file); count = headCount (headOf file) }
+    record {
+      refusal = headRefusal (headOf file);
+      edition = headEdition (headOf file);
+      depth = headDepth (headOf file);
+      count = headCount (headOf file);
+    }
 
 abbrev pub openingPlace : List ℕ → ℕ → Place
 openingPlace file i =
     record { offset = partStart file i (headOf file); length = partLength file i (headOf file) }
 
-abbrev pub writingStart : List ℕ → List ℕ → ℕ → ℕ → ℕ → List ℕ → List ℕ → WritingStarted
-writingStart statement root depth memory count store file =
+abbrev pub writingStart : ℕ → List ℕ → List ℕ → ℕ → ℕ → ℕ → List ℕ → List ℕ → WritingStarted
+writingStart edition statement root depth memory count store file =
     record {
-      refusal = writeRow depth memory count (length store) (length file);
-      writing = writings.started statement root depth memory count store file .writing;
+      refusal = writeRow edition depth memory count (length store) (length file);
+      writing = writings.started edition statement root depth memory count store file .writing;
     }
 
 abbrev pub writingAdvance : Writing → ℕ → List ℕ → List ℕ → WritingAdvanced
@@ -133,15 +137,16 @@ abbrev pub plan : ℕ → List ℕ → List ℕ → Planned
 plan depth leaves list =
     record { refusal = planRow depth leaves (length list); count = plannedCount depth leaves (length list) }
 
-abbrev pub compareFrom : Pair → List ℕ → ℕ → List ℕ → List ℕ → Compared
-compareFrom pair statement depth leaves openings =
+abbrev pub compareFrom : Pair → ℕ → List ℕ → ℕ → List ℕ → List ℕ → Compared
+compareFrom pair edition statement depth leaves openings =
     record {
-      refusal = compareRow depth leaves (length openings);
+      refusal = compareRow edition depth leaves (length openings);
       clash = clashOf pair (firstInput edition statement depth leaves openings pair) (secondInput edition statement depth leaves openings pair);
     }
 
-abbrev pub compare : List ℕ → ℕ → List ℕ → List ℕ → Compared
-compare statement depth leaves openings = compareFrom (compared edition statement depth leaves openings) statement depth leaves openings
+abbrev pub compare : ℕ → List ℕ → ℕ → List ℕ → List ℕ → Compared
+compare edition statement depth leaves openings =
+    compareFrom (compared edition statement depth leaves openings) edition statement depth leaves openings
 
 abbrev pub drawFrom : DrawingAnswer → List ℕ → List ℕ → ℕ → ℕ → List ℕ → Drawn
 drawFrom drawing file statement depth count list =

@@ -2,7 +2,6 @@
 // there that says less, an answer with a field that none decides, or parameters in another order are refused here.
 ghost use mathlib.Core.Path.{_≡_};
 ghost use lib.ListN.{length};
-ghost use Rattle.base.specs.Limits.{edition};
 ghost use Rattle.sha256.specs.Portions.{newHash};
 ghost use Rattle.run.specs.Steps as runs;
 ghost use Rattle.run_record.specs.Layout.{recordWritten};
@@ -89,6 +88,7 @@ pub fn run_resume(bytes: &[u8]) -> RunStarted
 }
 
 pub fn opening_start(
+    edition: u64,
     statement: &[u8; 32],
     depth: u64,
     memory: u64,
@@ -96,10 +96,10 @@ pub fn opening_start(
     store: &[u8],
     out: &mut [u8],
 ) -> OpeningStarted
-    ensures { λ r. ⌜ r ≡ openingStart (now (statement .entry)) depth memory leaf (now (store .entry)) (now (out .entry)) ⌝ }
-    ensures { λ _. ⌜ now (out .exit) ≡ openings.startedOut depth memory leaf (now (store .entry)) (now (out .entry)) ⌝ }
+    ensures { λ r. ⌜ r ≡ openingStart edition (now (statement .entry)) depth memory leaf (now (store .entry)) (now (out .entry)) ⌝ }
+    ensures { λ _. ⌜ now (out .exit) ≡ openings.startedOut edition depth memory leaf (now (store .entry)) (now (out .entry)) ⌝ }
 {
-    capi::mastdock_opening_start(statement, depth, memory, leaf, store, out)
+    capi::mastdock_opening_start(edition, statement, depth, memory, leaf, store, out)
 }
 
 pub fn opening_advance(
@@ -114,23 +114,30 @@ pub fn opening_advance(
     capi::mastdock_opening_advance(opening, budget, store, out)
 }
 
-pub fn challenge(statement: &[u8; 32], root: &[u8; 32], depth: u64, i: u64) -> Challenged
-    ensures { λ r. ⌜ r ≡ challenge (now (statement .entry)) (now (root .entry)) depth i ⌝ }
+pub fn challenge(
+    edition: u64,
+    statement: &[u8; 32],
+    root: &[u8; 32],
+    depth: u64,
+    i: u64,
+) -> Challenged
+    ensures { λ r. ⌜ r ≡ challenge edition (now (statement .entry)) (now (root .entry)) depth i ⌝ }
 {
-    capi::mastdock_challenge(statement, root, depth, i)
+    capi::mastdock_challenge(edition, statement, root, depth, i)
 }
 
 pub fn write_head(
+    edition: u64,
     statement: &[u8; 32],
     root: &[u8; 32],
     depth: u64,
     count: u64,
     file: &mut [u8],
 ) -> u64
-    ensures { λ r. ⌜ r ≡ headRow depth count (length (now (file .entry))) ⌝ }
+    ensures { λ r. ⌜ r ≡ headRow edition depth count (length (now (file .entry))) ⌝ }
     ensures { λ _. ⌜ now (file .exit) ≡ headWritten edition (now (statement .entry)) (now (root .entry)) depth count (now (file .entry)) ⌝ }
 {
-    capi::mastdock_write_head(statement, root, depth, count, file)
+    capi::mastdock_write_head(edition, statement, root, depth, count, file)
 }
 
 pub fn read_head(file: &[u8]) -> HeadRead
@@ -146,6 +153,7 @@ pub fn opening_place(file: &[u8], i: u64) -> Place
 }
 
 pub fn check_opening(
+    edition: u64,
     statement: &[u8; 32],
     root: &[u8; 32],
     depth: u64,
@@ -154,7 +162,7 @@ pub fn check_opening(
 ) -> u64
     ensures { λ r. ⌜ r ≡ openingRow edition (now (statement .entry)) depth leaf (now (root .entry)) (now (opening .entry)) ⌝ }
 {
-    capi::mastdock_check_opening(statement, root, depth, leaf, opening)
+    capi::mastdock_check_opening(edition, statement, root, depth, leaf, opening)
 }
 
 pub fn check_file(file: &[u8], statement: &[u8; 32], depth: u64, count: u64) -> u64
@@ -164,6 +172,7 @@ pub fn check_file(file: &[u8], statement: &[u8; 32], depth: u64, count: u64) -> 
 }
 
 pub fn writing_start(
+    edition: u64,
     statement: &[u8; 32],
     root: &[u8; 32],
     depth: u64,
@@ -172,12 +181,12 @@ pub fn writing_start(
     store: &[u8],
     file: &mut [u8],
 ) -> WritingStarted
-    ensures { λ r. ⌜ r ≡ writingStart (now (statement .entry)) (now (root .entry)) depth memory count (now (store .entry)) (now (file .entry)) ⌝ }
+    ensures { λ r. ⌜ r ≡ writingStart edition (now (statement .entry)) (now (root .entry)) depth memory count (now (store .entry)) (now (file .entry)) ⌝ }
     ensures { λ _. ⌜ now (file .exit)
-        ≡ writings.started (now (statement .entry)) (now (root .entry)) depth memory count (now (store .entry))
+        ≡ writings.started edition (now (statement .entry)) (now (root .entry)) depth memory count (now (store .entry))
         (now (file .entry)) .file ⌝ }
 {
-    capi::mastdock_writing_start(statement, root, depth, memory, count, store, file)
+    capi::mastdock_writing_start(edition, statement, root, depth, memory, count, store, file)
 }
 
 pub fn writing_advance(
@@ -199,10 +208,16 @@ pub fn plan(depth: u64, leaves: &[u64], list: &mut [u64]) -> Planned
     capi::mastdock_plan(depth, leaves, list)
 }
 
-pub fn compare(statement: &[u8; 32], depth: u64, leaves: &[u64], openings: &[u8]) -> Compared
-    ensures { λ r. ⌜ r ≡ compare (now (statement .entry)) depth (now (leaves .entry)) (now (openings .entry)) ⌝ }
+pub fn compare(
+    edition: u64,
+    statement: &[u8; 32],
+    depth: u64,
+    leaves: &[u64],
+    openings: &[u8],
+) -> Compared
+    ensures { λ r. ⌜ r ≡ compare edition (now (statement .entry)) depth (now (leaves .entry)) (now (openings .entry)) ⌝ }
 {
-    capi::mastdock_compare(statement, depth, leaves, openings)
+    capi::mastdock_compare(edition, statement, depth, leaves, openings)
 }
 
 pub fn draw(file: &[u8], statement: &[u8; 32], depth: u64, count: u64, list: &mut [u64]) -> Drawn

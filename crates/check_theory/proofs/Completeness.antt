@@ -1,18 +1,17 @@
 -- A proof is accepted.
-use mathlib.Core.Path.{_≡_, refl}
+use mathlib.Core.Path.{_≡_, refl, ap}
 use Prim.Native.Nat.{ℕ, _+_, _-_, _≤_, _<_}
 use native.Mathlib.Omega.{arith}
 use mathlib.Core.List.{List}
 use lib.ListN.{length}
 use borrow.Author.Tests.{le-ltb, eq-eqb}
 use Rattle.base.specs.Bytes.{joined}
-use Rattle.base.specs.Limits as limits
 use Rattle.base.proofs.ListsLaws.{test-same, tells-bytes}
 use Rattle.tree.specs.Disagreement.{Given32}
 use Rattle.tree.specs.Openings.{openingSize}
 use Rattle.file_head.specs.Challenge.{challengeLeaf}
 use Rattle.file_head.specs.Layout.{headNumbers, file}
-use Rattle.file_head.specs.Head.{numbers, headOf, lengthFrom, statementAt, rootAt, openingAt}
+use Rattle.file_head.specs.Head.{numbers, headEdition, headOf, lengthFrom, statementAt, rootAt, openingAt}
 use Rattle.opening_check.specs.OpeningCheck.{givenBy}
 use Rattle.opening_check.proofs.OneOpening.{given-labels}
 use Rattle.proof_file.specs.FileCheck.{openingsFrom, fileRest, fileCheck}
@@ -23,9 +22,9 @@ use Rattle.check_theory.proofs.Reading.{head-back, statement-back, root
 use Rattle.check_theory.proofs.Openings.{rowOf, rows-accepted}
 
 rest-accepted :
-    (bytes statement : List ℕ) (n t at : ℕ) → length bytes ≡ lengthFrom n t at → statementAt bytes at ≡ statement
-    → openingsFrom limits.edition bytes n at 1 t ≡ 0 → fileRest bytes statement n t (numbers n t at) ≡ 0
-rest-accepted bytes statement n t at size same openings =
+    (edition : ℕ) (bytes statement : List ℕ) (n t at : ℕ) → length bytes ≡ lengthFrom n t at → statementAt bytes at ≡ statement
+    → openingsFrom edition bytes n at 1 t ≡ 0 → fileRest bytes statement n t (numbers edition n t at) ≡ 0
+rest-accepted edition bytes statement n t at size same openings =
     rw (
       le-ltb (length bytes) (lengthFrom n t at) (omega arith),
       le-ltb (lengthFrom n t at) (length bytes) (omega arith),
@@ -81,17 +80,18 @@ module _ (edition : ℕ) (bytes statement : List ℕ) (n t : ℕ) (p : IsProof e
       (openingAt bytes n (length (headNumbers edition n t)) i)
       (file-right i positive (omega arith)))
 
--- the edition that is checked
-module _ (bytes statement : List ℕ) (n t : ℕ) (p : IsProof limits.edition bytes statement n t) where
-  pub file-head : headOf bytes ≡ numbers n t (length (headNumbers limits.edition n t))
+  pub file-head : headOf bytes ≡ numbers edition n t (length (headNumbers edition n t))
   unfolding file
-  file-head = rw (p .isFile) (head-back statement (p .root) n t (p .depth) (p .count) (joined (p .openings)))
+  file-head = rw (p .isFile) (head-back edition statement (p .root) n t (p .exists) (p .depth) (p .count) (joined (p .openings)))
+
+  -- the head says the proof's edition
+  pub file-edition : headEdition (headOf bytes) ≡ edition
+  file-edition = ap headEdition file-head
 
   -- 'and always if they do and the rest is as document 01 says'
   pub proof-accepted : fileCheck bytes statement n t ≡ 0
   unfolding fileCheck
   proof-accepted =
       rw file-head
-      (rest-accepted bytes statement n t (length (headNumbers limits.edition n t)) (file-size limits.edition bytes statement n t p)
-      (file-statement limits.edition bytes statement n t p)
-      (rows-accepted limits.edition bytes n (length (headNumbers limits.edition n t)) 1 t (file-row limits.edition bytes statement n t p)))
+      (rest-accepted edition bytes statement n t (length (headNumbers edition n t)) file-size file-statement
+      (rows-accepted edition bytes n (length (headNumbers edition n t)) 1 t file-row))

@@ -7,8 +7,7 @@ use mathlib.Core.List.{List, [], _++_, append-assoc}
 use lib.ListN.{length, length-append}
 use lib.Seq.{take-at, drop-at, drop-append-add}
 use Rattle.base.specs.Bytes.{joined}
-use Rattle.base.specs.Limits.{maxDepth, maxChallenges, IsDepth, IsCount}
-use Rattle.base.specs.Limits as limits
+use Rattle.base.specs.Limits.{maxEdition, maxDepth, maxChallenges, IsEdition, IsDepth, IsCount}
 use Rattle.base.specs.Lists.{EachOf}
 use Rattle.base.proofs.BytesLaws.{length-joined, joined-at}
 use Rattle.groups.specs.Groups.{groups, numberGroups}
@@ -23,41 +22,50 @@ use Rattle.check_theory.specs.Heads.{IsHead, SameHead}
 use Rattle.base.proofs.Ranges.{within}
 
 -- ---- the numbers
-module _ (n t : ℕ) (depth : IsDepth n) (count : IsCount t) (rest : List ℕ) where
-  edition-back : readAt (headNumbers limits.edition n t ++ rest) 0 numberGroups ≡ value limits.edition (length (groups numberGroups limits.edition))
+module _ (edition n t : ℕ) (exists : IsEdition edition) (depth : IsDepth n) (count : IsCount t) (rest : List ℕ) where
+  edition-back : readAt (headNumbers edition n t ++ rest) 0 numberGroups ≡ value edition (length (groups numberGroups edition))
   unfolding headNumbers
   edition-back =
       simp append-assoc
       (simp (append-assoc, zero-add) at
-      (read-written 2 2 1 [] (groups 2 n ++ groups 2 t ++ rest) (omega arith) (omega arith) (omega arith) (omega arith)))
+      (read-written 2 2 edition [] (groups 2 n ++ groups 2 t ++ rest) (omega arith) (omega arith) (omega arith) (omega arith)))
 
   depth-back :
-      readAt (headNumbers limits.edition n t ++ rest) (length (groups numberGroups limits.edition)) numberGroups ≡
-      value n (length (groups numberGroups limits.edition) + length (groups numberGroups n))
+      readAt (headNumbers edition n t ++ rest) (length (groups numberGroups edition)) numberGroups ≡
+      value n (length (groups numberGroups edition) + length (groups numberGroups n))
   unfolding headNumbers
   depth-back =
       simp append-assoc
-      (simp append-assoc at (read-written 2 2 n (groups 2 1) (groups 2 t ++ rest) (omega arith) (omega arith) (omega arith) (omega arith)))
+      (simp append-assoc at (read-written 2 2 n (groups 2 edition) (groups 2 t ++ rest) (omega arith) (omega arith) (omega arith) (omega arith)))
 
   count-back :
-      readAt (headNumbers limits.edition n t ++ rest) (length (groups numberGroups limits.edition) + length (groups numberGroups n)) numberGroups ≡
-      value t (length (headNumbers limits.edition n t))
+      readAt (headNumbers edition n t ++ rest) (length (groups numberGroups edition) + length (groups numberGroups n)) numberGroups ≡
+      value t (length (headNumbers edition n t))
   unfolding headNumbers
   count-back =
       simp (append-assoc, length-append)
       (simp (append-assoc, length-append, add-assoc) at
-      (read-written 2 2 t (groups 2 1 ++ groups 2 n) rest (omega arith) (omega arith) (omega arith) (omega arith)))
+      (read-written 2 2 t (groups 2 edition ++ groups 2 n) rest (omega arith) (omega arith) (omega arith) (omega arith)))
 
-  numbers-back : headOf (headNumbers limits.edition n t ++ rest) ≡ numbers n t (length (headNumbers limits.edition n t))
+  numbers-back : headOf (headNumbers edition n t ++ rest) ≡ numbers edition n t (length (headNumbers edition n t))
   unfolding headOf
-  numbers-back = rw (edition-back, depth-back, within 1 maxDepth n depth, count-back, within 1 maxChallenges t count)
+  numbers-back =
+      rw (
+        edition-back,
+        within 1 maxEdition edition exists,
+        depth-back,
+        within 1 maxDepth n depth,
+        count-back,
+        within 1 maxChallenges t count,
+      )
 
 -- with the place after them, whatever follows
 pub head-back :
-    (statement root : List ℕ) (n t : ℕ) → IsDepth n → IsCount t → (rest : List ℕ)
-    → headOf (head limits.edition statement root n t ++ rest) ≡ numbers n t (length (headNumbers limits.edition n t))
+    (edition : ℕ) (statement root : List ℕ) (n t : ℕ) → IsEdition edition → IsDepth n → IsCount t → (rest : List ℕ)
+    → headOf (head edition statement root n t ++ rest) ≡ numbers edition n t (length (headNumbers edition n t))
 unfolding head
-head-back statement root n t depth count rest = simp append-assoc (numbers-back n t depth count (statement ++ (root ++ rest)))
+head-back edition statement root n t exists depth count rest =
+    simp append-assoc (numbers-back edition n t exists depth count (statement ++ (root ++ rest)))
 
 -- ---- statement, root and openings
 module _ (edition : ℕ) (statement root : List ℕ) (n t : ℕ) (statementSize : length statement ≡ 32) (rootSize : length root ≡ 32) where
@@ -105,35 +113,38 @@ module _ (edition : ℕ) (statement root : List ℕ) (n t : ℕ) (statementSize 
 
 -- ---- no two heads have the same bytes
 module _
+    (edition : ℕ)
     (statement root : List ℕ)
-    (n t : ℕ)
+    (n t edition′ : ℕ)
     (statement′ root′ : List ℕ)
     (n′ t′ : ℕ)
-    (h : IsHead statement root n t)
-    (h′ : IsHead statement′ root′ n′ t′)
+    (h : IsHead edition statement root n t)
+    (h′ : IsHead edition′ statement′ root′ n′ t′)
   where
     -- whatever follows them
     pub same-heads :
-        (rest rest′ : List ℕ) → head limits.edition statement root n t ++ rest ≡ head limits.edition statement′ root′ n′ t′ ++ rest′
-        → SameHead statement root n t statement′ root′ n′ t′
+        (rest rest′ : List ℕ) → head edition statement root n t ++ rest ≡ head edition′ statement′ root′ n′ t′ ++ rest′
+        → SameHead edition statement root n t edition′ statement′ root′ n′ t′
     same-heads rest rest′ e =
-        let same-numbers : numbers n t (length (headNumbers limits.edition n t)) ≡ numbers n′ t′ (length (headNumbers limits.edition n′ t′)) =
-        sym (head-back statement root n t (h .depth) (h .count) rest)
+        let same-numbers :
+        numbers edition n t (length (headNumbers edition n t)) ≡ numbers edition′ n′ t′ (length (headNumbers edition′ n′ t′)) =
+        sym (head-back edition statement root n t (h .exists) (h .depth) (h .count) rest)
         ∙ ap headOf e
-        ∙ head-back statement′ root′ n′ t′ (h′ .depth) (h′ .count) rest′ in
-        let place : length (headNumbers limits.edition n t) ≡ length (headNumbers limits.edition n′ t′) = cc in
+        ∙ head-back edition′ statement′ root′ n′ t′ (h′ .exists) (h′ .depth) (h′ .count) rest′ in
+        let place : length (headNumbers edition n t) ≡ length (headNumbers edition′ n′ t′) = cc in
         record {
+          editions = cc;
           statements =
-              sym (statement-back limits.edition statement root n t (h .statementSize) (h .rootSize) rest)
-              ∙ rw (e, place) (statement-back limits.edition statement′ root′ n′ t′ (h′ .statementSize) (h′ .rootSize) rest′);
+              sym (statement-back edition statement root n t (h .statementSize) (h .rootSize) rest)
+              ∙ rw (e, place) (statement-back edition′ statement′ root′ n′ t′ (h′ .statementSize) (h′ .rootSize) rest′);
           roots =
-              sym (root-back limits.edition statement root n t (h .statementSize) (h .rootSize) rest)
-              ∙ rw (e, place) (root-back limits.edition statement′ root′ n′ t′ (h′ .statementSize) (h′ .rootSize) rest′);
+              sym (root-back edition statement root n t (h .statementSize) (h .rootSize) rest)
+              ∙ rw (e, place) (root-back edition′ statement′ root′ n′ t′ (h′ .statementSize) (h′ .rootSize) rest′);
           depths = cc;
           counts = cc;
         }
 
     pub one-head :
-        head limits.edition statement root n t ≡ head limits.edition statement′ root′ n′ t′
-        → SameHead statement root n t statement′ root′ n′ t′
+        head edition statement root n t ≡ head edition′ statement′ root′ n′ t′
+        → SameHead edition statement root n t edition′ statement′ root′ n′ t′
     one-head e = same-heads [] [] (ap (λ (l : List ℕ). l ++ []) e)

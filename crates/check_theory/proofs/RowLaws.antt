@@ -8,11 +8,11 @@ use lib.Dec.{ltb, leb}
 use lib.ListN.{length}
 use borrow.Author.Tests.{leb-false, lt-leb, ltb-false, le-ltb, not-false}
 use Rattle.base.specs.Lists.{sameBytes}
-use Rattle.base.specs.Limits.{maxDepth}
+use Rattle.base.specs.Limits.{maxEdition, maxDepth}
 use Rattle.base.proofs.ListsLaws.{test-same, tells-bytes}
 use Rattle.base.proofs.RowLaws.{NoneHolds, none-holds}
 use Rattle.base.proofs.Ranges.{within, range-of}
-use Rattle.base.specs.Row.{outside}
+use Rattle.base.specs.Row.{outside, noEdition}
 use Rattle.tree.specs.Openings.{LeafRight, RootRight, openingSize}
 use Rattle.labelling.specs.Rule.{stampRule}
 use Rattle.opening_check.specs.OpeningCheck.{givenBy, leafWrong, rootWrong, rightRow, openingRow}
@@ -56,6 +56,7 @@ module _ (edition : ℕ) (statement : List ℕ) (n leaf : ℕ) (root bytes : Lis
   unfolding openingRow
   opening-done alone =
       rw (
+        within 1 maxEdition edition (alone .exists),
         within 1 maxDepth n (alone .depth),
         lt-leb (2 ^ n) leaf (alone .position),
         le-ltb (length bytes) (openingSize n) (omega (arith, alone .size)),
@@ -68,7 +69,8 @@ module _ (edition : ℕ) (statement : List ℕ) (n leaf : ℕ) (root bytes : Lis
   unfolding openingRow
   done-opening e =
       let row : List (Bool × ℕ) =
-      (outside 1 maxDepth n, 1)
+      (noEdition edition, 12)
+      ∷ (outside 1 maxDepth n, 1)
       ∷ (leb (2 ^ n) leaf, 6)
       ∷ (ltb (length bytes) (openingSize n), 10)
       ∷ (ltb (openingSize n) (length bytes), 13)
@@ -76,11 +78,12 @@ module _ (edition : ℕ) (statement : List ℕ) (n leaf : ℕ) (root bytes : Lis
       ∷ (rootWrong (stampRule edition n statement) n leaf bytes root, 15)
       ∷ [] in
       let none : NoneHolds row = none-holds row refl e in
-      let enough : openingSize n ≤ length bytes = ltb-false (length bytes) (openingSize n) (none .1 .1 .0) in
-      let no-more : length bytes ≤ openingSize n = ltb-false (openingSize n) (length bytes) (none .1 .1 .1 .0) in
+      let enough : openingSize n ≤ length bytes = ltb-false (length bytes) (openingSize n) (none .1 .1 .1 .0) in
+      let no-more : length bytes ≤ openingSize n = ltb-false (openingSize n) (length bytes) (none .1 .1 .1 .1 .0) in
       record {
-        depth = range-of 1 maxDepth n (none .0);
-        position = leb-false (2 ^ n) leaf (none .1 .0);
+        exists = range-of 1 maxEdition edition (none .0);
+        depth = range-of 1 maxDepth n (none .1 .0);
+        position = leb-false (2 ^ n) leaf (none .1 .1 .0);
         size = omega arith;
-        right = passes-right (none .1 .1 .1 .1 .0) (none .1 .1 .1 .1 .1 .0);
+        right = passes-right (none .1 .1 .1 .1 .1 .0) (none .1 .1 .1 .1 .1 .1 .0);
       }

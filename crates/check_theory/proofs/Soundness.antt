@@ -9,12 +9,11 @@ use lib.ListN.{length, drop, getD, length-append, length-drop, take-append-drop}
 use lib.Seq.{drop-drop, length-take-le}
 use borrow.Author.Tests.{ltb-false, eqb-true, not-false}
 use Rattle.base.specs.Choice.{both}
-use Rattle.base.specs.Limits.{maxDepth, maxChallenges, IsDepth, IsCount}
-use Rattle.base.specs.Limits as limits
+use Rattle.base.specs.Limits.{maxEdition, maxDepth, maxChallenges, IsEdition, IsDepth, IsCount}
 use Rattle.base.specs.Lists.{EachOf, sameBytes}
 use Rattle.base.proofs.ChoiceLaws.{both-first, both-second}
 use Rattle.base.proofs.ListsLaws.{tells-bytes}
-use Rattle.base.specs.Row.{outside, otherEdition}
+use Rattle.base.specs.Row.{outside, noEdition}
 use Rattle.tree.specs.Labels.{cut}
 use Rattle.tree.proofs.Cut.{length-cut, cut-sizes, joined-cut}
 use Rattle.groups.specs.Groups.{groups, numberGroups}
@@ -23,7 +22,7 @@ use Rattle.groups.proofs.ShortestOnly.{Shortest, only-shortest}
 use Rattle.tree.specs.Openings.{openingSize}
 use Rattle.file_head.specs.Challenge.{challengeLeaf}
 use Rattle.file_head.specs.Layout.{headNumbers, head, file}
-use Rattle.file_head.specs.Head.{HeadAnswer, numbers, notRead, headOf, lengthFrom, statementAt, rootAt, openingAt}
+use Rattle.file_head.specs.Head.{HeadAnswer, numbers, notRead, headEdition, headOf, lengthFrom, statementAt, rootAt, openingAt}
 use Rattle.proof_file.specs.FileCheck.{foundIn, openingsFrom, wanted, fileRest, fileCheck}
 use Rattle.file_head.proofs.HeadLaws.{passed, head-number}
 use Rattle.check_theory.specs.IsProof.{OpeningRight, nth, IsProof}
@@ -36,12 +35,13 @@ use Rattle.check_theory.proofs.Openings.{rowOf, accepted-rows}
 
 -- ---- the head
 numbers-of :
-    (edition : ℕ) (bytes : List ℕ) (n t a b c : ℕ) → IsDepth n → IsCount t
+    (edition : ℕ) (bytes : List ℕ) (n t a b c : ℕ) → IsEdition edition → IsDepth n → IsCount t
     → Shortest bytes 0 numberGroups edition a → Shortest bytes a numberGroups n b → Shortest bytes b numberGroups t c →
     NumbersRead edition bytes n t c
 unfolding headNumbers
-numbers-of edition bytes n t a b c depth count s₁ s₂ s₃ =
+numbers-of edition bytes n t a b c exists depth count s₁ s₂ s₃ =
     record {
+      exists = exists;
       depth = depth;
       count = count;
       ends = simp length-append (omega (arith, s₁ .ends, s₂ .ends, s₃ .ends));
@@ -52,25 +52,26 @@ numbers-of edition bytes n t a b c depth count s₁ s₂ s₃ =
     }
 
 same-read :
-    (edition : ℕ) (bytes : List ℕ) (n t at n′ t′ at′ : ℕ) → n ≡ n′ → t ≡ t′ → at ≡ at′ → NumbersRead edition bytes n t at
-    → NumbersRead edition bytes n′ t′ at′
-same-read edition bytes n t at n′ t′ at′ p q r read = rw (p, q, r) at read
+    (bytes : List ℕ) (edition n t at edition′ n′ t′ at′ : ℕ) → edition ≡ edition′ → n ≡ n′ → t ≡ t′ → at ≡ at′
+    → NumbersRead edition bytes n t at → NumbersRead edition′ bytes n′ t′ at′
+same-read bytes edition n t at edition′ n′ t′ at′ o p q r read = rw (o, p, q, r) at read
 
 -- what is read as a head's numbers is their shortest form
 pub numbers-read :
-    (bytes : List ℕ) (n t at : ℕ) → ((j : ℕ) → getD bytes j 0 < 256) → headOf bytes ≡ numbers n t at → NumbersRead limits.edition bytes n t at
+    (bytes : List ℕ) (edition n t at : ℕ) → ((j : ℕ) → getD bytes j 0 < 256) → headOf bytes ≡ numbers edition n t at
+    → NumbersRead edition bytes n t at
 unfolding headOf
-numbers-read bytes n t at small e =
-    let p₁ = passed (readAt bytes 0 numberGroups) otherEdition 12 _ n t at e in
-    let p₂ = passed (readAt bytes (p₁ .end) numberGroups) (outside 1 maxDepth) 1 _ n t at (p₁ .after) in
-    let p₃ = passed (readAt bytes (p₂ .end) numberGroups) (outside 1 maxChallenges) 8 _ n t at (p₂ .after) in
-    let one : p₁ .x ≡ limits.edition = eqb-true (p₁ .x) limits.edition (not-false (eqb (p₁ .x) limits.edition) (p₁ .good)) in
+numbers-read bytes edition n t at small e =
+    let p₁ = passed (readAt bytes 0 numberGroups) noEdition 12 _ edition n t at e in
+    let p₂ = passed (readAt bytes (p₁ .end) numberGroups) (outside 1 maxDepth) 1 _ edition n t at (p₁ .after) in
+    let p₃ = passed (readAt bytes (p₂ .end) numberGroups) (outside 1 maxChallenges) 8 _ edition n t at (p₂ .after) in
     let last = p₃ .after in
-    same-read limits.edition bytes (p₂ .x) (p₃ .x) (p₃ .end) n t at (cc) (cc) (cc)
-    (numbers-of limits.edition bytes (p₂ .x) (p₃ .x) (p₁ .end) (p₂ .end) (p₃ .end)
+    same-read bytes (p₁ .x) (p₂ .x) (p₃ .x) (p₃ .end) edition n t at (cc) (cc) (cc) (cc)
+    (numbers-of (p₁ .x) bytes (p₂ .x) (p₃ .x) (p₁ .end) (p₂ .end) (p₃ .end)
+    (range-of 1 maxEdition (p₁ .x) (p₁ .good))
     (range-of 1 maxDepth (p₂ .x) (p₂ .good))
     (range-of 1 maxChallenges (p₃ .x) (p₃ .good))
-    (rw one at (only-shortest bytes 0 numberGroups (p₁ .x) (p₁ .end) small (p₁ .read)))
+    (only-shortest bytes 0 numberGroups (p₁ .x) (p₁ .end) small (p₁ .read))
     (only-shortest bytes (p₁ .end) numberGroups (p₂ .x) (p₂ .end) small (p₂ .read))
     (only-shortest bytes (p₂ .end) numberGroups (p₃ .x) (p₃ .end) small (p₃ .read)))
 
@@ -131,6 +132,7 @@ module _ (edition : ℕ) (bytes : List ℕ) (n t at : ℕ) (read : NumbersRead e
   proof-of : openingsFrom edition bytes n at 1 t ≡ 0 → IsProof edition bytes (statementAt bytes at) n t
   proof-of e =
       record {
+        exists = read .exists;
         depth = read .depth;
         count = read .count;
         root = rootAt bytes at;
@@ -149,9 +151,9 @@ not-accepted number some e = omega arith
 
 module _ (bytes statement : List ℕ) (n t : ℕ) (small : (j : ℕ) → getD bytes j 0 < 256) where
   from-numbers :
-      (n′ t′ at : ℕ) → headOf bytes ≡ numbers n′ t′ at → fileRest bytes statement n t (numbers n′ t′ at) ≡ 0
-      → IsProof limits.edition bytes statement n t
-  from-numbers n′ t′ at h e =
+      (edition n′ t′ at : ℕ) → headOf bytes ≡ numbers edition n′ t′ at → fileRest bytes statement n t (numbers edition n′ t′ at) ≡ 0
+      → IsProof edition bytes statement n t
+  from-numbers edition n′ t′ at h e =
       let p₁ = second-picked (ltb (length bytes) (lengthFrom n′ t′ at)) (foundIn 0 10) _ 0 (not-accepted 10 (omega arith)) e in
       let p₂ = second-picked (ltb (lengthFrom n′ t′ at) (length bytes)) (foundIn 0 13) _ 0 (not-accepted 13 (omega arith)) (p₁ .1) in
       let p₃ = second-picked (not (wanted (statementAt bytes at) n′ t′ statement n t)) (foundIn 0 9) _ 0 (not-accepted 9 (omega arith)) (p₂ .1) in
@@ -159,11 +161,11 @@ module _ (bytes statement : List ℕ) (n t : ℕ) (small : (j : ℕ) → getD by
       let no-more : length bytes ≤ lengthFrom n′ t′ at = ltb-false (lengthFrom n′ t′ at) (length bytes) (p₂ .0) in
       let w : wanted (statementAt bytes at) n′ t′ statement n t ≡ true = not-false (wanted (statementAt bytes at) n′ t′ statement n t) (p₃ .0) in
       as-wanted (statementAt bytes at) n′ t′ w
-      (proof-of limits.edition bytes n′ t′ at (numbers-read bytes n′ t′ at small h) (omega arith) (p₃ .1))
+      (proof-of edition bytes n′ t′ at (numbers-read bytes edition n′ t′ at small h) (omega arith) (p₃ .1))
     where
       as-wanted :
-          (s : List ℕ) (n′ t′ : ℕ) → wanted s n′ t′ statement n t ≡ true → IsProof limits.edition bytes s n′ t′
-          → IsProof limits.edition bytes statement n t
+          (s : List ℕ) (n′ t′ : ℕ) → wanted s n′ t′ statement n t ≡ true → IsProof edition bytes s n′ t′
+          → IsProof edition bytes statement n t
       as-wanted s n′ t′ w p =
           let same : sameBytes s statement ≡ true = both-first (sameBytes s statement) (both (eqb n′ n) (eqb t′ t)) w in
           let numbers : both (eqb n′ n) (eqb t′ t) ≡ true = both-second (sameBytes s statement) (both (eqb n′ n) (eqb t′ t)) w in
@@ -172,11 +174,11 @@ module _ (bytes statement : List ℕ) (n t : ℕ) (small : (j : ℕ) → getD by
           let e₃ : t′ ≡ t = eqb-true t′ t (both-second (eqb n′ n) (eqb t′ t) numbers) in
           rw (e₁, e₂, e₃) at p
 
-  from-head : (h : HeadAnswer) → headOf bytes ≡ h → fileRest bytes statement n t h ≡ 0 → IsProof limits.edition bytes statement n t
-  from-head (numbers n′ t′ at) h e = from-numbers n′ t′ at h e
+  from-head : (h : HeadAnswer) → headOf bytes ≡ h → fileRest bytes statement n t h ≡ 0 → IsProof (headEdition h) bytes statement n t
+  from-head (numbers edition n′ t′ at) h e = from-numbers edition n′ t′ at h e
   from-head (notRead r) h e = absurd (not-accepted r (head-number bytes r h) e)
 
-  -- 'a file is accepted only if all its openings obey the paper'
-  pub accepted-proof : fileCheck bytes statement n t ≡ 0 → IsProof limits.edition bytes statement n t
+  -- 'a file is accepted only if all its openings obey the paper', by the rule of the edition that its head says
+  pub accepted-proof : fileCheck bytes statement n t ≡ 0 → IsProof (headEdition (headOf bytes)) bytes statement n t
   unfolding fileCheck
   accepted-proof e = from-head (headOf bytes) refl e

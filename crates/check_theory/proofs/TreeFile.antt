@@ -8,10 +8,9 @@ use mathlib.Core.List.{List, [], _++_, map, append-nil}
 use mathlib.Core.Logic.{⊎-elim}
 use lib.ListN.{length, getD, length-append, length-map, List·getD-append}
 use lib.Seq.{getD-at}
-use Rattle.base.specs.Limits.{IsDepth, IsCount}
+use Rattle.base.specs.Limits.{IsEdition, IsDepth, IsCount}
 use Rattle.base.specs.Bytes.{joined}
 use Rattle.base.specs.Lists.{EachOf}
-use Rattle.base.specs.Limits as limits
 use Rattle.base.proofs.BytesLaws.{length-joined, joined-append, joined-at}
 use Rattle.tree.specs.Nodes.{root}
 use Rattle.tree.specs.Labels.{label}
@@ -133,10 +132,12 @@ module _ (edition : ℕ) (statement : List ℕ) (n : ℕ) where
   root-size : length (rootOf edition statement n) ≡ 32
   root-size = label-length (stampRule edition n statement) n (stamp-hash edition n statement) root (omega arith)
 
-  pub tree-proof : (t : ℕ) → length statement ≡ 32 → IsDepth n → IsCount t → IsProof edition (treeFile edition statement n t) statement n t
+  pub tree-proof : (t : ℕ) → IsEdition edition → length statement ≡ 32 → IsDepth n → IsCount t
+      → IsProof edition (treeFile edition statement n t) statement n t
   unfolding treeFile
-  tree-proof t size depth count =
+  tree-proof t exists size depth count =
       record {
+        exists = exists;
         depth = depth;
         count = count;
         root = rootOf edition statement n;
@@ -155,8 +156,7 @@ module _ (edition : ℕ) (statement : List ℕ) (n : ℕ) where
       file-size-is edition statement (rootOf edition statement n) n t size root-size (treeOpenings edition statement n t)
       (openings-count t) (openings-size t) small
 
--- the edition that is checked
-pub tree-accepted : (statement : List ℕ) (n t : ℕ) → length statement ≡ 32 → IsDepth n → IsCount t
-    → fileCheck (treeFile limits.edition statement n t) statement n t ≡ 0
-tree-accepted statement n t size depth count =
-    proof-accepted (treeFile limits.edition statement n t) statement n t (tree-proof limits.edition statement n t size depth count)
+  pub tree-accepted : (t : ℕ) → IsEdition edition → length statement ≡ 32 → IsDepth n → IsCount t
+      → fileCheck (treeFile edition statement n t) statement n t ≡ 0
+  tree-accepted t exists size depth count =
+      proof-accepted edition (treeFile edition statement n t) statement n t (tree-proof t exists size depth count)

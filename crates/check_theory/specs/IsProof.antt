@@ -3,7 +3,7 @@ use mathlib.Core.Path.{_≡_}
 use Prim.Native.Nat.{ℕ, _-_, _^_, _≤_, _<_}
 use mathlib.Core.List.{List, []}
 use lib.ListN.{length, getD}
-use Rattle.base.specs.Limits.{IsDepth, IsCount}
+use Rattle.base.specs.Limits.{IsEdition, IsDepth, IsCount}
 use Rattle.base.specs.Lists.{EachOf}
 use Rattle.tree.specs.Openings.{Right, openingSize}
 use Rattle.labelling.specs.Rule.{stampRule}
@@ -17,6 +17,7 @@ OpeningRight edition statement n leaf root bytes = Right (stampRule edition n st
 
 -- an opening checked alone is accepted
 pub record RightAlone (edition : ℕ) (statement : List ℕ) (n leaf : ℕ) (root bytes : List ℕ) : Type 0 where
+  pub exists : IsEdition edition
   pub depth : IsDepth n
   pub position : leaf < 2 ^ n
   pub size : length bytes ≡ openingSize n
@@ -26,9 +27,10 @@ pub record RightAlone (edition : ℕ) (statement : List ℕ) (n leaf : ℕ) (roo
 abbrev pub nth : List (List ℕ) → ℕ → List ℕ
 nth openings i = getD openings (i - 1) []
 
--- A proof of an edition, of depth n with t challenges for a statement: the bytes are the file over a root and t openings, of which each is
+-- A proof of an edition that exists, of depth n with t challenges for a statement: the bytes are the file over a root and t openings, of which each is
 -- right at the leaf that its challenge picks.
 pub record IsProof (edition : ℕ) (bytes statement : List ℕ) (n t : ℕ) : Type 0 where
+  pub exists : IsEdition edition
   pub depth : IsDepth n
   pub count : IsCount t
   pub root : List ℕ

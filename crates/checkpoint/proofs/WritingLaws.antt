@@ -34,7 +34,7 @@ hashed out all before hash after end e size few h a =
     a ∙ rw is (written-next out all (digest all) before end e size)
 
 -- the record in a room of its own
-pub record-laid : (run : Run) (room after : List ℕ) (size : ℕ) → noSuchRun (run .depth) (run .memory) (run .made) ≡ false
+pub record-laid : (run : Run) (room after : List ℕ) (size : ℕ) → noSuchRun (run .edition) (run .depth) (run .memory) (run .made) ≡ false
     → length (recordOf run) ≤ length room → size ≡ recordSize run (length room) → after ≡ recordWritten run room
     → (size ≡ length (recordOf run)) × (take size after ≡ recordOf run)
 unfolding recordRow recordSize recordWritten
@@ -53,11 +53,11 @@ parts-are run t store head laid nodes size e f g h = rw (e, f, g, h)
 
 -- ---- 4; 3; 8; 7
 module _ (run : Run) (t store out : ℕ) where
-  pub no-such-run : noSuchRun (run .depth) (run .memory) (run .made) ≡ true → 4 ≡ checkpointRow run t store out
+  pub no-such-run : noSuchRun (run .edition) (run .depth) (run .memory) (run .made) ≡ true → 4 ≡ checkpointRow run t store out
   unfolding checkpointRow
   no-such-run e = rw e
 
-  module _ (possible : noSuchRun (run .depth) (run .memory) (run .made) ≡ false) where
+  module _ (possible : noSuchRun (run .edition) (run .depth) (run .memory) (run .made) ≡ false) where
     pub short-store : ltb store (storeSize (run .memory)) ≡ true → 3 ≡ checkpointRow run t store out
     unfolding checkpointRow
     short-store e = rw (possible, e)

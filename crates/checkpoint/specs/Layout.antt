@@ -40,7 +40,7 @@ sizeOf m size = headSize + storeSize m + size + 32
 unfoldable pub checkpointRow : Run → ℕ → ℕ → ℕ → ℕ
 checkpointRow run t store out =
     firstOf
-    ((noSuchRun (run .depth) (run .memory) (run .made), 4)
+    ((noSuchRun (run .edition) (run .depth) (run .memory) (run .made), 4)
     ∷ (ltb store (storeSize (run .memory)), 3)
     ∷ (outside 1 maxChallenges t, 8)
     ∷ (ltb out (sizeOf (run .memory) (length (recordOf run))), 7)

@@ -71,7 +71,7 @@ fn is_other_run(run: Run, depth: u64, memory: u64) -> bool
 fn nothing(fault: Fault) -> Found
     ensures { λ r. ⌜ (faultNumber (r .fault) ≡ faultNumber fault) × (r .count ≡ 0) × (r .size ≡ 0) × (r .run ≡ noRun) ⌝ }
 {
-    let run = new_run([0u8; 32], 0, 0);
+    let run = new_run(0, [0u8; 32], 0, 0);
     Found {
         fault,
         count: 0,

@@ -69,7 +69,7 @@ pub fn write_checkpoint(run: Run, count: u64, store: &[u8], out: &mut [u8]) -> C
     ensures { λ r. ⌜ r .size ≡ checkpointSize run count (length (now (store .entry))) (length (now (out .entry))) ⌝ }
     ensures { λ _. ⌜ now (out .exit) ≡ checkpointWritten run count (now (store .entry)) (now (out .entry)) ⌝ }
 {
-    if not_possible(run.depth, run.memory, run.made) {
+    if not_possible(run.edition, run.depth, run.memory, run.made) {
         return refused(Refusal::State);
     }
     if store_short(run.memory, store.len()) {

@@ -11,7 +11,7 @@ use borrow.Author.Tests.{le-leb, lt-leb}
 use lib.ListN.{length, take, drop, length-append, length-drop}
 use lib.Seq.{take-append-le, drop-append-le}
 use Rattle.base.specs.Choice.{pick}
-use Rattle.base.specs.Limits.{edition, maxDepth, maxChallenges, IsCount}
+use Rattle.base.specs.Limits.{maxDepth, maxChallenges, IsCount}
 use Rattle.base.specs.Bytes.{joined}
 use Rattle.base.specs.Row.{outside, either}
 use Rattle.base.proofs.BytesLaws.{joined-at}
@@ -36,31 +36,31 @@ use Rattle.checkpoint_theory.specs.OnTheWay.{OnTheWay, onDisk}
 use Rattle.checkpoint_theory.proofs.Resuming.{resumed-on-the-way}
 
 -- ---- each opening that is taken is right
-module _ (statement root : List ℕ) (n : ℕ) (bytes : List ℕ) where
-  taken-by : (t : Bool) (done i rest : ℕ) → isRight statement root n bytes (done + 1) ≡ t → done < i → i ≤ done + pick t (suc rest) 0
-      → (done + 1 < i → i ≤ done + 1 + rest → isRight statement root n bytes i ≡ true) → isRight statement root n bytes i ≡ true
+module _ (edition : ℕ) (statement root : List ℕ) (n : ℕ) (bytes : List ℕ) where
+  taken-by : (t : Bool) (done i rest : ℕ) → isRight edition statement root n bytes (done + 1) ≡ t → done < i → i ≤ done + pick t (suc rest) 0
+      → (done + 1 < i → i ≤ done + 1 + rest → isRight edition statement root n bytes i ≡ true) → isRight edition statement root n bytes i ≡ true
   taken-by true done i rest here low high later =
       ⊎-elim (λ (more : done + 1 < i). later more (omega arith))
       (λ (first : i ≤ done + 1). let same : i ≡ done + 1 = omega arith in rw same here) (lt-or-le (done + 1) i)
   taken-by false done i rest here low high later = absurd (omega arith)
 
-  after-right : (done left i : ℕ) → done < i → i ≤ done + rightAfter statement root n bytes done left → isRight statement root n bytes i ≡ true
+  after-right : (done left i : ℕ) → done < i → i ≤ done + rightAfter edition statement root n bytes done left → isRight edition statement root n bytes i ≡ true
   unfolding rightAfter
   after-right done zero i low high = absurd (omega arith)
   after-right done (suc left) i low high =
-      taken-by (isRight statement root n bytes (done + 1)) done i (rightAfter statement root n bytes (done + 1) left) refl low high
+      taken-by (isRight edition statement root n bytes (done + 1)) done i (rightAfter edition statement root n bytes (done + 1) left) refl low high
       (after-right (done + 1) left i)
 
-  by-range : (t : Bool) (i count : ℕ) → 1 ≤ i → i ≤ pick t 0 (rightAfter statement root n bytes 0 count) → isRight statement root n bytes i ≡ true
+  by-range : (t : Bool) (i count : ℕ) → 1 ≤ i → i ≤ pick t 0 (rightAfter edition statement root n bytes 0 count) → isRight edition statement root n bytes i ≡ true
   by-range true i count low high = absurd (omega arith)
   by-range false i count low high = after-right 0 count i low (omega arith)
 
-  pub any-openings-right : (t i : ℕ) → 1 ≤ i → i ≤ openingsTaken statement root n t bytes → isRight statement root n bytes i ≡ true
+  pub any-openings-right : (t i : ℕ) → 1 ≤ i → i ≤ openingsTaken edition statement root n t bytes → isRight edition statement root n bytes i ≡ true
   unfolding openingsTaken
   any-openings-right t i = by-range (either (outside 1 maxDepth n) (outside 1 maxChallenges t)) i t
 
 -- ---- the tree's own openings are taken, and one that was cut off is not
-module _ (statement : List ℕ) (n q : ℕ) (shallow : n ≤ maxDepth) (cut : List ℕ) (short : length cut < openingSize n) where
+module _ (edition : ℕ) (statement : List ℕ) (n q : ℕ) (shallow : n ≤ maxDepth) (cut : List ℕ) (short : length cut < openingSize n) where
   abbrev laid : List ℕ
   laid = joined (treeOpenings edition statement n q) ++ cut
 
@@ -91,7 +91,7 @@ module _ (statement : List ℕ) (n q : ℕ) (shallow : n ≤ maxDepth) (cut : Li
       ∙ openings-at edition statement n q (i - 1) (omega arith)
       ∙ ap (challengedOpening edition statement n) number
 
-  right-in : (i : ℕ) → 1 ≤ i → i ≤ q → isRight statement root n laid i ≡ true
+  right-in : (i : ℕ) → 1 ≤ i → i ≤ q → isRight edition statement root n laid i ≡ true
   right-in i some few =
       let leaf : ℕ = challengeLeaf edition n statement root i in
       let whole : i * openingSize n ≤ length laid =
@@ -103,12 +103,12 @@ module _ (statement : List ℕ) (n q : ℕ) (shallow : n ≤ maxDepth) (cut : Li
             (opening-right edition statement n leaf (challengeLeaf-small edition n statement root i (omega arith))),
       )
 
-  cut-off : isRight statement root n laid (q + 1) ≡ false
+  cut-off : isRight edition statement root n laid (q + 1) ≡ false
   cut-off = rw (lt-leb ((q + 1) * openingSize n) (length laid) (omega (arith, laid-size)))
 
   -- from any number of openings on
   count-by : (done rest : ℕ) → done ≤ q → (done < q → done + 1 + rest ≡ q)
-      → done + pick (isRight statement root n laid (done + 1)) (suc rest) 0 ≡ q
+      → done + pick (isRight edition statement root n laid (done + 1)) (suc rest) 0 ≡ q
   count-by done rest few later =
       ⊎-elim
       (λ (before : done < q).
@@ -116,44 +116,44 @@ module _ (statement : List ℕ) (n q : ℕ) (shallow : n ≤ maxDepth) (cut : Li
       (λ (all : q ≤ done). let same : done ≡ q = omega arith in rw (same, cut-off) (add-zero q))
       (lt-or-le done q)
 
-  all-after : (done left : ℕ) → done ≤ q → q ≤ done + left → done + rightAfter statement root n laid done left ≡ q
+  all-after : (done left : ℕ) → done ≤ q → q ≤ done + left → done + rightAfter edition statement root n laid done left ≡ q
   unfolding rightAfter
   all-after done zero few enough = omega arith
   all-after done (suc left) few enough =
-      count-by done (rightAfter statement root n laid (done + 1) left) few
+      count-by done (rightAfter edition statement root n laid (done + 1) left) few
       (λ (before : done < q). all-after (done + 1) left (omega arith) (omega arith))
 
-  openings-taken : (t : ℕ) → 1 ≤ n → IsCount t → q ≤ t → openingsTaken statement root n t laid ≡ q
+  openings-taken : (t : ℕ) → 1 ≤ n → IsCount t → q ≤ t → openingsTaken edition statement root n t laid ≡ q
   unfolding openingsTaken
   openings-taken t some count few =
       rw (within 1 maxDepth n (some, shallow), within 1 maxChallenges t count)
-      (sym (zero-add (rightAfter statement root n laid 0 t)) ∙ all-after 0 t (omega arith) (omega arith))
+      (sym (zero-add (rightAfter edition statement root n laid 0 t)) ∙ all-after 0 t (omega arith) (omega arith))
 
 -- of a run that has made all labels: its first place holds the root's
 module _ (run : Run) (store : List ℕ) (way : OnTheWay run store) (all : run .made ≡ nodesIn (run .depth)) where
-  root-held : take 32 (run .held) ≡ rootOf edition (run .statement) (run .depth)
+  root-held : take 32 (run .held) ≡ rootOf (run .edition) (run .statement) (run .depth)
   root-held =
       let n : ℕ = run .depth in
       ap (λ (s : Stamped). take 32 (s .run .held)) (way .reached)
-      ∙ ap (λ (k : ℕ). take 32 (steps k (atStart (run .statement) n (run .memory) (way .first)) .run .held)) all
-      ∙ finished-root (run .statement) n (run .memory) (way .first) (levels-fit n (run .memory) (length (way .first)) (way .startable))
+      ∙ ap (λ (k : ℕ). take 32 (steps k (atStart (run .edition) (run .statement) n (run .memory) (way .first)) .run .held)) all
+      ∙ finished-root (run .edition) (run .statement) n (run .memory) (way .first) (levels-fit (run .edition) n (run .memory) (length (way .first)) (way .startable))
 
   pub openings-back : (t q : ℕ) → IsCount t → q ≤ t → (cut : List ℕ) → length cut < openingSize (run .depth)
-      → openingsTaken (run .statement) (take 32 (run .held)) (run .depth) t
-      (joined (treeOpenings edition (run .statement) (run .depth) q) ++ cut)
+      → openingsTaken (run .edition) (run .statement) (take 32 (run .held)) (run .depth) t
+      (joined (treeOpenings (run .edition) (run .statement) (run .depth) q) ++ cut)
       ≡ q
   openings-back t q count few cut short =
       rw root-held
-      (openings-taken (run .statement) (run .depth) q (way .startable .shallow) cut short t (way .startable .positive) count few)
+      (openings-taken (run .edition) (run .statement) (run .depth) q (way .startable .shallow) cut short t (way .startable .positive) count few)
 
   -- and so behind its checkpoint on the disk
   pub disk-back : (t q : ℕ) → IsCount t → q ≤ t → (cut : List ℕ) → length cut < openingSize (run .depth)
       → (bytes : List ℕ) → bytes ≡ onDisk run t store q ++ cut
-      → openingsTaken (runFound bytes .statement) (take 32 (runFound bytes .held)) (runFound bytes .depth) (countFound bytes)
+      → openingsTaken (runFound bytes .edition) (runFound bytes .statement) (take 32 (runFound bytes .held)) (runFound bytes .depth) (countFound bytes)
       (drop (sizeFound bytes) bytes)
       ≡ q
   disk-back t q count few cut short bytes is =
-      let behind : List ℕ = joined (treeOpenings edition (run .statement) (run .depth) q) ++ cut in
+      let behind : List ℕ = joined (treeOpenings (run .edition) (run .statement) (run .depth) q) ++ cut in
       let parts : bytes ≡ checkpointOf run t store ++ behind = is ∙ append-assoc (checkpointOf run t store) _ cut in
       let back = resumed-on-the-way run store way t count behind in
       rw (parts, back .runBack, back .countBack, back .moreBack) (openings-back t q count few cut short)

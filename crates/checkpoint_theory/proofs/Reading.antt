@@ -122,12 +122,12 @@ module _ (bytes : List ℕ) (whole : faultOf bytes ≡ 0) where
 -- ---- the run can be, whatever the bytes
 pub record CanBe (run : Run) : Type 0 where
   pub arrays : HasArrays run
-  pub possible : noSuchRun (run .depth) (run .memory) (run .made) ≡ false
+  pub possible : noSuchRun (run .edition) (run .depth) (run .memory) (run .made) ≡ false
 
-from-numbers : (bytes : List ℕ) (n m made at : ℕ) → restRow n m made at (length bytes) ≡ 0 → CanBe (runFrom bytes n m made at)
+from-numbers : (bytes : List ℕ) (e n m made at : ℕ) → restRow e n m made at (length bytes) ≡ 0 → CanBe (runFrom bytes e n m made at)
 unfolding restRow runFrom
-from-numbers bytes n m made at e =
-    let f : Fits n m made at (length bytes) = fits n m made at (length bytes) e in
+from-numbers bytes e n m made at row =
+    let f : Fits e n m made at (length bytes) = fits e n m made at (length bytes) row in
     let labels : length (drop (at + 32) bytes) ≡ heldLength n made = rw length-drop (omega (arith, f .size)) in
     record {
       arrays =
@@ -137,12 +137,12 @@ from-numbers bytes n m made at e =
                 rw (length-append, length-replicate, labels)
                 (omega (arith, held-fits n made (f .possible .depth) (f .possible .made-few)));
           };
-      possible = passed (noSuchRun n m made) 4 _ (lit≤ tt) e .0;
+      possible = passed (noSuchRun e n m made) 4 _ (lit≤ tt) row .0;
     }
 
 by-answer : (bytes : List ℕ) (answer : NumbersAnswer) → numbersOf bytes ≡ answer → rowAfter (length bytes) answer ≡ 0
     → CanBe (runRead bytes answer)
-by-answer bytes (numbers n m made at) is e = from-numbers bytes n m made at e
+by-answer bytes (numbers e n m made at) is row = from-numbers bytes e n m made at row
 by-answer bytes (notRead r) is e = absurd (omega (arith, refusal-number bytes r is))
 
 resumed-can-be : (bytes : List ℕ) → resumeRow bytes ≡ 0 → CanBe (resumed bytes)
@@ -164,7 +164,7 @@ module _ (bytes : List ℕ) (whole : faultOf bytes ≡ 0) where
   pub found-arrays : HasArrays (runFound bytes)
   found-arrays = can-be .arrays
 
-  pub found-possible : noSuchRun (runFound bytes .depth) (runFound bytes .memory) (runFound bytes .made) ≡ false
+  pub found-possible : noSuchRun (runFound bytes .edition) (runFound bytes .depth) (runFound bytes .memory) (runFound bytes .made) ≡ false
   found-possible = can-be .possible
 
   pub found-order : FoundOrder bytes

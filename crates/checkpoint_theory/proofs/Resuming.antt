@@ -7,7 +7,7 @@ use native.Mathlib.Omega.{arith}
 use borrow.Author.Tests.{ltb-false}
 use lib.ListN.{length, take, drop, length-append}
 use lib.Seq.{take-at, drop-at, drop-drop, take-all}
-use Rattle.base.specs.Limits.{edition, maxDepth, maxMemory, IsCount}
+use Rattle.base.specs.Limits.{maxDepth, maxMemory, IsCount}
 use Rattle.base.proofs.Ranges.{range-of}
 use Rattle.sha256.specs.Digest.{digest}
 use Rattle.sha256.proofs.Digests.{digest-length}
@@ -110,7 +110,7 @@ module _ (run : Run) (t : ℕ) (store more : List ℕ) (whole : length store ≡
       (take-at (digest (covered run t store)) more 32 (digest-length (covered run t store)))
 
   -- ---- it is read back
-  module _ (arrays : HasArrays run) (can : noSuchRun (run .depth) (run .memory) (run .made) ≡ false) (count : IsCount t) where
+  module _ (arrays : HasArrays run) (can : noSuchRun (run .edition) (run .depth) (run .memory) (run .made) ≡ false) (count : IsCount t) where
     record-read : (resumeRow (recordOf run) ≡ 0) × (resumed (recordOf run) ≡ tidied run)
     record-read = record-back run arrays can
 
@@ -120,7 +120,7 @@ module _ (run : Run) (t : ℕ) (store more : List ℕ) (whole : length store ≡
     is-read : Read bytes
     unfolding tidied
     is-read =
-        let (d, o, l) = not-impossible (run .depth) (run .memory) (run .made) (nodesIn (run .depth)) can in
+        let (x, d, o, l) = not-impossible (run .edition) (run .depth) (run .memory) (run .made) (nodesIn (run .depth)) can in
         record {
           headed = omega (arith, long-enough);
           marked = marked;
@@ -149,13 +149,13 @@ module _ (run : Run) (t : ℕ) (store more : List ℕ) (whole : length store ≡
         }
 
 -- ---- a start and calls give runs on their way
-module _ (statement : List ℕ) (n m : ℕ) (first : List ℕ) (startable : Startable n m (length first)) (size : length statement ≡ 32)
-    (whole : length first ≡ storeSize m) where
+module _ (edition : ℕ) (statement : List ℕ) (n m : ℕ) (first : List ℕ) (startable : Startable edition n m (length first))
+    (size : length statement ≡ 32) (whole : length first ≡ storeSize m) where
   pub reached-on-the-way : (k : ℕ) → k ≤ nodesIn n
-      → OnTheWay (steps k (atStart statement n m first) .run) (steps k (atStart statement n m first) .store)
+      → OnTheWay (steps k (atStart edition statement n m first) .run) (steps k (atStart edition statement n m first) .store)
   reached-on-the-way k few =
-      let here : steps k (atStart statement n m first) ≡ reachedAt edition statement n m first k =
-      run-reached statement n m first (startable .shallow) k few in
+      let here : steps k (atStart edition statement n m first) ≡ reachedAt edition statement n m first k =
+      run-reached edition statement n m first (startable .shallow) k few in
       rw here
       (record {
         first = first;
@@ -169,15 +169,15 @@ module _ (statement : List ℕ) (n m : ℕ) (first : List ℕ) (startable : Star
 -- a call leaves it on its way
 module _ (run : Run) (store : List ℕ) (way : OnTheWay run store) where
   abbrev start : Stamped
-  start = atStart (run .statement) (run .depth) (run .memory) (way .first)
+  start = atStart (run .edition) (run .statement) (run .depth) (run .memory) (way .first)
 
   first-whole : length (way .first) ≡ storeSize (run .memory)
   first-whole =
       let n : ℕ = run .depth in
       let same : steps (run .made) start .store ≡ store = sym (ap (λ (s : Stamped). s .store) (way .reached)) in
-      let there : steps (run .made) start .store ≡ storeAfter edition (run .statement) n (run .memory) (run .made) (way .first) =
-      ap (λ (s : Stamped). s .store) (run-reached (run .statement) n (run .memory) (way .first) (way .startable .shallow) (run .made) (way .few)) in
-      sym (store-length edition (run .statement) n (run .memory) (way .first) (way .startable .enough) (run .made) (way .few))
+      let there : steps (run .made) start .store ≡ storeAfter (run .edition) (run .statement) n (run .memory) (run .made) (way .first) =
+      ap (λ (s : Stamped). s .store) (run-reached (run .edition) (run .statement) n (run .memory) (way .first) (way .startable .shallow) (run .made) (way .few)) in
+      sym (store-length (run .edition) (run .statement) n (run .memory) (way .first) (way .startable .enough) (run .made) (way .few))
       ∙ ap length (sym there ∙ same)
       ∙ way .whole
 
@@ -187,9 +187,9 @@ module _ (run : Run) (store : List ℕ) (way : OnTheWay run store) where
       let k : ℕ = run .made + min budget (nodesIn n - run .made) in
       let after : advanced (stamped run store) budget ≡ steps k start =
       ap (λ (s : Stamped). advanced s budget) (way .reached)
-      ∙ advanced-reached (run .statement) n (run .memory) (way .first) (way .startable) (run .made) budget (way .few) in
+      ∙ advanced-reached (run .edition) (run .statement) n (run .memory) (way .first) (way .startable) (run .made) budget (way .few) in
       subst (λ (s : Stamped). OnTheWay (s .run) (s .store)) (sym after)
-      (reached-on-the-way (run .statement) n (run .memory) (way .first) (way .startable) (way .statementSize) first-whole k
+      (reached-on-the-way (run .edition) (run .statement) n (run .memory) (way .first) (way .startable) (way .statementSize) first-whole k
       (omega (arith, way .few)))
 
 -- ---- a run on its way is read back as it was
@@ -197,14 +197,14 @@ module _ (run : Run) (store : List ℕ) (way : OnTheWay run store) where
   pub way-continuable : Continuable (stamped run store)
   way-continuable =
       subst (λ (s : Stamped). Continuable s) (sym (way .reached))
-      (reached-continuable (run .statement) (run .depth) (run .memory) (way .first) (way .startable) (way .statementSize) (run .made) (way .few))
+      (reached-continuable (run .edition) (run .statement) (run .depth) (run .memory) (way .first) (way .startable) (way .statementSize) (run .made) (way .few))
 
   way-tidy : tidied run ≡ run
   way-tidy =
-      let same : run ≡ steps (run .made) (atStart (run .statement) (run .depth) (run .memory) (way .first)) .run =
+      let same : run ≡ steps (run .made) (atStart (run .edition) (run .statement) (run .depth) (run .memory) (way .first)) .run =
       ap (λ (s : Stamped). s .run) (way .reached) in
       ap tidied same
-      ∙ reached-tidy (run .statement) (run .depth) (run .memory) (way .first) (way .startable) (way .statementSize) (run .made) (way .few)
+      ∙ reached-tidy (run .edition) (run .statement) (run .depth) (run .memory) (way .first) (way .startable) (way .statementSize) (run .made) (way .few)
       ∙ sym same
 
   module _ (t : ℕ) (count : IsCount t) (more : List ℕ) where

@@ -2,6 +2,7 @@
 use crate::Ordered;
 use crate::UNTRIED;
 use base::MAX_CHALLENGES;
+use base::NEW_EDITION;
 use base::beyond;
 use lines::add;
 use lines::add_line;
@@ -37,7 +38,7 @@ pub fn tell_usage(out: i32, err: i32) -> u8 {
 
 // Prints the program's version, and the edition of the proofs that it writes.
 pub fn tell_version(out: i32, err: i32) -> u8 {
-    status_of(say_text(out, b"mastdock 0.9 (edition 1)\n"), err)
+    status_of(say_text(out, b"mastdock 0.9 (edition 2)\n"), err)
 }
 
 // Prints one line for a problem with the words, or the usage where there is none.
@@ -93,7 +94,7 @@ fn say_anew(memory: u64, anew: u64, tree: u64, err: i32) {
 
 // Tells of a memory level at which the openings make more labels anew than the tree has.
 pub fn note_anew(ordered: Ordered, err: i32) {
-    if not_possible(ordered.depth, ordered.memory, 0) {
+    if not_possible(NEW_EDITION, ordered.depth, ordered.memory, 0) {
         return;
     }
     if beyond(MAX_CHALLENGES, ordered.count) {

@@ -8,6 +8,7 @@ use crate::resume::resume;
 use crate::sealed::seal_from;
 use base::MAX_FILE;
 use base::MAX_STORE;
+use base::NEW_EDITION;
 use checkpoint::MAX_CHECKPOINT;
 use files::Holding;
 use files::There;
@@ -33,9 +34,9 @@ pub fn empty_store() -> [u8; MAX_STORE] {
     [0u8; MAX_STORE]
 }
 
-// A seal from its start.
+// A seal from its start, of the edition of new runs.
 fn seal_anew(statement: [u8; 32], ordered: Ordered, proof: &[u8], out: i32, err: i32) -> u8 {
-    let run = new_run(statement, ordered.depth, ordered.memory);
+    let run = new_run(NEW_EDITION, statement, ordered.depth, ordered.memory);
     let mut store = empty_store();
     let mut file = empty_file();
     seal_from(

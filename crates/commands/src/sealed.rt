@@ -2,7 +2,7 @@
 ghost use mathlib.Core.Path.{_≡_};
 ghost use Prim.Native.Nat.{_+_, _≤_};
 ghost use lib.ListN.{length};
-ghost use Rattle.base.specs.Limits.{maxChallenges, edition, IsDepth, IsMemory, IsCount};
+ghost use Rattle.base.specs.Limits.{maxChallenges, IsDepth, IsMemory, IsCount};
 ghost use Rattle.tree.specs.Walk.{nodesIn};
 ghost use Rattle.file_head.specs.Layout.{fileSize};
 ghost use Rattle.run.specs.Rows.{continueRow};
@@ -48,12 +48,12 @@ pub struct Facts {
 // Labels and blocks are counted from the order, not added up, so that a seal which was resumed has those of one never stopped.
 fn facts_of(run: Run, root: [u8; 32], count: u64) -> Facts
     requires { ⌜ IsDepth (run .depth) × IsMemory (run .depth) (run .memory) × (count ≤ maxChallenges) ⌝ }
-    ensures { λ r. ⌜ r .blocks ≡ sealBlocks edition (run .statement) root (run .depth) (run .memory) count ⌝ }
+    ensures { λ r. ⌜ r .blocks ≡ sealBlocks (run .edition) (run .statement) root (run .depth) (run .memory) count ⌝ }
     ensures { λ r. ⌜ r .hashes ≡ nodesIn (run .depth) + labelsAnew (run .depth) (run .memory) count ⌝ }
     ensures { λ r. ⌜ (r .statement ≡ run .statement) × (r .root ≡ root) × (r .depth ≡ run .depth) × (r .count ≡ count) ⌝ }
 {
     let statement = run.statement;
-    let blocks = seal_blocks(statement, root, run.depth, run.memory, count);
+    let blocks = seal_blocks(run.edition, statement, root, run.depth, run.memory, count);
     let hashes = all_labels(run.depth, run.memory, count);
     Facts {
         statement,
@@ -95,7 +95,7 @@ fn say_facts(facts: Facts, out: i32, err: i32) -> u8 {
 // its last byte, where the count takes two).
 fn take_part(run: Run, count: u64, size: usize, file: &mut [u8], proof: &[u8], err: i32) -> i32 {
     let statement = run.statement;
-    write_head(statement, [0u8; 32], run.depth, count, file);
+    write_head(run.edition, statement, [0u8; 32], run.depth, count, file);
     if file.len() < 35 {
         return -1;
     }
@@ -180,7 +180,7 @@ pub fn seal_from(
     err: i32,
 ) -> u8 {
     let count = ordered.count;
-    if not_possible(run.depth, run.memory, run.made) {
+    if not_possible(run.edition, run.depth, run.memory, run.made) {
         return not_carried(proof, err);
     }
     if beyond(MAX_CHALLENGES, count) {

@@ -6,7 +6,7 @@ use lib.Dec.{ltb}
 use lib.ListN.{length, take, drop}
 use Rattle.base.specs.Choice.{pick}
 use Rattle.base.specs.Bytes.{zeros}
-use Rattle.base.specs.Row.{firstOf, isDone}
+use Rattle.base.specs.Row.{firstOf, noEdition, isDone}
 use Rattle.tree.specs.Labels.{Rule}
 use Rattle.tree.specs.Openings.{Given, inputAt, openingSize}
 use Rattle.tree.specs.Disagreement.{wayNode, disagreeAt}
@@ -49,11 +49,11 @@ secondInput edition statement n leaves openings (Disagree i j l) = inputOf editi
 abbrev pub sizeChecks : ℕ → List ℕ → ℕ → List (Bool × ℕ)
 sizeChecks n leaves size = (ltb size (length leaves * openingSize n), 10) ∷ (ltb (length leaves * openingSize n) size, 13) ∷ []
 
--- The comparison's checks, of which document 01 has no row: 1; 8: not 1..200 leaves; 6; 10; 13.
-unfoldable pub compareRow : ℕ → List ℕ → ℕ → ℕ
-compareRow n leaves size = firstOf (leavesChecks 1 n leaves ++ sizeChecks n leaves size)
+-- The comparison's checks, of which document 01 has no row: 12 (W-206); 1; 8: not 1..200 leaves; 6; 10; 13.
+unfoldable pub compareRow : ℕ → ℕ → List ℕ → ℕ → ℕ
+compareRow edition n leaves size = firstOf ((noEdition edition, 12) ∷ leavesChecks 1 n leaves ++ sizeChecks n leaves size)
 
 -- what is answered: no pair where it is refused
 unfoldable pub compared : ℕ → List ℕ → ℕ → List ℕ → List ℕ → Pair
 compared edition statement n leaves openings =
-    pick (isDone (compareRow n leaves (length openings))) (firstDisagreement edition statement n leaves openings) Agree
+    pick (isDone (compareRow edition n leaves (length openings))) (firstDisagreement edition statement n leaves openings) Agree

@@ -1,7 +1,6 @@
 // The comparison: the checks, then the table, then the first pair.
 ghost use mathlib.Core.Path.{_≡_};
 ghost use lib.ListN.{length};
-ghost use Rattle.base.specs.Limits.{edition};
 ghost use Rattle.base.specs.Bytes.{zeros};
 ghost use Rattle.base.specs.Number.{outcomeNumber};
 ghost use Rattle.compare.specs.declared.Pair.the-variants.{Agree};
@@ -12,15 +11,19 @@ use crate::inputs::input_at;
 use crate::pairs::first_pair;
 use crate::table::empty_table;
 use crate::table::fill_table;
-use base::EDITION;
+use base::MAX_EDITION;
 use base::Outcome;
 use base::Refusal;
+use base::beyond;
 use chain::check_leaves;
 
-// The checks: those of planning, but at least one leaf; then the size.
-fn check(depth: u64, leaves: &[u64], size: usize) -> Outcome
-    ensures { λ r. ⌜ outcomeNumber r ≡ compareRow depth (now (leaves .entry)) size ⌝ }
+// The checks: the edition; then those of planning, but at least one leaf; then the size.
+fn check(edition: u64, depth: u64, leaves: &[u64], size: usize) -> Outcome
+    ensures { λ r. ⌜ outcomeNumber r ≡ compareRow edition depth (now (leaves .entry)) size ⌝ }
 {
+    if beyond(MAX_EDITION, edition) {
+        return Outcome::Refused(Refusal::Edition);
+    }
     let checked = check_leaves(1, depth, leaves);
     match checked {
         Outcome::Refused(why) => return Outcome::Refused(why),
@@ -58,7 +61,7 @@ fn compare_all(
     leaves: &[u64],
     openings: &[u8],
 ) -> Compared
-    requires { ⌜ compareRow depth (now leaves) (length (now openings)) ≡ 0 ⌝ }
+    requires { ⌜ compareRow edition depth (now leaves) (length (now openings)) ≡ 0 ⌝ }
     ensures { λ r. ⌜ outcomeNumber (r .outcome) ≡ 0 ⌝ }
     ensures { λ r. ⌜ r .pair ≡ firstDisagreement edition statement depth (now (leaves .entry)) (now (openings .entry)) ⌝ }
     ensures { λ r. ⌜ r .first
@@ -87,8 +90,14 @@ fn compare_all(
 }
 
 // Compares openings, given one after the other, with their leaves. They need not be right.
-pub fn compare(statement: [u8; 32], depth: u64, leaves: &[u64], openings: &[u8]) -> Compared
-    ensures { λ r. ⌜ outcomeNumber (r .outcome) ≡ compareRow depth (now (leaves .entry)) (length (now (openings .entry))) ⌝ }
+pub fn compare(
+    edition: u64,
+    statement: [u8; 32],
+    depth: u64,
+    leaves: &[u64],
+    openings: &[u8],
+) -> Compared
+    ensures { λ r. ⌜ outcomeNumber (r .outcome) ≡ compareRow edition depth (now (leaves .entry)) (length (now (openings .entry))) ⌝ }
     ensures { λ r. ⌜ r .pair ≡ compared edition statement depth (now (leaves .entry)) (now (openings .entry)) ⌝ }
     ensures { λ r. ⌜ r .first
         ≡ firstInput edition statement depth (now (leaves .entry)) (now (openings .entry))
@@ -97,9 +106,9 @@ pub fn compare(statement: [u8; 32], depth: u64, leaves: &[u64], openings: &[u8])
         ≡ secondInput edition statement depth (now (leaves .entry)) (now (openings .entry))
         (compared edition statement depth (now (leaves .entry)) (now (openings .entry))) ⌝ }
 {
-    let checked = check(depth, leaves, openings.len());
+    let checked = check(edition, depth, leaves, openings.len());
     match checked {
         Outcome::Refused(why) => no_pair(Outcome::Refused(why)),
-        Outcome::Done => compare_all(EDITION, statement, depth, leaves, openings),
+        Outcome::Done => compare_all(edition, statement, depth, leaves, openings),
     }
 }

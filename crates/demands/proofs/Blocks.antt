@@ -7,7 +7,6 @@ use mathlib.Core.List.{List, [], map, flatten}
 use lib.Count.{ones}
 use lib.ListN.{length, take, length-map}
 use lib.Seq.{take-all}
-use Rattle.base.specs.Limits.{edition}
 use Rattle.base.proofs.RowLaws.{some-refused}
 use Rattle.sha256.specs.declared.Hash.{Hash}
 use Rattle.sha256.specs.Padding.{blocksOf}
@@ -37,11 +36,10 @@ use Rattle.opening.specs.Steps as openings
 use Rattle.opening.specs.Steps.{Open, openingMachine}
 use Rattle.opening.specs.Names.{openOf}
 use Rattle.run_theory.specs.Runs.{atStart}
-use Rattle.run_theory.specs.Openings.{Openable, newOpen}
+use Rattle.run_theory.specs.Openings.{newOpen}
 use Rattle.run_theory.specs.Reached.{labelOf}
 use Rattle.run_theory.proofs.Step.{labels-each}
 use Rattle.run_theory.proofs.RunLaws.{run-goes}
-use Rattle.run_theory.proofs.OpeningCalls.{started-fits, startedOut-fits}
 use Rattle.run_record_theory.specs.Pausing.{Continuable}
 use Rattle.file_head.specs.Layout.{fileSize}
 use Rattle.writing.specs.declared.Writing.{Writing}
@@ -57,10 +55,11 @@ use Rattle.block_theory.proofs.NodeCosts.{inner-blocks, no-parents-blocks, most
 use Rattle.block_theory.proofs.RunCalls.{run-call, run-calls}
 use Rattle.block_theory.proofs.OpeningCalls.{Reopenable, opening-call, opening-calls}
 use Rattle.block_theory.proofs.FileCalls.{nodes-length, file-blocks}
-use Rattle.demands.specs.Demand1.{InBounds, startedRun, startedOpening, startedFile}
+use Rattle.demands.specs.Demand1.{AnEdition, InBounds, runAtStart, startedOpening, startedFile}
 use Rattle.demands.specs.Blocks.{MessageBlocks, PortionBlocks, RunBlocks, OpeningBlocks, NoneReported, Blocks}
 use Rattle.demands.proofs.Checks.{beside-refused}
-use Rattle.demands.proofs.Carrying.{startable, can-open, can-write, run-started}
+use Rattle.demands.proofs.Carrying.{startable, can-open, can-write, run-at-start}
+use Rattle.demands.proofs.Demand2.{opening-started}
 use Rattle.demands.proofs.Openings.{opening-ends}
 use Rattle.demands.proofs.Writings.{file-goes}
 use Rattle.demands.proofs.Pausing.{has-arrays}
@@ -87,9 +86,9 @@ refused-message message some = beside-refused (tooMany newHash (length message))
 
 -- ---- a node
 node-input :
-    (statement : List ℕ) (n : ℕ) (v : Node) → length statement ≡ 32 → InTree n v
+    (edition : ℕ) (statement : List ℕ) (n : ℕ) (v : Node) → length statement ≡ 32 → InTree n v
     → blocksHashed (documentInput edition n statement v (map (labelOf edition statement n) (parents n v))) ≡ nodeBlocks n v
-node-input statement n v size inTree =
+node-input edition statement n v size inTree =
     let labels : List Label = map (labelOf edition statement n) (parents n v) in
     blocks-hashed (documentInput edition n statement v labels)
     ∙ ap blocksOf
@@ -167,27 +166,30 @@ module _ (w : Writing) (store file : List ℕ) (budget : ℕ) where
   idle-file = none-idle (writingMachine store) (writings.stepBlocks store) (writtenOf w file) budget
 
 -- ---- a run from its start
-module _ (statement : List ℕ) (n m : ℕ) (store : List ℕ) (size : length statement ≡ 32) (bounds : InBounds n m (length store)) where
-  run-continuable : Continuable (atStart statement n m store)
+module _
+    (edition : ℕ) (statement : List ℕ) (n m : ℕ) (store : List ℕ) (exists : AnEdition edition) (size : length statement ≡ 32)
+    (bounds : InBounds n m (length store)) where
+  run-continuable : Continuable (atStart edition statement n m store)
   unfolding atStart runMachine machines.steps
   run-continuable =
       record {
-        arrays = has-arrays (atStart statement n m store .run) size refl;
-        goes = run-goes statement n m store (startable n m (length store) bounds) .done 0 (omega arith);
+        arrays = has-arrays (atStart edition statement n m store .run) size refl;
+        goes = run-goes edition statement n m store (startable edition n m (length store) exists bounds) .done 0 (omega arith);
       }
 
   from-start :
       (budgets : List ℕ)
-      → reportedBlocks (startedRun statement n m store) budgets ≡ blocksSum n (nextNodes n 0 (min (total budgets) (2 ^ (n + 1) - 1)))
+      → reportedBlocks (runAtStart edition statement n m store) budgets ≡ blocksSum n (nextNodes n 0 (min (total budgets) (2 ^ (n + 1) - 1)))
   unfolding atStart nodesIn
   from-start budgets =
       let all : nodesIn n - 0 ≡ 2 ^ (n + 1) - 1 = omega arith in
-      ap (λ (start : Stamped). reportedBlocks start budgets) (run-started statement n m store bounds)
-      ∙ run-calls (atStart statement n m store) run-continuable budgets
+      ap (λ (start : Stamped). reportedBlocks start budgets) (run-at-start edition statement n m store)
+      ∙ run-calls (atStart edition statement n m store) run-continuable budgets
       ∙ ap (λ (k : ℕ). blocksSum n (nextNodes n 0 (min (total budgets) k))) all
 
   -- budgets that suffice: the whole tree's
-  run-whole : (budgets : List ℕ) → 2 ^ (n + 1) - 1 ≤ total budgets → reportedBlocks (startedRun statement n m store) budgets ≡ treeBlocks n
+  run-whole :
+      (budgets : List ℕ) → 2 ^ (n + 1) - 1 ≤ total budgets → reportedBlocks (runAtStart edition statement n m store) budgets ≡ treeBlocks n
   unfolding nodesIn
   run-whole budgets enough =
       let all : min (total budgets) (2 ^ (n + 1) - 1) ≡ 2 ^ (n + 1) - 1 = omega arith in
@@ -197,20 +199,19 @@ module _ (statement : List ℕ) (n m : ℕ) (store : List ℕ) (size : length st
 
   whole-run :
       (budgets : List ℕ) → 2 ^ (n + 1) - 1 ≤ total budgets
-      → 4 * (reportedBlocks (startedRun statement n m store) budgets + 2) ≡ (n + 13) * 2 ^ n
+      → 4 * (reportedBlocks (runAtStart edition statement n m store) budgets + 2) ≡ (n + 13) * 2 ^ n
   whole-run budgets enough = rw (run-whole budgets enough) (tree-formula n (bounds .depth .0))
 
 -- ---- an opening from its start, whatever the store holds
 module _
-    (statement : List ℕ) (n m leaf : ℕ) (store out : List ℕ) (size : length statement ≡ 32) (bounds : InBounds n m (length store))
-    (inside : leaf < 2 ^ n) (fits : 32 * (n + 1) ≤ length out) where
+    (edition : ℕ) (statement : List ℕ) (n m leaf : ℕ) (store out : List ℕ) (exists : AnEdition edition) (size : length statement ≡ 32)
+    (bounds : InBounds n m (length store)) (inside : leaf < 2 ^ n) (fits : 32 * (n + 1) ≤ length out) where
   abbrev new : Open
-  new = newOpen statement n m leaf store out
+  new = newOpen edition statement n m leaf store out
 
-  opening-started : startedOpening statement n m leaf store out ≡ new
-  opening-started =
-      let openable : Openable n m leaf (length store) (length out) = can-open n m (length store) bounds leaf (length out) inside fits in
-      rw (started-fits statement n m leaf (length store) (length out) openable, startedOut-fits n m leaf store out openable)
+  started-new : startedOpening edition statement n m leaf store out ≡ new
+  started-new =
+      opening-started edition statement n m leaf store out (can-open edition n m (length store) exists bounds leaf (length out) inside fits)
 
   opening-reopenable : Reopenable store new
   unfolding afterCalls
@@ -219,47 +220,49 @@ module _
         statementSize = omega (arith, size);
         placesSize = refl;
         goes =
-            subst (λ (s : Open). reopenRow (s .opening) (length store) (length (s .out)) ≡ 0) opening-started
-            (opening-ends statement n m leaf store out bounds inside fits .ends .notRefused []);
+            subst (λ (s : Open). reopenRow (s .opening) (length store) (length (s .out)) ≡ 0) started-new
+            (opening-ends edition statement n m leaf store out exists bounds inside fits .ends .notRefused []);
       }
 
   opening-whole :
       (budgets : List ℕ) → 2 ^ (n - m + 1) - 2 ≤ total budgets
-      → reportedBlocksAnew store (startedOpening statement n m leaf store out) budgets ≡ openingBlocks n m leaf
+      → reportedBlocksAnew store (startedOpening edition statement n m leaf store out) budgets ≡ openingBlocks n m leaf
   opening-whole budgets enough =
       let all : min (total budgets) (nodesAnew n m - 0) ≡ nodesAnew n m = omega arith in
-      ap (λ (start : Open). reportedBlocksAnew store start budgets) opening-started
+      ap (λ (start : Open). reportedBlocksAnew store start budgets) started-new
       ∙ opening-calls store new opening-reopenable budgets
       ∙ ap (λ (k : ℕ). blocksSum n (nextNodesAnew n m leaf 0 k)) all
 
   whole-opening :
       m < n → (budgets : List ℕ) → 2 ^ (n - m + 1) - 2 ≤ total budgets
-      → 4 * (reportedBlocksAnew store (startedOpening statement n m leaf store out) budgets + 4)
+      → 4 * (reportedBlocksAnew store (startedOpening edition statement n m leaf store out) budgets + 4)
       ≡ (2 * ones (leaf / 2 ^ (n - m)) + (n - m) + 13) * 2 ^ (n - m)
   whole-opening low budgets enough = rw (opening-whole budgets enough) (opening-formula n m leaf low inside)
 
 -- ---- a file from its start, whatever store and root are
 module _
-    (statement root : List ℕ) (n m t : ℕ) (store file budgets : List ℕ) (size : length statement ≡ 32) (rootSize : length root ≡ 32)
-    (bounds : InBounds n m (length store)) (count : (1 ≤ t) × (t ≤ 200)) (fits : fileSize n t ≤ length file) where
+    (edition : ℕ) (statement root : List ℕ) (n m t : ℕ) (store file budgets : List ℕ) (exists : AnEdition edition)
+    (size : length statement ≡ 32) (rootSize : length root ≡ 32) (bounds : InBounds n m (length store)) (count : (1 ≤ t) × (t ≤ 200))
+    (fits : fileSize n t ≤ length file) where
   abbrev all : ℕ
   all = t * (2 ^ (n - m + 1) - 2)
 
   abbrev fileSum : ℕ → ℕ
   fileSum k = blocksSum n (take k (fileNodes edition statement root n m t))
 
-  file-from-start : reportedBlocksWritten store (startedFile statement root n m t store file) budgets ≡ fileSum (min (total budgets) all)
+  file-from-start :
+      reportedBlocksWritten store (startedFile edition statement root n m t store file) budgets ≡ fileSum (min (total budgets) all)
   file-from-start =
       let k : ℕ = min (total budgets) all in
-      calls-cost (writingMachine store) (startedFile statement root n m t store file) all
-      (file-goes statement root n m t store file size rootSize bounds count fits) (writings.stepBlocks store) budgets
+      calls-cost (writingMachine store) (startedFile edition statement root n m t store file) all
+      (file-goes edition statement root n m t store file exists size rootSize bounds count fits) (writings.stepBlocks store) budgets
       ∙ ap (λ (s : Written). writings.blocksOver store k s)
-      (started-done statement root n m t store file (can-write n m (length store) bounds t (length file) count fits))
-      ∙ file-blocks statement root n m t store size (bounds .depth) (omega (arith, bounds .memory)) (bounds .room) file k (omega arith)
+      (started-done edition statement root n m t store file (can-write edition n m (length store) exists bounds t (length file) count fits))
+      ∙ file-blocks edition statement root n m t store size (bounds .depth) (omega (arith, bounds .memory)) (bounds .room) file k (omega arith)
 
   whole-file :
       all ≤ total budgets
-      → reportedBlocksWritten store (startedFile statement root n m t store file) budgets ≡ fileBlocks edition statement root n m t
+      → reportedBlocksWritten store (startedFile edition statement root n m t store file) budgets ≡ fileBlocks edition statement root n m t
   whole-file enough =
       let nodes : List Node = fileNodes edition statement root n m t in
       let whole : min (total budgets) all ≡ all = omega arith in
@@ -288,10 +291,11 @@ blocks =
       idleRun = idle-run;
       idleOpening = idle-opening;
       idleFile = idle-file;
-      fromStart = λ statement n m store budgets size bounds. from-start statement n m store size bounds budgets;
-      wholeRun = λ statement n m store budgets size bounds enough. whole-run statement n m store size bounds budgets enough;
-      wholeOpening = λ statement n m leaf store out budgets size bounds low inside fits enough.
-          whole-opening statement n m leaf store out size bounds inside fits low budgets enough;
+      fromStart = λ edition statement n m store budgets exists size bounds. from-start edition statement n m store exists size bounds budgets;
+      wholeRun = λ edition statement n m store budgets exists size bounds enough.
+          whole-run edition statement n m store exists size bounds budgets enough;
+      wholeOpening = λ edition statement n m leaf store out budgets exists size bounds low inside fits enough.
+          whole-opening edition statement n m leaf store out exists size bounds inside fits low budgets enough;
       fileFromStart = file-from-start;
       wholeFile = whole-file;
     }

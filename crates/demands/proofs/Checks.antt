@@ -10,8 +10,8 @@ use lib.ListN.{length, getD}
 use borrow.Author.Tests.{ltb-true, ltb-false, leb-true, leb-false}
 use Rattle.base.specs.Choice.{pick, both, every}
 use Rattle.base.specs.Bytes.{zeros}
-use Rattle.base.specs.Limits.{maxMemory, maxHashed, edition}
-use Rattle.base.specs.Row.{outside, either, memoryOver}
+use Rattle.base.specs.Limits.{maxEdition, maxMemory, maxHashed}
+use Rattle.base.specs.Row.{outside, either, memoryOver, noEdition}
 use Rattle.base.proofs.RowLaws.{some-refused}
 use Rattle.sha256.specs.declared.Hash.{Hash}
 use Rattle.sha256.specs.Portions.{newHash, tooMany, updateRow, updateState, finishRow, finishDigest, digestRow, digestAnswer}
@@ -40,7 +40,7 @@ use Rattle.writing.specs.declared.Writing.{Writing}
 use Rattle.writing.specs.Rows.{writeRow, rewriteRow}
 use Rattle.writing.specs.Steps as writings
 use Rattle.writing.specs.Steps.{writingMachine}
-use Rattle.demands.specs.Rows.{IsFirst, Outside, MemoryOver, Impossible, planningChain, ImpossibleFile}
+use Rattle.demands.specs.Rows.{IsFirst, Outside, MemoryOver, NoEdition, Impossible, planningChain, ImpossibleFile}
 use Rattle.run_theory.proofs.Idle.{run-none, run-same, opening-none, opening-same}
 use Rattle.demands.specs.Demand1.{HashingPortion, HashingEnd, HashingWhole, StartingRun, ContinuingRun, StartingOpening, ContinuingOpening}
 use Rattle.demands.specs.Demand1.{AChallenge, WritingHead, OneOpening, PlanningChain, StartingFile, ContinuingFile}
@@ -48,6 +48,13 @@ use Rattle.demands.proofs.Decisions.{Decides, decides-outside, decides-
 use Rattle.demands.proofs.Decisions.{decides-over, decides-either, decides-some, decides-under, Decided, is-first}
 
 -- ---- conditions that stand in several rows
+pub decides-edition : (edition : ℕ) → Decides (noEdition edition) (NoEdition edition)
+decides-edition edition = decides-outside 1 maxEdition edition
+
+abbrev pub exists : ℕ → Decided
+exists edition =
+    record { test = noEdition edition; condition = NoEdition edition; decides = decides-edition edition; number = 12 }
+
 abbrev pub depth : ℕ → Decided
 depth n = record { test = outside 1 40 n; condition = Outside 1 40 n; decides = decides-outside 1 40 n; number = 1 }
 
@@ -81,16 +88,18 @@ wholeFile n t out =
 abbrev pub count : ℕ → Decided
 count t = record { test = outside 1 200 t; condition = Outside 1 200 t; decides = decides-outside 1 200 t; number = 8 }
 
-pub decides-impossible : (n m made all : ℕ) → Decides (impossible n m made all) (Impossible n m made all)
-decides-impossible n m made all =
-    decides-either (decides-outside 1 40 n) (decides-either (decides-memory n m) (decides-lt all made))
+pub decides-impossible :
+    (edition n m made all : ℕ) → Decides (impossible edition n m made all) (Impossible edition n m made all)
+decides-impossible edition n m made all =
+    decides-either (decides-edition edition)
+    (decides-either (decides-outside 1 40 n) (decides-either (decides-memory n m) (decides-lt all made)))
 
 abbrev pub impossibleRun : Run → Decided
 impossibleRun run =
     record {
-      test = impossible (run .depth) (run .memory) (run .made) (nodesIn (run .depth));
-      condition = Impossible (run .depth) (run .memory) (run .made) (nodesIn (run .depth));
-      decides = decides-impossible (run .depth) (run .memory) (run .made) (nodesIn (run .depth));
+      test = impossible (run .edition) (run .depth) (run .memory) (run .made) (nodesIn (run .depth));
+      condition = Impossible (run .edition) (run .depth) (run .memory) (run .made) (nodesIn (run .depth));
+      decides = decides-impossible (run .edition) (run .depth) (run .memory) (run .made) (nodesIn (run .depth));
       number = 4;
     }
 
@@ -135,11 +144,12 @@ continuing-run run store budget =
     }
 
 -- ---- openings
-pub starting-opening : (statement : List ℕ) (n m leaf : ℕ) (store out : List ℕ) → StartingOpening statement n m leaf store out
+pub starting-opening :
+    (edition : ℕ) (statement : List ℕ) (n m leaf : ℕ) (store out : List ℕ) → StartingOpening edition statement n m leaf store out
 unfolding openRow openings.started openings.startedOut
-starting-opening statement n m leaf store out =
+starting-opening edition statement n m leaf store out =
     record {
-      answer = is-first (depth n ∷ memory n m ∷ room m (length store) ∷ position n leaf ∷ output n (length out) ∷ []);
+      answer = is-first (exists edition ∷ depth n ∷ memory n m ∷ room m (length store) ∷ position n leaf ∷ output n (length out) ∷ []);
       refused = λ e. let no = some-refused _ e in (rw no, rw no);
     }
 
@@ -151,9 +161,9 @@ continuing-opening o store out budget =
       answer =
           is-first
           (record {
-            test = either (impossible (o .depth) (o .memory) (o .made) all) (leb (2 ^ (o .depth)) (o .leaf));
-            condition = Impossible (o .depth) (o .memory) (o .made) all ⊎ (2 ^ (o .depth) ≤ o .leaf);
-            decides = decides-either (decides-impossible (o .depth) (o .memory) (o .made) all) (decides-le (2 ^ (o .depth)) (o .leaf));
+            test = either (impossible (o .edition) (o .depth) (o .memory) (o .made) all) (leb (2 ^ (o .depth)) (o .leaf));
+            condition = Impossible (o .edition) (o .depth) (o .memory) (o .made) all ⊎ (2 ^ (o .depth) ≤ o .leaf);
+            decides = decides-either (decides-impossible (o .edition) (o .depth) (o .memory) (o .made) all) (decides-le (2 ^ (o .depth)) (o .leaf));
             number = 4;
           }
           ∷ room (o .memory) (length store)
@@ -164,11 +174,12 @@ continuing-opening o store out budget =
       idle = opening-idle store (openOf o out) budget;
     }
 
-pub one-opening : (statement : List ℕ) (n leaf : ℕ) (root bytes : List ℕ) → OneOpening statement n leaf root bytes
+pub one-opening : (edition : ℕ) (statement : List ℕ) (n leaf : ℕ) (root bytes : List ℕ) → OneOpening edition statement n leaf root bytes
 unfolding openingRow
-one-opening statement n leaf root bytes =
+one-opening edition statement n leaf root bytes =
     is-first
-    (depth n
+    (exists edition
+    ∷ depth n
     ∷ position n leaf
     ∷ record {
       test = ltb (length bytes) (openingSize n);
@@ -198,21 +209,23 @@ one-opening statement n leaf root bytes =
     )
 
 -- ---- challenges and the head
-pub a-challenge : (n : ℕ) (statement root : List ℕ) (i : ℕ) → AChallenge n statement root i
+pub a-challenge : (edition n : ℕ) (statement root : List ℕ) (i : ℕ) → AChallenge edition n statement root i
 unfolding challengeRow challenged
-a-challenge n statement root i = record { answer = is-first (depth n ∷ count i ∷ []); refused = λ e. rw (some-refused _ e) }
+a-challenge edition n statement root i =
+    record { answer = is-first (exists edition ∷ depth n ∷ count i ∷ []); refused = λ e. rw (some-refused _ e) }
 
-pub writing-head : (statement root : List ℕ) (n t : ℕ) (out : List ℕ) → WritingHead statement root n t out
+pub writing-head : (edition : ℕ) (statement root : List ℕ) (n t : ℕ) (out : List ℕ) → WritingHead edition statement root n t out
 unfolding headRow headWritten
-writing-head statement root n t out =
-    record { answer = is-first (depth n ∷ count t ∷ wholeFile n t (length out) ∷ []); refused = λ e. rw (some-refused _ e) }
+writing-head edition statement root n t out =
+    record { answer = is-first (exists edition ∷ depth n ∷ count t ∷ wholeFile n t (length out) ∷ []); refused = λ e. rw (some-refused _ e) }
 
 -- ---- files by budgets
-pub starting-file : (statement root : List ℕ) (n m t : ℕ) (store file : List ℕ) → StartingFile statement root n m t store file
+pub starting-file :
+    (edition : ℕ) (statement root : List ℕ) (n m t : ℕ) (store file : List ℕ) → StartingFile edition statement root n m t store file
 unfolding writeRow writings.started
-starting-file statement root n m t store file =
+starting-file edition statement root n m t store file =
     record {
-      answer = is-first (depth n ∷ memory n m ∷ room m (length store) ∷ count t ∷ wholeFile n t (length file) ∷ []);
+      answer = is-first (exists edition ∷ depth n ∷ memory n m ∷ room m (length store) ∷ count t ∷ wholeFile n t (length file) ∷ []);
       refused = λ e. rw (some-refused _ e);
     }
 
@@ -227,13 +240,13 @@ continuing-file w store file budget =
           (record {
             test =
                 either
-                (impossible (o .depth) (o .memory) (o .made) all)
+                (impossible (o .edition) (o .depth) (o .memory) (o .made) all)
                 (either (leb (2 ^ (o .depth)) (o .leaf))
                 (either (outside 1 200 (w .count)) (either (outside 1 (w .count) (w .number)) (both (eqb (o .made) all) (ltb (w .number) (w .count))))));
-            condition = Impossible (o .depth) (o .memory) (o .made) all ⊎ ImpossibleFile w;
+            condition = Impossible (o .edition) (o .depth) (o .memory) (o .made) all ⊎ ImpossibleFile w;
             decides =
                 decides-either
-                (decides-impossible (o .depth) (o .memory) (o .made) all)
+                (decides-impossible (o .edition) (o .depth) (o .memory) (o .made) all)
                 (decides-either
                 (decides-le (2 ^ (o .depth)) (o .leaf))
                 (decides-either (decides-outside 1 200 (w .count))

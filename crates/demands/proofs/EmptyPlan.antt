@@ -38,7 +38,7 @@ use Rattle.compare.specs.Comparison.{compareRow}
 use Rattle.draw.specs.Drawing.{drawnChain, drawingOf}
 use Rattle.draw_theory.proofs.Demand3.{chain-exactly}
 use Rattle.demands.specs.Rows.{IsFirst, Unreadable, planningProgram}
-use Rattle.demands.specs.Demand1.{PlanningProgram}
+use Rattle.demands.specs.Demand1.{AnEdition, PlanningProgram}
 use Rattle.demands.specs.EmptyPlan.{PlannedEmpty, WholeTree, NoProof, EmptyPlan}
 use Rattle.demands.proofs.Decisions.{one-answer}
 use Rattle.demands.proofs.Checks.{planning-row}
@@ -74,15 +74,16 @@ module _ (n : ℕ) (inside : (1 ≤ n) × (n ≤ 40)) where
         p .done none ∙ rw (one, chain-none n) (append-nil (headText n 0 0))
 
   -- ---- 0 challenges
-  no-proof : NoProof n
+  no-proof : (edition : ℕ) → AnEdition edition → NoProof edition n
   unfolding challengeRow headRow writeRow compareRow
-  no-proof =
+  no-proof edition exists =
+      let there = within 1 2 edition exists in
       let depth = within 1 40 n inside in
       record {
-        challenge = rw depth;
-        head = λ out. rw depth;
-        writing = λ m store out bounds. rw (depth, le-ltb _ m (bounds .memory), le-ltb store _ (bounds .room));
-        comparing = λ size. rw depth;
+        challenge = rw (there, depth);
+        head = λ out. rw (there, depth);
+        writing = λ m store out bounds. rw (there, depth, le-ltb _ m (bounds .memory), le-ltb store _ (bounds .room));
+        comparing = λ size. rw (there, depth);
       }
 
 depth-two : printed (ascii "2") ≡ ascii "depth 2 leaves 0 chain 0\n"
@@ -123,11 +124,11 @@ unfolding planRow
 over-refused n leaves list inside over = rw (within 1 40 n inside, above-range 0 200 (length leaves) over)
 
 -- ---- files of 0 challenges
-no-head : (bytes : List ℕ) (n at : ℕ) → ((j : ℕ) → getD bytes j 0 < 256) → headOf bytes ≡ read.numbers n 0 at → ⊥
-no-head bytes n at small e = omega (arith, head-within bytes n 0 at small e .count .0)
+no-head : (bytes : List ℕ) (e n at : ℕ) → ((j : ℕ) → getD bytes j 0 < 256) → headOf bytes ≡ read.numbers e n 0 at → ⊥
+no-head bytes e n at small read = omega (arith, head-within bytes e n 0 at small read .count .0)
 
 no-file : (bytes statement : List ℕ) (n : ℕ) → ((j : ℕ) → getD bytes j 0 < 256) → fileCheck bytes statement n 0 ≡ 0 → ⊥
-no-file bytes statement n small accepted = let proof = exactly-proofs bytes statement n 0 small .0 accepted in omega (arith, proof .count .0)
+no-file bytes statement n small accepted = let (edition, proof) = exactly-proofs bytes statement n 0 small .0 accepted in omega (arith, proof .count .0)
 
 no-chain :
     (bytes statement : List ℕ) (n list count : ℕ) → ((j : ℕ) → getD bytes j 0 < 256)
@@ -145,7 +146,7 @@ empty-plan =
       count = λ n leaves list done.
           omega (arith, count-is-length n leaves list done, chain-count n leaves (all-leaves n leaves list done));
       eight = λ n leaves list inside. (over-only n leaves list, over-refused n leaves list inside);
-      noProof = no-proof;
+      noProof = λ edition n exists inside. no-proof n inside edition exists;
       noHead = no-head;
       noFile = no-file;
       noChain = no-chain;

@@ -8,12 +8,11 @@ use mathlib.Core.List.{List, [], _∷_, _++_}
 use lib.Dec.{ltb, eqb}
 use lib.ListN.{length}
 use borrow.Author.Tests.{lt-ltb, le-ltb, lt-leb, eqb-true, eq-eqb, ne-eqb}
-use Rattle.base.specs.Limits.{edition}
 use Rattle.base.specs.Choice.{pick, both}
 use Rattle.base.specs.Lists.{sameBytes}
 use Rattle.base.proofs.ChoiceLaws.{both-first, both-second, both-false, true-false}
 use Rattle.base.proofs.ListsLaws.{tells-bytes, test-same}
-use Rattle.base.specs.Row.{outside}
+use Rattle.base.specs.Row.{outside, noEdition}
 use Rattle.groups.specs.Reading.{Answer, value, refused, ended, readFrom, readAt, checked}
 use Rattle.groups.proofs.Steps.{read-none, read-end, read-last, read-more}
 use Rattle.base.proofs.ChoiceLaws.{lt-or-le}
@@ -22,9 +21,10 @@ use Rattle.file_head.specs.Head.{HeadAnswer, numbers, notRead, headOf, lengthFr
 use Rattle.file_head.specs.HeadSteps.{countFrom, depthFrom}
 use Rattle.proof_file.specs.FileCheck as files
 use Rattle.proof_file.specs.FileCheck.{opened, openingsFrom, wanted, fileCheck}
-use Rattle.demands.specs.Rows.{Row, IsFirst, Outside, byteAt, valueAt, behind, foundIn, fileOpenings, fileRest, aFile}
+use Rattle.demands.specs.Rows.{Row, IsFirst, Outside, NoEdition, byteAt, valueAt, behind, foundIn, fileOpenings, fileRest, aFile}
 use Rattle.demands.specs.Demand1.{headNumber, AHead, AFile}
-use Rattle.demands.proofs.Decisions.{Decides, decides-not, decides-eq, decides-outside, decides-lt, decides-differ, Decided}
+use Rattle.demands.proofs.Decisions.{Decides, decides-not, decides-outside, decides-lt, decides-differ, Decided}
+use Rattle.demands.proofs.Checks.{decides-edition}
 
 -- ---- a number of at most two bytes
 module _ (bytes : List ℕ) (at : ℕ) where
@@ -207,11 +207,13 @@ opened-step true b P Q i row next p q rest = inl (p .yes refl, refl)
 opened-step false true P Q i row next p q rest = inr (p .no refl, inl (q .yes refl, refl))
 opened-step false false P Q i row next p q rest = inr (p .no refl, inr (q .no refl, rest))
 
-openings-first : (bytes : List ℕ) (n at i left : ℕ) → IsFirst (fileOpenings bytes n at i left) (openingsFrom edition bytes n at i left)
+-- by the edition that the head says
+openings-first :
+    (bytes : List ℕ) (n at i left : ℕ) → IsFirst (fileOpenings bytes n at i left) (openingsFrom (valueAt bytes 0) bytes n at i left)
 unfolding fileOpenings openingsFrom rightRow
 openings-first bytes n at i zero = refl
 openings-first bytes n at i (suc left) =
-    opened-step _ _ _ _ i (fileOpenings bytes n at (i + 1) left) (openingsFrom edition bytes n at (i + 1) left)
+    opened-step _ _ _ _ i (fileOpenings bytes n at (i + 1) left) (openingsFrom (valueAt bytes 0) bytes n at (i + 1) left)
     (decides-differ _ _) (decides-differ _ _) (openings-first bytes n at (i + 1) left)
 
 abbrev AsWanted : List ℕ → ℕ → ℕ → List ℕ → ℕ → ℕ → Type 0
@@ -237,7 +239,11 @@ decides-wanted s n′ t′ statement n t =
 -- ---- the head's numbers, and what follows them, for any answer
 module _
     (mark : ℕ → ℕ) (answer : HeadAnswer → ℕ) (refusals : (number : ℕ) → answer (notRead number) ≡ mark number) (bytes : List ℕ)
-    (later : ℕ → ℕ → ℕ → Row) (rest : (n t at : ℕ) → IsFirst (later n t at) (answer (numbers n t at))) where
+    (later : ℕ → ℕ → ℕ → Row)
+    (rest : (n t at : ℕ) → IsFirst (later n t at) (answer (numbers (valueAt bytes 0) n t at))) where
+  abbrev edition : ℕ
+  edition = valueAt bytes 0
+
   abbrev countRow : ℕ → ℕ → Row
   countRow n at =
       numberRow mark bytes at ((Outside 1 200 (valueAt bytes at), mark 8) ∷ later n (valueAt bytes at) (behind bytes at))
@@ -245,24 +251,24 @@ module _
   abbrev depthRow : ℕ → Row
   depthRow at = numberRow mark bytes at ((Outside 1 40 (valueAt bytes at), mark 1) ∷ countRow (valueAt bytes at) (behind bytes at))
 
-  count-first : (n at : ℕ) → IsFirst (countRow n at) (answer (countFrom bytes n at))
+  count-first : (n at : ℕ) → IsFirst (countRow n at) (answer (countFrom bytes edition n at))
   unfolding countFrom
   count-first n at =
-      checked-first mark answer refusals (outside 1 200) (Outside 1 200) (decides-outside 1 200) 8 (λ t at. numbers n t at)
+      checked-first mark answer refusals (outside 1 200) (Outside 1 200) (decides-outside 1 200) 8 (λ t at. numbers edition n t at)
       bytes at (later n (valueAt bytes at) (behind bytes at)) (rest n (valueAt bytes at) (behind bytes at))
 
-  depth-first : (at : ℕ) → IsFirst (depthRow at) (answer (depthFrom bytes at))
+  depth-first : (at : ℕ) → IsFirst (depthRow at) (answer (depthFrom bytes edition at))
   unfolding depthFrom
   depth-first at =
-      checked-first mark answer refusals (outside 1 40) (Outside 1 40) (decides-outside 1 40) 1 (countFrom bytes) bytes at
+      checked-first mark answer refusals (outside 1 40) (Outside 1 40) (decides-outside 1 40) 1 (countFrom bytes edition) bytes at
       (countRow (valueAt bytes at) (behind bytes at)) (count-first (valueAt bytes at) (behind bytes at))
 
   head-first :
-      IsFirst (numberRow mark bytes 0 ((valueAt bytes 0 ≡ 1 → ⊥, mark 12) ∷ depthRow (behind bytes 0))) (answer (headOf bytes))
+      IsFirst (numberRow mark bytes 0 ((NoEdition edition, mark 12) ∷ depthRow (behind bytes 0))) (answer (headOf bytes))
   unfolding headOf depthFrom countFrom
   head-first =
-      checked-first mark answer refusals (λ e. not (eqb e 1)) (λ e. e ≡ 1 → ⊥) (λ e. decides-not (decides-eq e 1)) 12
-      (λ e at. depthFrom bytes at) bytes 0 (depthRow (behind bytes 0)) (depth-first (behind bytes 0))
+      checked-first mark answer refusals noEdition NoEdition decides-edition 12 (depthFrom bytes) bytes 0
+      (depthRow (behind bytes 0)) (depth-first (behind bytes 0))
 
 pub a-head : (bytes : List ℕ) → AHead bytes
 a-head bytes = head-first (λ k. k) headNumber (λ r. refl) bytes (λ n t at. []) (λ n t at. refl)
@@ -272,7 +278,7 @@ module _ (bytes statement : List ℕ) (n t : ℕ) where
   rest-first :
       (n′ t′ at : ℕ)
       → IsFirst (foundIn 0 (fileRest bytes statement n t n′ t′ at) ++ fileOpenings bytes n′ at 1 t′)
-      (files.fileRest bytes statement n t (numbers n′ t′ at))
+      (files.fileRest bytes statement n t (numbers (valueAt bytes 0) n′ t′ at))
   rest-first n′ t′ at =
       let size : ℕ = lengthFrom n′ t′ at in
       checks-first
@@ -287,7 +293,7 @@ module _ (bytes statement : List ℕ) (n t : ℕ) where
       ∷ []
       )
       (fileOpenings bytes n′ at 1 t′)
-      (openingsFrom edition bytes n′ at 1 t′)
+      (openingsFrom (valueAt bytes 0) bytes n′ at 1 t′)
       (openings-first bytes n′ at 1 t′)
 
   pub a-file : AFile bytes statement n t

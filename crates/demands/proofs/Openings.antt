@@ -9,7 +9,7 @@ use lib.Dec.{eqb}
 use lib.ListN.{length, drop, length-drop}
 use lib.Seq.{length-take-le}
 use borrow.Author.Tests.{eqb-true}
-use Rattle.base.specs.Limits.{edition, heldSize}
+use Rattle.base.specs.Limits.{heldSize}
 use Rattle.base.specs.Choice.{pick}
 use Rattle.base.specs.Bytes.{zeros, written}
 use Rattle.base.proofs.Copying.{length-written}
@@ -25,13 +25,13 @@ use Rattle.sha256.proofs.Digests.{digest-length}
 use Rattle.labelling.proofs.OneStep.{next-level}
 use Rattle.opening.specs.Rows.{nodesAnew, reopenRow}
 use Rattle.opening_places.specs.Places.{labelIn, ancestor, beside, placed, copied, copiedAll, front}
-use Rattle.opening.specs.Steps.{Open, stepped, steps, openingMachine}
-use Rattle.opening.specs.Names.{openingOf, openOf}
+use Rattle.opening.specs.Steps.{Open, openingOf, stepped, steps, openingMachine}
+use Rattle.opening.specs.Names.{openOf}
 use Rattle.opening.proofs.StepLaws.{anew-few, next-below}
 use Rattle.run_theory.specs.Openings.{Openable}
 use Rattle.run_theory.proofs.Anew.{beside-inside}
 use Rattle.run_theory.proofs.OpeningCalls.{open-fits, reopen-fits, started-fits, startedOut-fits}
-use Rattle.demands.specs.Demand1.{startedOpening, InBounds, OpeningEnds}
+use Rattle.demands.specs.Demand1.{AnEdition, startedOpening, InBounds, OpeningEnds}
 use Rattle.demands.proofs.Carrying.{carried-out, can-open}
 
 -- ---- lengths
@@ -49,9 +49,11 @@ length-placed n leaf out w label low high fits size =
     go false true = length-written out (32 * (n - w .level + 1)) label (omega arith)
     go false false = refl
 
-pub next-size : (statement : List ℕ) (h : ℕ) (v : Node) (aboves held : List ℕ) (k : ℕ) → length (nextLabel edition statement h v aboves held k) ≡ 32
+pub next-size :
+    (edition : ℕ) (statement : List ℕ) (h : ℕ) (v : Node) (aboves held : List ℕ) (k : ℕ)
+    → length (nextLabel edition statement h v aboves held k) ≡ 32
 unfolding nextLabel
-next-size statement h v aboves held k = digest-length _
+next-size edition statement h v aboves held k = digest-length _
 
 stored-size : (store : List ℕ) (m : ℕ) (w : Node) → storeSize m ≤ length store → InTree m w → length (labelIn store w) ≡ 32
 stored-size store m w enough inTree = length-take-le 32 (drop (slot w) store) (rw length-drop (omega (arith, slot-inside m w inTree)))
@@ -87,17 +89,17 @@ module _
       go false e = length-copied m (omega arith)
 
 -- ---- the state after k labels
-pub record OpeningAt (statement : List ℕ) (n m leaf size k : ℕ) (s : Open) : Type 0 where
+pub record OpeningAt (edition : ℕ) (statement : List ℕ) (n m leaf size k : ℕ) (s : Open) : Type 0 where
   pub held : List ℕ
   pub out : List ℕ
-  pub is : s ≡ openOf (openingOf statement n m leaf k held) out
+  pub is : s ≡ openOf (openingOf edition statement n m leaf k held) out
   pub length : length out ≡ size
 
 pub opening-more :
-    (statement : List ℕ) (n m leaf size : ℕ) (store : List ℕ) (k : ℕ) (s : Open) → m ≤ n → openingSize n ≤ size → k < nodesAnew n m
-    → OpeningAt statement n m leaf size k s → OpeningAt statement n m leaf size (suc k) (stepped store s)
+    (edition : ℕ) (statement : List ℕ) (n m leaf size : ℕ) (store : List ℕ) (k : ℕ) (s : Open) → m ≤ n → openingSize n ≤ size → k < nodesAnew n m
+    → OpeningAt edition statement n m leaf size k s → OpeningAt edition statement n m leaf size (suc k) (stepped store s)
 unfolding stepped
-opening-more statement n m leaf size store k s le fits few at =
+opening-more edition statement n m leaf size store k s le fits few at =
     let h : ℕ = n - m in
     let v : Node = ancestor n leaf m in
     let w : Node = nextNode h v k in
@@ -111,39 +113,39 @@ opening-more statement n m leaf size store k s le fits few at =
       is = rw (at .is, ← add-one k);
       length =
           length-placed n leaf (at .out) w label (omega arith) (omega (arith, inside .1)) (omega (arith, at .length))
-          (next-size statement h v (front n m leaf store) (at .held) k)
+          (next-size edition statement h v (front n m leaf store) (at .held) k)
           ∙ at .length;
     }
 
 module _
-    (statement : List ℕ) (n m leaf : ℕ) (store out : List ℕ) (bounds : InBounds n m (length store)) (inside : leaf < 2 ^ n)
-    (fits : 32 * (n + 1) ≤ length out) where
-  openable : Openable n m leaf (length store) (length out)
-  openable = can-open n m (length store) bounds leaf (length out) inside fits
+    (edition : ℕ) (statement : List ℕ) (n m leaf : ℕ) (store out : List ℕ) (exists : AnEdition edition)
+    (bounds : InBounds n m (length store)) (inside : leaf < 2 ^ n) (fits : 32 * (n + 1) ≤ length out) where
+  openable : Openable edition n m leaf (length store) (length out)
+  openable = can-open edition n m (length store) exists bounds leaf (length out) inside fits
 
   abbrev start : Open
-  start = startedOpening statement n m leaf store out
+  start = startedOpening edition statement n m leaf store out
 
-  start-at : OpeningAt statement n m leaf (length out) 0 start
+  start-at : OpeningAt edition statement n m leaf (length out) 0 start
   start-at =
       record {
         held = zeros heldSize;
         out = copiedAll n m leaf store out;
-        is = rw (started-fits statement n m leaf (length store) (length out) openable, startedOut-fits n m leaf store out openable);
+        is = rw (started-fits edition statement n m leaf (length store) (length out) openable, startedOut-fits edition n m leaf store out openable);
         length = length-copied-all n m leaf store (bounds .depth .0) (omega (arith, bounds .memory)) inside (bounds .room) out fits;
       }
 
-  steps-at : (k : ℕ) → k ≤ nodesAnew n m → OpeningAt statement n m leaf (length out) k (steps store k start)
+  steps-at : (k : ℕ) → k ≤ nodesAnew n m → OpeningAt edition statement n m leaf (length out) k (steps store k start)
   unfolding machines.steps openingMachine
   steps-at zero small = start-at
   steps-at (suc k) small =
-      opening-more statement n m leaf (length out) store k (steps store k start) (omega (arith, bounds .memory)) fits small (steps-at k (omega arith))
+      opening-more edition statement n m leaf (length out) store k (steps store k start) (omega (arith, bounds .memory)) fits small (steps-at k (omega arith))
 
   goes-on : (k : ℕ) → k ≤ nodesAnew n m → reopenRow (steps store k start .opening) (length store) (length (steps store k start .out)) ≡ 0
   goes-on k small =
-      let at : OpeningAt statement n m leaf (length out) k (steps store k start) = steps-at k small in
+      let at : OpeningAt edition statement n m leaf (length out) k (steps store k start) = steps-at k small in
       rw (at .is, at .length)
-      (reopen-fits (openingOf statement n m leaf k (at .held)) (length store) (length out) openable small)
+      (reopen-fits (openingOf edition statement n m leaf k (at .held)) (length store) (length out) openable small)
 
   left-at :
       (k : ℕ) → k ≤ nodesAnew n m
@@ -151,10 +153,10 @@ module _
       ≡ nodesAnew n m - k
   left-at k small = rw (steps-at k small .is)
 
-  pub opening-ends : OpeningEnds statement n m leaf store out
+  pub opening-ends : OpeningEnds edition statement n m leaf store out
   unfolding openingMachine
   opening-ends =
       record {
-        starts = open-fits n m leaf (length store) (length out) openable;
+        starts = open-fits edition n m leaf (length store) (length out) openable;
         ends = carried-out (openingMachine store) start (nodesAnew n m) (record { done = goes-on; left = left-at });
       }

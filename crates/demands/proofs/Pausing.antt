@@ -8,7 +8,7 @@ use mathlib.Core.List.{List, _++_}
 use lib.ListN.{length, take, drop, getD, take-append-drop}
 use lib.Seq.{drop-at, length-take-le}
 use borrow.Author.Tests.{le-ltb, ltb-false}
-use Rattle.base.specs.Limits.{edition, maxDepth, maxMemory}
+use Rattle.base.specs.Limits.{maxEdition, maxDepth, maxMemory}
 use Rattle.base.specs.Bytes.{joined, written}
 use Rattle.base.proofs.Ranges.{within, range-of}
 use Rattle.machine.specs.Calls.{total}
@@ -32,9 +32,9 @@ use Rattle.run_record_theory.proofs.TidySteps.{shallow-run, few-made, called-co
 use Rattle.run_record_theory.proofs.Reading.{record-back, IsRecord, is-record}
 use Rattle.run_record_theory.proofs.Sizes.{record-length, finished-record, finished-root, longest-record}
 use Rattle.run_record_theory.proofs.Pausing.{pausing-state, pausing-continuable, pausing-goes-on, pausing-labels, pausing-same, pausing-end, pausing-start}
-use Rattle.demands.specs.Demand1.{InBounds, startedRun}
+use Rattle.demands.specs.Demand1.{AnEdition, InBounds, runAtStart}
 use Rattle.demands.specs.Pausing.{AreBytes, PossibleRun, UnusedZero, RecordIs, ReadBack, PausedAnywhere, Pausing}
-use Rattle.demands.proofs.Carrying.{startable, run-started}
+use Rattle.demands.proofs.Carrying.{startable}
 use Rattle.demands.proofs.MemoryLimit.{level-refused}
 
 -- ---- possible runs, and runs whose unused places are zero
@@ -45,18 +45,21 @@ unused-tidy : (run : Run) → UnusedZero run → tidied run ≡ run
 unfolding tidied
 unused-tidy run unused =
     let size : ℕ = heldLength (run .depth) (run .made) in
-    ap (runOf (run .statement) (run .depth) (run .memory) (run .made))
+    ap (runOf (run .edition) (run .statement) (run .depth) (run .memory) (run .made))
     (ap (λ (l : List ℕ). take size (run .held) ++ l) (sym unused) ∙ take-append-drop size (run .held))
 
-module _ (run : Run) (arrays : HasArrays run) (can : noSuchRun (run .depth) (run .memory) (run .made) ≡ false) where
+module _
+    (run : Run) (arrays : HasArrays run) (can : noSuchRun (run .edition) (run .depth) (run .memory) (run .made) ≡ false) where
   possible-run : PossibleRun run
   unfolding nodesIn
   possible-run =
-      let (depth, memory, made) = not-impossible (run .depth) (run .memory) (run .made) (nodesIn (run .depth)) can in
+      let (known, depth, memory, made) =
+      not-impossible (run .edition) (run .depth) (run .memory) (run .made) (nodesIn (run .depth)) can in
       let range = range-of 1 maxDepth (run .depth) depth in
       record {
         statement = omega (arith, arrays .statementSize);
         places = omega (arith, arrays .placesSize);
+        edition = range-of 1 maxEdition (run .edition) known;
         depth = (omega (arith, range .0), omega (arith, range .1));
         memory = omega (arith, ltb-false (min (run .depth) maxMemory) (run .memory) memory);
         made = omega (arith, ltb-false (nodesIn (run .depth)) (run .made) made);
@@ -66,7 +69,8 @@ module _ (run : Run) (arrays : HasArrays run) (can : noSuchRun (run .depth) (run
   unfolding tidied
   tidy-unused tidy =
       let size : ℕ = heldLength (run .depth) (run .made) in
-      let bounds : Possible (run .depth) (run .memory) (run .made) = possible (run .depth) (run .memory) (run .made) can in
+      let bounds : Possible (run .edition) (run .depth) (run .memory) (run .made) =
+      possible (run .edition) (run .depth) (run .memory) (run .made) can in
       ap (λ (r : Run). drop size (r .held)) (sym tidy)
       ∙ drop-at (take size (run .held)) _ size
       (length-take-le size (run .held) (held-inside run arrays (bounds .depth) (bounds .made-few)))
@@ -76,10 +80,11 @@ module _ (run : Run) (can : PossibleRun run) where
   arrays-of : HasArrays run
   arrays-of = has-arrays run (can .statement) (can .places)
 
-  such-run : noSuchRun (run .depth) (run .memory) (run .made) ≡ false
+  such-run : noSuchRun (run .edition) (run .depth) (run .memory) (run .made) ≡ false
   unfolding nodesIn
   such-run =
       rw (
+        within 1 maxEdition (run .edition) (can .edition),
         within 1 maxDepth (run .depth) (omega (arith, can .depth .0), omega (arith, can .depth .1)),
         le-ltb (min (run .depth) maxMemory) (run .memory) (omega (arith, can .memory)),
         le-ltb (nodesIn (run .depth)) (run .made) (omega (arith, can .made)),
@@ -114,6 +119,7 @@ module _ (run : Run) (can : PossibleRun run) where
       record {
         accepted = done;
         statement = ap (λ (r : Run). r .statement) back;
+        edition = ap (λ (r : Run). r .edition) back;
         numbers = (ap (λ (r : Run). r .depth) back, ap (λ (r : Run). r .memory) back, ap (λ (r : Run). r .made) back);
         held = ap (λ (r : Run). r .held) back;
         whole = λ unused. back ∙ unused-tidy run unused;
@@ -123,21 +129,21 @@ module _ (run : Run) (can : PossibleRun run) where
 record-finished :
     (run : Run) → run .made ≡ nodesIn (run .depth)
     → recordOf run
-    ≡ groups 2 1 ++ groups 2 (run .depth) ++ groups 2 (run .memory) ++ groups 6 (run .made) ++ run .statement ++ take 32 (run .held)
+    ≡ groups 2 (run .edition) ++ groups 2 (run .depth) ++ groups 2 (run .memory) ++ groups 6 (run .made) ++ run .statement ++ take 32 (run .held)
 unfolding recordNumbers
 record-finished = finished-record
 
 root-finished :
-    (statement : List ℕ) (n m : ℕ) (store budgets : List ℕ) → InBounds n m (length store) → nodesIn n ≤ total budgets
-    → recordOf (called (startedRun statement n m store) budgets .run)
-    ≡ groups 2 1 ++ groups 2 n ++ groups 2 m ++ groups 6 (2 ^ (n + 1) - 1) ++ statement ++ label (stampRule edition n statement) n root
-unfolding nodesIn recordNumbers
-root-finished statement n m store budgets bounds enough =
-    let s : Startable n m (length store) = startable n m (length store) bounds in
-    ap (λ (start : Stamped). recordOf (called start budgets .run)) (run-started statement n m store bounds)
-    ∙ ap (λ (end : Stamped). recordOf (end .run))
-    (calls-end runMachine (atStart statement n m store) (nodesIn n) (run-goes statement n m store s) budgets enough)
-    ∙ finished-root statement n m store (s .shallow)
+    (edition : ℕ) (statement : List ℕ) (n m : ℕ) (store budgets : List ℕ) → AnEdition edition → InBounds n m (length store)
+    → nodesIn n ≤ total budgets
+    → recordOf (called (runAtStart edition statement n m store) budgets .run)
+    ≡ groups 2 edition ++ groups 2 n ++ groups 2 m ++ groups 6 (2 ^ (n + 1) - 1) ++ statement ++ label (stampRule edition n statement) n root
+unfolding atStart nodesIn recordNumbers
+root-finished edition statement n m store budgets exists bounds enough =
+    let s : Startable edition n m (length store) = startable edition n m (length store) exists bounds in
+    ap (λ (end : Stamped). recordOf (end .run))
+    (calls-end runMachine (atStart edition statement n m store) (nodesIn n) (run-goes edition statement n m store s) budgets enough)
+    ∙ finished-root edition statement n m store (s .shallow)
 
 -- ---- what is read
 as-bytes : (bytes : List ℕ) → AreBytes bytes → (j : ℕ) → getD bytes j 0 < 256
@@ -156,9 +162,9 @@ one-record : (a b : List ℕ) → AreBytes a → AreBytes b → resumeRow a ≡ 
 one-record a b small-a small-b done-a done-b e =
     sym (read-record a small-a done-a .0) ∙ ap recordOf e ∙ read-record b small-b done-b .0
 
-level-four : (bytes : List ℕ) (n m made at : ℕ) → numbersOf bytes ≡ numbers n m made at → min n maxMemory < m → resumeRow bytes ≡ 4
+level-four : (bytes : List ℕ) (e n m made at : ℕ) → numbersOf bytes ≡ numbers e n m made at → min n maxMemory < m → resumeRow bytes ≡ 4
 unfolding resumeRow restRow
-level-four bytes n m made at e over = rw (e, level-refused n m made (nodesIn n) over)
+level-four bytes e n m made at is over = rw (is, level-refused e n m made (nodesIn n) over)
 
 -- ---- pauses
 module _ (s : Stamped) (can : Continuable s) (portions : List (List ℕ)) where
@@ -202,11 +208,12 @@ module _ (s : Stamped) (can : Continuable s) (portions : List (List ℕ)) where
       }
 
 paused-from-start :
-    (statement : List ℕ) (n m : ℕ) (store : List ℕ) (portions : List (List ℕ)) → length statement ≡ 32 → InBounds n m (length store)
-    → calledPausing (startedRun statement n m store) portions ≡ called (startedRun statement n m store) (joined portions)
-paused-from-start statement n m store portions size bounds =
-    rw (run-started statement n m store bounds)
-    (pausing-start statement n m store (startable n m (length store) bounds) (omega (arith, size)) portions)
+    (edition : ℕ) (statement : List ℕ) (n m : ℕ) (store : List ℕ) (portions : List (List ℕ)) → AnEdition edition → length statement ≡ 32
+    → InBounds n m (length store)
+    → calledPausing (runAtStart edition statement n m store) portions ≡ called (runAtStart edition statement n m store) (joined portions)
+unfolding atStart
+paused-from-start edition statement n m store portions exists size bounds =
+    pausing-start edition statement n m store (startable edition n m (length store) exists bounds) (omega (arith, size)) portions
 
 pub pausing : Pausing
 unfolding nodesIn
@@ -214,14 +221,15 @@ pausing =
     record {
       recordIs = λ run out can. record-is run can out;
       finishedRecord = λ run all. record-finished run (omega (arith, all));
-      finishedRoot = λ statement n m store budgets bounds enough. root-finished statement n m store budgets bounds (omega (arith, enough));
-      longestMet = λ statement places m a b low.
-          omega (arith, longest-record statement places m (omega (arith, a)) (omega (arith, b)) (omega (arith, low)));
+      finishedRoot = λ edition statement n m store budgets exists bounds enough.
+          root-finished edition statement n m store budgets exists bounds (omega (arith, enough));
+      longestMet = λ edition statement places m exists a b low.
+          omega (arith, longest-record edition statement places m exists (omega (arith, a)) (omega (arith, b)) (omega (arith, low)));
       readBack = read-back;
       readIsRecord = read-record;
       oneRecord = one-record;
       pausedAnywhere = λ s portions statement places goes.
           paused-anywhere s (record { arrays = has-arrays (s .run) statement places; goes = goes }) portions;
       pausedFromStart = paused-from-start;
-      levelRefused = λ bytes n m made at e over. level-four bytes n m made at e (omega (arith, over));
+      levelRefused = λ bytes e n m made at is over. level-four bytes e n m made at is (omega (arith, over));
     }

@@ -20,17 +20,19 @@ use Rattle.demands.specs.Rows.{OtherByte, Unreadable}
 use Rattle.demands.specs.Demand1.{PlanningProgram, Comparing, WritingNumber}
 use Rattle.demands.proofs.Decisions.{Decides, decides-lt, decides-eq, decides-between, decides-not, decides-under, decides-either}
 use Rattle.demands.proofs.Decisions.{decides-some, is-first}
-use Rattle.demands.proofs.Checks.{depth, count, someLeaf, planning-row}
+use Rattle.demands.proofs.Checks.{exists, depth, count, someLeaf, planning-row}
 
 -- ---- comparing
-pub comparing-openings : (statement : List ℕ) (n : ℕ) (leaves openings : List ℕ) → Comparing statement n leaves openings
+pub comparing-openings :
+    (edition : ℕ) (statement : List ℕ) (n : ℕ) (leaves openings : List ℕ) → Comparing edition statement n leaves openings
 unfolding compareRow compared
-comparing-openings statement n leaves openings =
+comparing-openings edition statement n leaves openings =
     let size : ℕ = length leaves * openingSize n in
     record {
       answer =
           is-first
-          (depth n
+          (exists edition
+          ∷ depth n
           ∷ count (length leaves)
           ∷ someLeaf n leaves
           ∷ record {

@@ -9,7 +9,7 @@ use lib.Dec.{ltb, leb, eqb, lit≤}
 use lib.ListN.{length, drop}
 use borrow.Author.Tests.{eqb-true, eqb-false, ltb-true}
 use Rattle.base.specs.Choice.{pick, both}
-use Rattle.base.specs.Row.{either, otherEdition}
+use Rattle.base.specs.Row.{either, noEdition}
 use Rattle.base.proofs.RowLaws.{some-refused}
 use Rattle.groups.specs.Groups.{maxGroups}
 use Rattle.groups.specs.Reading.{Answer, value, refused, ended, readFrom, readAt, checked}
@@ -23,8 +23,8 @@ use Rattle.run_record.proofs.NumbersSteps.{by-steps}
 use Rattle.demands.specs.Rows.{Row, IsFirst, byteAt, valueAt, depthPlace, readingNumber}
 use Rattle.demands.specs.Rows.{memoryPlace, madePlace, valueWithin, behindWithin, readingRecord}
 use Rattle.demands.specs.Demand1.{answerNumber, WritingRecord, ReadingRecord}
-use Rattle.demands.proofs.Decisions.{decides-lt, decides-not, decides-eq, is-first, stays-first, passes-first}
-use Rattle.demands.proofs.Checks.{decides-impossible, impossibleRun}
+use Rattle.demands.proofs.Decisions.{decides-lt, is-first, stays-first, passes-first}
+use Rattle.demands.proofs.Checks.{decides-edition, decides-impossible, impossibleRun}
 use Rattle.demands.proofs.Files.{number-first}
 use Rattle.demands.proofs.Numbers.{reading-number}
 
@@ -116,6 +116,9 @@ module _ (bytes : List ℕ) where
   abbrev from : ℕ → Row
   from k = drop k (readingRecord bytes)
 
+  abbrev edition : ℕ
+  edition = valueAt bytes 0
+
   abbrev depth : ℕ
   depth = valueAt bytes (depthPlace bytes)
 
@@ -132,74 +135,74 @@ module _ (bytes : List ℕ) where
   answer = rowAfter (length bytes)
 
   -- 12 is answered before a byte of the depth is read
-  other-edition : otherEdition (valueAt bytes 0) ≡ true → IsFirst (from 2) 12
+  no-edition : noEdition edition ≡ true → IsFirst (from 2) 12
   unfolding readingRecord
-  other-edition e = given (omega arith) (decides-not (decides-eq (valueAt bytes 0) 1) .yes e)
+  no-edition e = given (omega arith) (decides-edition edition .yes e)
 
   edition-by :
-      (t : Bool) → otherEdition (valueAt bytes 0) ≡ t → IsFirst (from 3) (answer (depthFrom bytes (depthPlace bytes)))
-      → IsFirst (from 2) (answer (pick t (notRead 12) (depthFrom bytes (depthPlace bytes))))
+      (t : Bool) → noEdition edition ≡ t → IsFirst (from 3) (answer (depthFrom bytes edition (depthPlace bytes)))
+      → IsFirst (from 2) (answer (pick t (notRead 12) (depthFrom bytes edition (depthPlace bytes))))
   unfolding readingRecord
-  edition-by true e rest = other-edition e
-  edition-by false e rest = inr (decides-not (decides-eq (valueAt bytes 0) 1) .no e, rest)
+  edition-by true e rest = no-edition e
+  edition-by false e rest = inr (decides-edition edition .no e, rest)
 
   edition-first :
-      IsFirst (from 3) (answer (depthFrom bytes (depthPlace bytes))) → IsFirst (readingRecord bytes) (answer (numbersOf bytes))
+      IsFirst (from 3) (answer (depthFrom bytes edition (depthPlace bytes))) → IsFirst (readingRecord bytes) (answer (numbersOf bytes))
   unfolding readingRecord
   edition-first rest =
       rw (by-steps bytes)
-      (number-first (λ k. k) (λ number. answer (checked notRead number otherEdition 12 (λ e at. depthFrom bytes at))) (λ r. refl) bytes 0
-      (from 2) (edition-by (otherEdition (valueAt bytes 0)) refl rest))
+      (number-first (λ k. k) (λ number. answer (checked notRead number noEdition 12 (depthFrom bytes))) (λ r. refl) bytes 0
+      (from 2) (edition-by (noEdition edition) refl rest))
 
   depth-first :
-      IsFirst (from 5) (answer (memoryFrom bytes depth (memoryPlace bytes)))
-      → IsFirst (from 3) (answer (depthFrom bytes (depthPlace bytes)))
+      IsFirst (from 5) (answer (memoryFrom bytes edition depth (memoryPlace bytes)))
+      → IsFirst (from 3) (answer (depthFrom bytes edition (depthPlace bytes)))
   unfolding readingRecord depthFrom
   depth-first rest =
-      number-first (λ k. k) (λ number. answer (checked notRead number anyNumber 4 (λ n at. memoryFrom bytes n at))) (λ r. refl) bytes
+      number-first (λ k. k) (λ number. answer (checked notRead number anyNumber 4 (λ n at. memoryFrom bytes edition n at))) (λ r. refl) bytes
       (depthPlace bytes) (from 5) rest
 
   memory-first :
-      IsFirst (from 7) (answer (madeFrom bytes depth memory (madePlace bytes)))
-      → IsFirst (from 5) (answer (memoryFrom bytes depth (memoryPlace bytes)))
+      IsFirst (from 7) (answer (madeFrom bytes edition depth memory (madePlace bytes)))
+      → IsFirst (from 5) (answer (memoryFrom bytes edition depth (memoryPlace bytes)))
   unfolding readingRecord memoryFrom
   memory-first rest =
-      number-first (λ k. k) (λ number. answer (checked notRead number anyNumber 4 (λ m at. madeFrom bytes depth m at))) (λ r. refl) bytes
+      number-first (λ k. k) (λ number. answer (checked notRead number anyNumber 4 (λ m at. madeFrom bytes edition depth m at))) (λ r. refl) bytes
       (memoryPlace bytes) (from 7) rest
 
   made-first :
-      IsFirst (from 9) (answer (numbers depth memory made end)) → IsFirst (from 7) (answer (madeFrom bytes depth memory (madePlace bytes)))
+      IsFirst (from 9) (answer (numbers edition depth memory made end)) → IsFirst (from 7) (answer (madeFrom bytes edition depth memory (madePlace bytes)))
   unfolding readingRecord madeFrom
   made-first rest =
-      subst (λ (most : ℕ). IsFirst (readingNumber bytes (madePlace bytes) most ++ from 9) (answer (madeFrom bytes depth memory (madePlace bytes))))
+      subst (λ (most : ℕ). IsFirst (readingNumber bytes (madePlace bytes) most ++ from 9) (answer (madeFrom bytes edition depth memory (madePlace bytes))))
       (omega arith)
-      (within-first (λ number. answer (checked notRead number anyNumber 4 (λ made at. numbers depth memory made at))) (λ r. refl) bytes
+      (within-first (λ number. answer (checked notRead number anyNumber 4 (λ made at. numbers edition depth memory made at))) (λ r. refl) bytes
       (madePlace bytes) madeGroups (lit≤ tt) (from 9) rest)
 
   -- 4 is answered whatever the length is, then 18
-  no-such-run : noSuchRun depth memory made ≡ true → IsFirst (from 9) 4
+  no-such-run : noSuchRun edition depth memory made ≡ true → IsFirst (from 9) 4
   unfolding readingRecord nodesIn
-  no-such-run e = given (omega arith) (decides-impossible depth memory made (nodesIn depth) .yes e)
+  no-such-run e = given (omega arith) (decides-impossible edition depth memory made (nodesIn depth) .yes e)
 
   other-length : eqb (length bytes) (lengthFrom depth made end) ≡ false → IsFirst (from 10) 18
   unfolding readingRecord
   other-length e = given (omega arith) (λ same. eqb-false (length bytes) (lengthFrom depth made end) e (omega (arith, same)))
 
   rest-by :
-      (t u : Bool) → noSuchRun depth memory made ≡ t → eqb (length bytes) (lengthFrom depth made end) ≡ u
+      (t u : Bool) → noSuchRun edition depth memory made ≡ t → eqb (length bytes) (lengthFrom depth made end) ≡ u
       → IsFirst (from 9) (pick t 4 (pick (not u) 18 0))
   unfolding readingRecord nodesIn
   rest-by true u e f = no-such-run e
-  rest-by false false e f = inr (decides-impossible depth memory made (nodesIn depth) .no e, other-length f)
+  rest-by false false e f = inr (decides-impossible edition depth memory made (nodesIn depth) .no e, other-length f)
   rest-by false true e f =
       inr (
-        decides-impossible depth memory made (nodesIn depth) .no e,
+        decides-impossible edition depth memory made (nodesIn depth) .no e,
         inr (λ other. other (omega (arith, eqb-true (length bytes) (lengthFrom depth made end) f)), refl),
       )
 
-  rest-first : IsFirst (from 9) (answer (numbers depth memory made end))
+  rest-first : IsFirst (from 9) (answer (numbers edition depth memory made end))
   unfolding restRow
-  rest-first = rest-by (noSuchRun depth memory made) (eqb (length bytes) (lengthFrom depth made end)) refl refl
+  rest-first = rest-by (noSuchRun edition depth memory made) (eqb (length bytes) (lengthFrom depth made end)) refl refl
 
   row-first : IsFirst (readingRecord bytes) (resumeRow bytes)
   unfolding resumeRow

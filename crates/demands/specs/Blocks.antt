@@ -5,7 +5,6 @@ use Prim.Native.Nat.{ℕ, _+_, _-_, _*_, _/_, _^_, _≤_, _<_, min}
 use mathlib.Core.List.{List, [], map, flatten}
 use lib.Count.{ones}
 use lib.ListN.{length, take}
-use Rattle.base.specs.Limits.{edition}
 use Rattle.compression.specs.Constants.{initial}
 use Rattle.sha256.specs.declared.Hash.{Hash}
 use Rattle.sha256.specs.Padding.{padding, padded}
@@ -31,7 +30,7 @@ use Rattle.writing.specs.Rows.{rewriteRow}
 use Rattle.writing.specs.Steps as writings
 use Rattle.writing.specs.Possible.{writtenOf}
 use Rattle.block_theory.specs.Sums.{blocksSum, nextNodes, nextNodesAnew, fileNodes, fileBlocks, reportedBlocks, reportedBlocksAnew, reportedBlocksWritten}
-use Rattle.demands.specs.Demand1.{InBounds, startedRun, startedOpening, startedFile}
+use Rattle.demands.specs.Demand1.{AnEdition, InBounds, runAtStart, startedOpening, startedFile}
 
 -- ---- 'Hashing a message answers with the 64-byte blocks it compressed ..'
 pub record MessageBlocks (message : List ℕ) : Type 0 where
@@ -86,7 +85,7 @@ pub record Blocks : Type 0 where
   pub refusedMessage : (message : List ℕ) → 1 ≤ digestRow message → digestBlocks message ≡ 0
   -- a node's blocks are those of hashing its input over its parents' labels
   pub nodeInput :
-      (statement : List ℕ) (n : ℕ) (v : Node) → length statement ≡ 32 → InTree n v
+      (edition : ℕ) (statement : List ℕ) (n : ℕ) (v : Node) → length statement ≡ 32 → InTree n v
       → blocksHashed (documentInput edition n statement v (map (label (stampRule edition n statement) n) (parents n v))) ≡ nodeBlocks n v
   -- 'An inner node costs 2, a leaf without parents 1, the dearest leaf 21.'
   pub inner : (n : ℕ) (v : Node) → v .level < n → nodeBlocks n v ≡ 2
@@ -119,27 +118,31 @@ pub record Blocks : Type 0 where
       → NoneReported (writings.labelsIn store (writtenOf w file) budget) (writings.blocksIn store (writtenOf w file) budget)
   -- from a start, any list of budgets: the sum over the first k nodes in labelling order
   pub fromStart :
-      (statement : List ℕ) (n m : ℕ) (store budgets : List ℕ) → length statement ≡ 32 → InBounds n m (length store)
-      → reportedBlocks (startedRun statement n m store) budgets ≡ blocksSum n (nextNodes n 0 (min (total budgets) (2 ^ (n + 1) - 1)))
+      (edition : ℕ) (statement : List ℕ) (n m : ℕ) (store budgets : List ℕ) → AnEdition edition → length statement ≡ 32
+      → InBounds n m (length store)
+      → reportedBlocks (runAtStart edition statement n m store) budgets ≡ blocksSum n (nextNodes n 0 (min (total budgets) (2 ^ (n + 1) - 1)))
   -- for a whole run 4 × (blocks + 2) = (n + 13) × 2^n
   pub wholeRun :
-      (statement : List ℕ) (n m : ℕ) (store budgets : List ℕ) → length statement ≡ 32 → InBounds n m (length store)
-      → 2 ^ (n + 1) - 1 ≤ total budgets → 4 * (reportedBlocks (startedRun statement n m store) budgets + 2) ≡ (n + 13) * 2 ^ n
+      (edition : ℕ) (statement : List ℕ) (n m : ℕ) (store budgets : List ℕ) → AnEdition edition → length statement ≡ 32
+      → InBounds n m (length store)
+      → 2 ^ (n + 1) - 1 ≤ total budgets → 4 * (reportedBlocks (runAtStart edition statement n m store) budgets + 2) ≡ (n + 13) * 2 ^ n
   -- for a whole opening below level m 4 × (blocks + 4) = (2 × left siblings on levels 1 to m + n − m + 13) × 2^(n−m), whatever the store holds
   pub wholeOpening :
-      (statement : List ℕ) (n m leaf : ℕ) (store out budgets : List ℕ) → length statement ≡ 32 → InBounds n m (length store) → m < n
-      → leaf < 2 ^ n → 32 * (n + 1) ≤ length out → 2 ^ (n - m + 1) - 2 ≤ total budgets
-      → 4 * (reportedBlocksAnew store (startedOpening statement n m leaf store out) budgets + 4)
+      (edition : ℕ) (statement : List ℕ) (n m leaf : ℕ) (store out budgets : List ℕ) → AnEdition edition → length statement ≡ 32
+      → InBounds n m (length store) → m < n → leaf < 2 ^ n → 32 * (n + 1) ≤ length out → 2 ^ (n - m + 1) - 2 ≤ total budgets
+      → 4 * (reportedBlocksAnew store (startedOpening edition statement n m leaf store out) budgets + 4)
       ≡ (2 * ones (leaf / 2 ^ (n - m)) + (n - m) + 13) * 2 ^ (n - m)
   -- a file from a start, any list of budgets: the sum over the first k nodes of its openings, one opening after another, whatever the
   -- store holds
   pub fileFromStart :
-      (statement root : List ℕ) (n m t : ℕ) (store file budgets : List ℕ) → length statement ≡ 32 → length root ≡ 32
+      (edition : ℕ) (statement root : List ℕ) (n m t : ℕ) (store file budgets : List ℕ) → AnEdition edition → length statement ≡ 32
+      → length root ≡ 32
       → InBounds n m (length store) → (1 ≤ t) × (t ≤ 200) → fileSize n t ≤ length file
-      → reportedBlocksWritten store (startedFile statement root n m t store file) budgets
+      → reportedBlocksWritten store (startedFile edition statement root n m t store file) budgets
       ≡ blocksSum n (take (min (total budgets) (t * (2 ^ (n - m + 1) - 2))) (fileNodes edition statement root n m t))
   -- for a whole file all of them
   pub wholeFile :
-      (statement root : List ℕ) (n m t : ℕ) (store file budgets : List ℕ) → length statement ≡ 32 → length root ≡ 32
+      (edition : ℕ) (statement root : List ℕ) (n m t : ℕ) (store file budgets : List ℕ) → AnEdition edition → length statement ≡ 32
+      → length root ≡ 32
       → InBounds n m (length store) → (1 ≤ t) × (t ≤ 200) → fileSize n t ≤ length file → t * (2 ^ (n - m + 1) - 2) ≤ total budgets
-      → reportedBlocksWritten store (startedFile statement root n m t store file) budgets ≡ fileBlocks edition statement root n m t
+      → reportedBlocksWritten store (startedFile edition statement root n m t store file) budgets ≡ fileBlocks edition statement root n m t

@@ -4,7 +4,6 @@ use mathlib.Core.Logic.{_⊎_}
 use Prim.Native.Nat.{ℕ, _+_, _-_, _*_, _^_, _≤_, _<_, min}
 use mathlib.Core.List.{List, _++_}
 use lib.ListN.{length, getD, drop}
-use Rattle.base.specs.Limits.{edition}
 use Rattle.base.specs.Bytes.{zeros}
 use Rattle.sha256.specs.declared.Hash.{Hash}
 use Rattle.sha256.specs.Portions.{updateRow, updateState, finishRow, finishDigest, finishState, digestRow, digestAnswer}
@@ -55,16 +54,24 @@ pub record CarriedOut {S : Type 0} (row : S → ℕ) (labels : S → ℕ → ℕ
   pub made : (budgets : List ℕ) → labelsOver call labels start budgets ≡ min (total budgets) all
   pub next : (budgets : List ℕ) (budget : ℕ) → labels (afterCalls call start budgets) budget ≡ min budget (all - min (total budgets) all)
 
+-- an edition that exists
+abbrev pub AnEdition : ℕ → Type 0
+AnEdition edition = (1 ≤ edition) × (edition ≤ 2)
+
+-- a run of an edition with no label made, with its store
+abbrev pub runAtStart : ℕ → List ℕ → ℕ → ℕ → List ℕ → Stamped
+runAtStart edition statement n m store = stamped (runs.newRun edition statement n m) store
+
 -- a run, an opening and a file as their starts give them, each with the bytes lent to it
 abbrev pub startedRun : List ℕ → ℕ → ℕ → List ℕ → Stamped
 startedRun statement n m store = stamped (runs.started statement n m (length store)) store
 
-abbrev pub startedOpening : List ℕ → ℕ → ℕ → ℕ → List ℕ → List ℕ → Open
-startedOpening statement n m leaf store out =
-    openOf (openings.started statement n m leaf (length store) (length out)) (openings.startedOut n m leaf store out)
+abbrev pub startedOpening : ℕ → List ℕ → ℕ → ℕ → ℕ → List ℕ → List ℕ → Open
+startedOpening edition statement n m leaf store out =
+    openOf (openings.started edition statement n m leaf (length store) (length out)) (openings.startedOut edition n m leaf store out)
 
-abbrev pub startedFile : List ℕ → List ℕ → ℕ → ℕ → ℕ → List ℕ → List ℕ → Written
-startedFile statement root n m t store file = writings.started statement root n m t store file
+abbrev pub startedFile : ℕ → List ℕ → List ℕ → ℕ → ℕ → ℕ → List ℕ → List ℕ → Written
+startedFile edition statement root n m t store file = writings.started edition statement root n m t store file
 
 -- a depth, with a memory level that it allows and a store for it
 pub record InBounds (n m store : ℕ) : Type 0 where
@@ -72,26 +79,27 @@ pub record InBounds (n m store : ℕ) : Type 0 where
   pub memory : m ≤ min n 14
   pub room : 32 * (2 ^ (m + 1) - 1) ≤ store
 
--- the run labels all 2^(n+1) − 1 nodes
-pub record LabellingEnds (statement : List ℕ) (n m : ℕ) (store : List ℕ) : Type 0 where
-  pub starts : startRow n m (length store) ≡ 0
+-- A run of either edition labels all 2^(n+1) − 1 nodes. One that is started is of edition 2 (W-206: 'New runs write 2').
+pub record LabellingEnds (edition : ℕ) (statement : List ℕ) (n m : ℕ) (store : List ℕ) : Type 0 where
+  pub starts : (startRow n m (length store) ≡ 0) × (startedRun statement n m store ≡ runAtStart 2 statement n m store)
   pub ends :
-      CarriedOut (λ s. continueRow (s .run) (length (s .store))) runs.labelsIn runs.advanced (startedRun statement n m store) (2 ^ (n + 1) - 1)
+      CarriedOut (λ s. continueRow (s .run) (length (s .store))) runs.labelsIn runs.advanced (runAtStart edition statement n m store)
+      (2 ^ (n + 1) - 1)
 
 -- the opening labels the 2^(n−m+1) − 2 nodes strictly below the leaf's ancestor on level m, whatever the store holds
-pub record OpeningEnds (statement : List ℕ) (n m leaf : ℕ) (store out : List ℕ) : Type 0 where
-  pub starts : openRow n m leaf (length store) (length out) ≡ 0
+pub record OpeningEnds (edition : ℕ) (statement : List ℕ) (n m leaf : ℕ) (store out : List ℕ) : Type 0 where
+  pub starts : openRow edition n m leaf (length store) (length out) ≡ 0
   pub ends :
       CarriedOut (λ s. reopenRow (s .opening) (length store) (length (s .out))) (openings.labelsIn store) (openings.advanced store)
-      (startedOpening statement n m leaf store out)
+      (startedOpening edition statement n m leaf store out)
       (2 ^ (n - m + 1) - 2)
 
 -- '.. 1..200 challenges': the file labels these of each of its t openings, whatever the store and the root are
-pub record WritingEnds (statement root : List ℕ) (n m t : ℕ) (store file : List ℕ) : Type 0 where
-  pub starts : writeRow n m t (length store) (length file) ≡ 0
+pub record WritingEnds (edition : ℕ) (statement root : List ℕ) (n m t : ℕ) (store file : List ℕ) : Type 0 where
+  pub starts : writeRow edition n m t (length store) (length file) ≡ 0
   pub ends :
       CarriedOut (λ s. rewriteRow (s .writing) (length store) (length (s .file))) (writings.labelsIn store) (writings.advanced store)
-      (startedFile statement root n m t store file)
+      (startedFile edition statement root n m t store file)
       (t * (2 ^ (n - m + 1) - 2))
 
 -- ---- 'Any call that fails a check of document 01, over all possible bytes and states, gets the number of the first one, and no lent
@@ -126,12 +134,13 @@ pub record ContinuingRun (run : Run) (store : List ℕ) (budget : ℕ) : Type 0 
       (budget ≡ 0) ⊎ (2 ^ (run .depth + 1) - 1 ≤ run .made)
       → (runs.labelsIn (stamped run store) budget ≡ 0) × (runs.advanced (stamped run store) budget ≡ stamped run store)
 
-pub record StartingOpening (statement : List ℕ) (n m leaf : ℕ) (store out : List ℕ) : Type 0 where
+pub record StartingOpening (edition : ℕ) (statement : List ℕ) (n m leaf : ℕ) (store out : List ℕ) : Type 0 where
   pub answer :
-      IsFirst (startingOpening n m leaf (length store) (length out)) (openRow n m leaf (length store) (length out))
+      IsFirst (startingOpening edition n m leaf (length store) (length out)) (openRow edition n m leaf (length store) (length out))
   pub refused :
-      1 ≤ openRow n m leaf (length store) (length out)
-      → (openings.started statement n m leaf (length store) (length out) ≡ noOpening) × (openings.startedOut n m leaf store out ≡ out)
+      1 ≤ openRow edition n m leaf (length store) (length out)
+      → (openings.started edition statement n m leaf (length store) (length out) ≡ noOpening)
+      × (openings.startedOut edition n m leaf store out ≡ out)
 
 pub record ContinuingOpening (o : Opening) (store out : List ℕ) (budget : ℕ) : Type 0 where
   pub answer : IsFirst (continuingOpening o (length store) (length out)) (reopenRow o (length store) (length out))
@@ -142,23 +151,23 @@ pub record ContinuingOpening (o : Opening) (store out : List ℕ) (budget : ℕ)
       (budget ≡ 0) ⊎ (2 ^ (o .depth - o .memory + 1) - 2 ≤ o .made)
       → (openings.labelsIn store (openOf o out) budget ≡ 0) × (openings.advanced store (openOf o out) budget ≡ openOf o out)
 
-pub record AChallenge (n : ℕ) (statement root : List ℕ) (i : ℕ) : Type 0 where
-  pub answer : IsFirst (aChallenge n i) (challengeRow n i)
-  pub refused : 1 ≤ challengeRow n i → challenged edition n statement root i ≡ 0
+pub record AChallenge (edition n : ℕ) (statement root : List ℕ) (i : ℕ) : Type 0 where
+  pub answer : IsFirst (aChallenge edition n i) (challengeRow edition n i)
+  pub refused : 1 ≤ challengeRow edition n i → challenged edition n statement root i ≡ 0
 
-pub record WritingHead (statement root : List ℕ) (n t : ℕ) (out : List ℕ) : Type 0 where
-  pub answer : IsFirst (writingHead n t (length out)) (headRow n t (length out))
-  pub refused : 1 ≤ headRow n t (length out) → headWritten edition statement root n t out ≡ out
+pub record WritingHead (edition : ℕ) (statement root : List ℕ) (n t : ℕ) (out : List ℕ) : Type 0 where
+  pub answer : IsFirst (writingHead edition n t (length out)) (headRow edition n t (length out))
+  pub refused : 1 ≤ headRow edition n t (length out) → headWritten edition statement root n t out ≡ out
 
 -- checking lends nothing to write to
-abbrev pub OneOpening : List ℕ → ℕ → ℕ → List ℕ → List ℕ → Type 0
-OneOpening statement n leaf root bytes =
-    IsFirst (oneOpening statement n leaf root bytes) (openingRow edition statement n leaf root bytes)
+abbrev pub OneOpening : ℕ → List ℕ → ℕ → ℕ → List ℕ → List ℕ → Type 0
+OneOpening edition statement n leaf root bytes =
+    IsFirst (oneOpening edition statement n leaf root bytes) (openingRow edition statement n leaf root bytes)
 
 -- a head's refusal, 0 if its numbers are read
 abbrev pub headNumber : HeadAnswer → ℕ
 headNumber (notRead number) = number
-headNumber (read.numbers n t at) = 0
+headNumber (read.numbers e n t at) = 0
 
 abbrev pub AHead : List ℕ → Type 0
 AHead bytes = IsFirst (aHead bytes) (headNumber (headOf bytes))
@@ -199,9 +208,9 @@ pub record PlanningProgram (input : List ℕ) : Type 0 where
       ++ nodesText (chain (getD (numbers input) 0 0) (drop 1 (numbers input)))
 
 -- comparing lends nothing to write to
-pub record Comparing (statement : List ℕ) (n : ℕ) (leaves openings : List ℕ) : Type 0 where
-  pub answer : IsFirst (comparing n leaves (length openings)) (compareRow n leaves (length openings))
-  pub refused : 1 ≤ compareRow n leaves (length openings) → compared edition statement n leaves openings ≡ Agree
+pub record Comparing (edition : ℕ) (statement : List ℕ) (n : ℕ) (leaves openings : List ℕ) : Type 0 where
+  pub answer : IsFirst (comparing edition n leaves (length openings)) (compareRow edition n leaves (length openings))
+  pub refused : 1 ≤ compareRow edition n leaves (length openings) → compared edition statement n leaves openings ≡ Agree
 
 pub record WritingNumber (out : List ℕ) (at x : ℕ) : Type 0 where
   pub answer : IsFirst (writingNumber out at x) (putRow out at x)
@@ -216,11 +225,11 @@ answerNumber (refused r) = r
 pub record ReadingNumber (bytes : List ℕ) (at most : ℕ) : Type 0 where
   pub answer : IsFirst (readingNumber bytes at (min most 10)) (answerNumber (readAt bytes at (min most maxGroups)))
 
-pub record StartingFile (statement root : List ℕ) (n m t : ℕ) (store file : List ℕ) : Type 0 where
-  pub answer : IsFirst (startingFile n m t (length store) (length file)) (writeRow n m t (length store) (length file))
+pub record StartingFile (edition : ℕ) (statement root : List ℕ) (n m t : ℕ) (store file : List ℕ) : Type 0 where
+  pub answer : IsFirst (startingFile edition n m t (length store) (length file)) (writeRow edition n m t (length store) (length file))
   pub refused :
-      1 ≤ writeRow n m t (length store) (length file)
-      → startedFile statement root n m t store file ≡ record { writing = noWriting; file = file }
+      1 ≤ writeRow edition n m t (length store) (length file)
+      → startedFile edition statement root n m t store file ≡ record { writing = noWriting; file = file }
 
 pub record ContinuingFile (w : Writing) (store file : List ℕ) (budget : ℕ) : Type 0 where
   pub answer : IsFirst (continuingFile w (length store) (length file)) (rewriteRow w (length store) (length file))
@@ -241,35 +250,40 @@ pub record ReadingRecord (bytes : List ℕ) : Type 0 where
 
 -- ---- the demand
 pub record Demand1 : Type 0 where
-  pub labellingEnds : (statement : List ℕ) (n m : ℕ) (store : List ℕ) → InBounds n m (length store) → LabellingEnds statement n m store
+  pub labellingEnds :
+      (edition : ℕ) (statement : List ℕ) (n m : ℕ) (store : List ℕ) → AnEdition edition → InBounds n m (length store)
+      → LabellingEnds edition statement n m store
   pub openingEnds :
-      (statement : List ℕ) (n m leaf : ℕ) (store out : List ℕ) → InBounds n m (length store) → leaf < 2 ^ n → 32 * (n + 1) ≤ length out
-      → OpeningEnds statement n m leaf store out
+      (edition : ℕ) (statement : List ℕ) (n m leaf : ℕ) (store out : List ℕ) → AnEdition edition → InBounds n m (length store)
+      → leaf < 2 ^ n → 32 * (n + 1) ≤ length out → OpeningEnds edition statement n m leaf store out
   pub writingEnds :
-      (statement root : List ℕ) (n m t : ℕ) (store file : List ℕ) → length statement ≡ 32 → length root ≡ 32
-      → InBounds n m (length store) → (1 ≤ t) × (t ≤ 200) → fileSize n t ≤ length file
-      → WritingEnds statement root n m t store file
+      (edition : ℕ) (statement root : List ℕ) (n m t : ℕ) (store file : List ℕ) → AnEdition edition → length statement ≡ 32
+      → length root ≡ 32 → InBounds n m (length store) → (1 ≤ t) × (t ≤ 200) → fileSize n t ≤ length file
+      → WritingEnds edition statement root n m t store file
   pub hashingPortion : (s : Hash) (part : List ℕ) → HashingPortion s part
   pub hashingEnd : (s : Hash) → HashingEnd s
   pub hashingWhole : (message : List ℕ) → HashingWhole message
   pub startingRun : (statement : List ℕ) (n m store : ℕ) → StartingRun statement n m store
   pub continuingRun : (run : Run) (store : List ℕ) (budget : ℕ) → ContinuingRun run store budget
-  pub startingOpening : (statement : List ℕ) (n m leaf : ℕ) (store out : List ℕ) → StartingOpening statement n m leaf store out
+  pub startingOpening :
+      (edition : ℕ) (statement : List ℕ) (n m leaf : ℕ) (store out : List ℕ) → StartingOpening edition statement n m leaf store out
   pub continuingOpening : (o : Opening) (store out : List ℕ) (budget : ℕ) → ContinuingOpening o store out budget
-  pub challenge : (n : ℕ) (statement root : List ℕ) (i : ℕ) → AChallenge n statement root i
-  pub writingHead : (statement root : List ℕ) (n t : ℕ) (out : List ℕ) → WritingHead statement root n t out
-  pub oneOpening : (statement : List ℕ) (n leaf : ℕ) (root bytes : List ℕ) → OneOpening statement n leaf root bytes
+  pub challenge : (edition n : ℕ) (statement root : List ℕ) (i : ℕ) → AChallenge edition n statement root i
+  pub writingHead : (edition : ℕ) (statement root : List ℕ) (n t : ℕ) (out : List ℕ) → WritingHead edition statement root n t out
+  pub oneOpening :
+      (edition : ℕ) (statement : List ℕ) (n leaf : ℕ) (root bytes : List ℕ) → OneOpening edition statement n leaf root bytes
   pub head : (bytes : List ℕ) → AHead bytes
   pub file : (bytes statement : List ℕ) (n t : ℕ) → AFile bytes statement n t
   pub planningChain : (n : ℕ) (leaves list : List ℕ) → PlanningChain n leaves list
   pub drawingChain :
       (bytes statement : List ℕ) (n t : ℕ) (list : List ℕ) → ((j : ℕ) → getD bytes j 0 < 256) → DrawingChain bytes statement n t list
   pub planningProgram : (input : List ℕ) → PlanningProgram input
-  pub comparing : (statement : List ℕ) (n : ℕ) (leaves openings : List ℕ) → Comparing statement n leaves openings
+  pub comparing :
+      (edition : ℕ) (statement : List ℕ) (n : ℕ) (leaves openings : List ℕ) → Comparing edition statement n leaves openings
   pub readingNumber : (bytes : List ℕ) (at most : ℕ) → ReadingNumber bytes at most
   pub writingNumber : (out : List ℕ) (at x : ℕ) → WritingNumber out at x
   pub startingFile :
-      (statement root : List ℕ) (n m t : ℕ) (store file : List ℕ) → StartingFile statement root n m t store file
+      (edition : ℕ) (statement root : List ℕ) (n m t : ℕ) (store file : List ℕ) → StartingFile edition statement root n m t store file
   pub continuingFile : (w : Writing) (store file : List ℕ) (budget : ℕ) → ContinuingFile w store file budget
   pub writingRecord : (run : Run) (out : List ℕ) → WritingRecord run out
   pub readingRecord : (bytes : List ℕ) → ReadingRecord bytes

@@ -20,7 +20,7 @@ use Rattle.writing.specs.Rows.{writeRow}
 use Rattle.compare.specs.Comparison.{compareRow}
 use Rattle.draw.specs.Drawing.{drawnChain, drawingOf}
 use Rattle.demands.specs.Rows.{Unreadable}
-use Rattle.demands.specs.Demand1.{InBounds}
+use Rattle.demands.specs.Demand1.{AnEdition, InBounds}
 
 -- 'Planning from an empty leaf list now gives count 0 and an empty list': every place keeps what it had, and 0 places are enough
 pub record PlannedEmpty (n : ℕ) (list : List ℕ) : Type 0 where
@@ -35,12 +35,12 @@ pub record WholeTree (n : ℕ) : Type 0 where
   pub single : (v : Node) → InTree n v → isLargestEmpty n [] v ≡ true → v ≡ root
   pub counted : largestEmpty n [] ≡ 1
 
--- 'a proof of 0 challenges is still refused', and 0 openings are not compared
-pub record NoProof (n : ℕ) : Type 0 where
-  pub challenge : challengeRow n 0 ≡ 8
-  pub head : (out : ℕ) → headRow n 0 out ≡ 8
-  pub writing : (m store out : ℕ) → InBounds n m store → writeRow n m 0 store out ≡ 8
-  pub comparing : (size : ℕ) → compareRow n [] size ≡ 8
+-- 'a proof of 0 challenges is still refused', and 0 openings are not compared, in every edition that exists
+pub record NoProof (edition n : ℕ) : Type 0 where
+  pub challenge : challengeRow edition n 0 ≡ 8
+  pub head : (out : ℕ) → headRow edition n 0 out ≡ 8
+  pub writing : (m store out : ℕ) → InBounds n m store → writeRow edition n m 0 store out ≡ 8
+  pub comparing : (size : ℕ) → compareRow edition n [] size ≡ 8
 
 -- ---- the request
 pub record EmptyPlan : Type 0 where
@@ -57,8 +57,8 @@ pub record EmptyPlan : Type 0 where
       → plannedCount n leaves list + 1 ≡ 2 * leavesOpened leaves + largestEmpty n leaves
   -- 'Planning refuses with 8 only above 200 leaves'
   pub eight : (n : ℕ) (leaves : List ℕ) (list : ℕ) → (1 ≤ n) × (n ≤ 40) → planRow n leaves list ≡ 8 ↔ (200 < length leaves)
-  pub noProof : (n : ℕ) → (1 ≤ n) × (n ≤ 40) → NoProof n
-  pub noHead : (bytes : List ℕ) (n at : ℕ) → ((j : ℕ) → getD bytes j 0 < 256) → headOf bytes ≡ read.numbers n 0 at → ⊥
+  pub noProof : (edition n : ℕ) → AnEdition edition → (1 ≤ n) × (n ≤ 40) → NoProof edition n
+  pub noHead : (bytes : List ℕ) (e n at : ℕ) → ((j : ℕ) → getD bytes j 0 < 256) → headOf bytes ≡ read.numbers e n 0 at → ⊥
   pub noFile : (bytes statement : List ℕ) (n : ℕ) → ((j : ℕ) → getD bytes j 0 < 256) → fileCheck bytes statement n 0 ≡ 0 → ⊥
   pub noChain :
       (bytes statement : List ℕ) (n list count : ℕ) → ((j : ℕ) → getD bytes j 0 < 256)

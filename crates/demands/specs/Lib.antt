@@ -6,3 +6,4 @@ pub mod EmptyPlan
 pub mod MemoryLimit
 pub mod Pausing
 pub mod Blocks
+pub mod Editions

@@ -3,7 +3,6 @@ use mathlib.Core.Path.{_≡_}
 use Prim.Native.Nat.{ℕ, _+_, _-_, _*_, _^_, _≤_, _<_, min}
 use mathlib.Core.List.{List, _++_}
 use lib.ListN.{length, take, drop, getD}
-use Rattle.base.specs.Limits.{edition}
 use Rattle.base.specs.Bytes.{zeros, joined}
 use Rattle.machine.specs.Calls.{total}
 use Rattle.groups.specs.Groups.{groups}
@@ -18,7 +17,7 @@ use Rattle.run_theory.specs.Runs.{called, reported}
 use Rattle.run_record.specs.Layout.{recordOf, recordSize, recordWritten}
 use Rattle.run_record.specs.Reading.{numbers, numbersOf, resumeRow, resumed}
 use Rattle.run_record_theory.specs.Pausing.{calledPausing, reportedPausing}
-use Rattle.demands.specs.Demand1.{InBounds, startedRun}
+use Rattle.demands.specs.Demand1.{AnEdition, InBounds, runAtStart}
 
 -- any bytes
 abbrev pub AreBytes : List ℕ → Type 0
@@ -28,6 +27,7 @@ AreBytes bytes = (j : ℕ) → getD bytes j 0 < 256
 pub record PossibleRun (run : Run) : Type 0 where
   pub statement : length (run .statement) ≡ 32
   pub places : length (run .held) ≡ 1312
+  pub edition : AnEdition (run .edition)
   pub depth : (1 ≤ run .depth) × (run .depth ≤ 40)
   pub memory : run .memory ≤ min (run .depth) 14
   pub made : run .made ≤ 2 ^ (run .depth + 1) - 1
@@ -41,7 +41,7 @@ UnusedZero run = let size : ℕ = 32 * length (held (run .depth) (run .made)) in
 pub record RecordIs (run : Run) (out : List ℕ) : Type 0 where
   pub layout :
       recordOf run
-      ≡ groups 2 1 ++ groups 2 (run .depth) ++ groups 2 (run .memory) ++ groups 6 (run .made) ++ run .statement
+      ≡ groups 2 (run .edition) ++ groups 2 (run .depth) ++ groups 2 (run .memory) ++ groups 6 (run .made) ++ run .statement
       ++ take (32 * length (held (run .depth) (run .made))) (run .held)
   -- it is what is written, where it fits, with its length, and no other byte is touched
   pub written : length (recordOf run) ≤ length out → recordWritten run out ≡ recordOf run ++ drop (length (recordOf run)) out
@@ -52,6 +52,7 @@ pub record RecordIs (run : Run) (out : List ℕ) : Type 0 where
 pub record ReadBack (run : Run) : Type 0 where
   pub accepted : resumeRow (recordOf run) ≡ 0
   pub statement : resumed (recordOf run) .statement ≡ run .statement
+  pub edition : resumed (recordOf run) .edition ≡ run .edition
   pub numbers :
       (resumed (recordOf run) .depth ≡ run .depth) × (resumed (recordOf run) .memory ≡ run .memory) × (resumed (recordOf run) .made ≡ run .made)
   pub held :
@@ -80,15 +81,16 @@ pub record Pausing : Type 0 where
   pub finishedRecord :
       (run : Run) → run .made ≡ 2 ^ (run .depth + 1) - 1
       → recordOf run
-      ≡ groups 2 1 ++ groups 2 (run .depth) ++ groups 2 (run .memory) ++ groups 6 (run .made) ++ run .statement ++ take 32 (run .held)
+      ≡ groups 2 (run .edition) ++ groups 2 (run .depth) ++ groups 2 (run .memory) ++ groups 6 (run .made) ++ run .statement ++ take 32 (run .held)
   pub finishedRoot :
-      (statement : List ℕ) (n m : ℕ) (store budgets : List ℕ) → InBounds n m (length store) → 2 ^ (n + 1) - 1 ≤ total budgets
-      → recordOf (called (startedRun statement n m store) budgets .run)
-      ≡ groups 2 1 ++ groups 2 n ++ groups 2 m ++ groups 6 (2 ^ (n + 1) - 1) ++ statement ++ label (stampRule edition n statement) n root
+      (edition : ℕ) (statement : List ℕ) (n m : ℕ) (store budgets : List ℕ) → AnEdition edition → InBounds n m (length store)
+      → 2 ^ (n + 1) - 1 ≤ total budgets
+      → recordOf (called (runAtStart edition statement n m store) budgets .run)
+      ≡ groups 2 edition ++ groups 2 n ++ groups 2 m ++ groups 6 (2 ^ (n + 1) - 1) ++ statement ++ label (stampRule edition n statement) n root
   -- 1,353 bytes do occur: 41 labels are held after the last leaf of depth 40
   pub longestMet :
-      (statement places : List ℕ) (m : ℕ) → length statement ≡ 32 → length places ≡ 1312 → m ≤ 14
-      → length (recordOf (runOf statement 40 m (2 ^ 41 - 41) places)) ≡ 1353
+      (edition : ℕ) (statement places : List ℕ) (m : ℕ) → AnEdition edition → length statement ≡ 32 → length places ≡ 1312 → m ≤ 14
+      → length (recordOf (runOf edition statement 40 m (2 ^ 41 - 41) places)) ≡ 1353
   pub readBack : (run : Run) → PossibleRun run → ReadBack run
   -- bytes that are read as a run are exactly that run's record, which is a possible one
   pub readIsRecord :
@@ -103,8 +105,9 @@ pub record Pausing : Type 0 where
       → continueRow (s .run) (length (s .store)) ≡ 0 → PausedAnywhere s portions
   -- and so of a run from its start: the same run and store, of which demand 2 says what they hold
   pub pausedFromStart :
-      (statement : List ℕ) (n m : ℕ) (store : List ℕ) (portions : List (List ℕ)) → length statement ≡ 32 → InBounds n m (length store)
-      → calledPausing (startedRun statement n m store) portions ≡ called (startedRun statement n m store) (joined portions)
+      (edition : ℕ) (statement : List ℕ) (n m : ℕ) (store : List ℕ) (portions : List (List ℕ)) → AnEdition edition
+      → length statement ≡ 32 → InBounds n m (length store)
+      → calledPausing (runAtStart edition statement n m store) portions ≡ called (runAtStart edition statement n m store) (joined portions)
   -- W-209: 'a paused record with 15 to 20 is refused with 4, as a run with such a level is'
   pub levelRefused :
-      (bytes : List ℕ) (n m made at : ℕ) → numbersOf bytes ≡ numbers n m made at → min n 14 < m → resumeRow bytes ≡ 4
+      (bytes : List ℕ) (e n m made at : ℕ) → numbersOf bytes ≡ numbers e n m made at → min n 14 < m → resumeRow bytes ≡ 4

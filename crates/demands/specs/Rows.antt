@@ -5,7 +5,6 @@ use Prim.Native.Nat.{ℕ, zero, suc, _+_, _-_, _*_, _%_, _^_, _≤_, _<_, min}
 use mathlib.Core.List.{List, [], _∷_, _++_}
 use lib.Dec.{ltb}
 use lib.ListN.{length, getD, drop}
-use Rattle.base.specs.Limits.{edition}
 use Rattle.base.specs.Choice.{pick}
 use Rattle.tree.specs.Openings.{LeafRight, RootRight}
 use Rattle.tree.specs.Held.{held}
@@ -48,21 +47,27 @@ MemoryOver n m = min n 14 < m
 abbrev pub startingRun : ℕ → ℕ → ℕ → Row
 startingRun n m store = (Outside 1 40 n, 1) ∷ (MemoryOver n m, 2) ∷ (store < 32 * (2 ^ (m + 1) - 1), 3) ∷ []
 
--- n not 1..40, m over its limit, or more labels made than there are to make
-abbrev pub Impossible : ℕ → ℕ → ℕ → ℕ → Type 0
-Impossible n m made all = Outside 1 40 n ⊎ (MemoryOver n m ⊎ (all < made))
+-- W-206: '12 now means neither 1 nor 2', an edition that does not exist
+abbrev pub NoEdition : ℕ → Type 0
+NoEdition edition = Outside 1 2 edition
 
--- | Continuing a run | 4: n not 1..40, m over min(n, 20), now 14, or more labels made than there are to make; 3 |
+-- n not 1..40, m over its limit, or more labels made than there are to make. W-206: an edition 'that does not exist gets 4'.
+abbrev pub Impossible : ℕ → ℕ → ℕ → ℕ → ℕ → Type 0
+Impossible edition n m made all = NoEdition edition ⊎ (Outside 1 40 n ⊎ (MemoryOver n m ⊎ (all < made)))
+
+-- | Continuing a run | 4: an edition that does not exist (W-206), n not 1..40, m over min(n, 20), now 14, or more labels made than there are to make; 3 |
 abbrev pub continuingRun : Run → ℕ → Row
 continuingRun run store =
-    (Impossible (run .depth) (run .memory) (run .made) (2 ^ (run .depth + 1) - 1), 4)
+    (Impossible (run .edition) (run .depth) (run .memory) (run .made) (2 ^ (run .depth + 1) - 1), 4)
     ∷ (store < 32 * (2 ^ (run .memory + 1) - 1), 3)
     ∷ []
 
--- | Starting an opening | 1, 2, 3; 6: position 2^n or more; 7: output short |
-abbrev pub startingOpening : ℕ → ℕ → ℕ → ℕ → ℕ → Row
-startingOpening n m leaf store out =
-    (Outside 1 40 n, 1)
+-- W-206: '12 .. comes first where an opening, a head or a challenge is given its edition.'
+-- | Starting an opening | 12; 1, 2, 3; 6: position 2^n or more; 7: output short |
+abbrev pub startingOpening : ℕ → ℕ → ℕ → ℕ → ℕ → ℕ → Row
+startingOpening edition n m leaf store out =
+    (NoEdition edition, 12)
+    ∷ (Outside 1 40 n, 1)
     ∷ (MemoryOver n m, 2)
     ∷ (store < 32 * (2 ^ (m + 1) - 1), 3)
     ∷ (2 ^ n ≤ leaf, 6)
@@ -72,23 +77,24 @@ startingOpening n m leaf store out =
 -- | Continuing an opening | 4 (also a leaf of 2^n or more); 3; 7 |
 abbrev pub continuingOpening : Opening → ℕ → ℕ → Row
 continuingOpening o store out =
-    (Impossible (o .depth) (o .memory) (o .made) (2 ^ (o .depth - o .memory + 1) - 2) ⊎ (2 ^ (o .depth) ≤ o .leaf), 4)
+    (Impossible (o .edition) (o .depth) (o .memory) (o .made) (2 ^ (o .depth - o .memory + 1) - 2) ⊎ (2 ^ (o .depth) ≤ o .leaf), 4)
     ∷ (store < 32 * (2 ^ (o .memory + 1) - 1), 3)
     ∷ (out < 32 * (o .depth + 1), 7)
     ∷ []
 
--- | A challenge | 1; 8: i not 1..200 |
-abbrev pub aChallenge : ℕ → ℕ → Row
-aChallenge n i = (Outside 1 40 n, 1) ∷ (Outside 1 200 i, 8) ∷ []
+-- | A challenge | 12; 1; 8: i not 1..200 |
+abbrev pub aChallenge : ℕ → ℕ → ℕ → Row
+aChallenge edition n i = (NoEdition edition, 12) ∷ (Outside 1 40 n, 1) ∷ (Outside 1 200 i, 8) ∷ []
 
--- | Writing the file's head | 1; 8: t not 1..200; 7: less than the whole file fits |
-abbrev pub writingHead : ℕ → ℕ → ℕ → Row
-writingHead n t out = (Outside 1 40 n, 1) ∷ (Outside 1 200 t, 8) ∷ (out < fileSize n t, 7) ∷ []
+-- | Writing the file's head | 12; 1; 8: t not 1..200; 7: less than the whole file fits |
+abbrev pub writingHead : ℕ → ℕ → ℕ → ℕ → Row
+writingHead edition n t out = (NoEdition edition, 12) ∷ (Outside 1 40 n, 1) ∷ (Outside 1 200 t, 8) ∷ (out < fileSize n t, 7) ∷ []
 
--- | One opening checked | 1; 6; 10: bytes too few; 13: too many; 14: leaf label wrong; 15: root wrong |
-abbrev pub oneOpening : List ℕ → ℕ → ℕ → List ℕ → List ℕ → Row
-oneOpening statement n leaf root bytes =
-    (Outside 1 40 n, 1)
+-- | One opening checked | 12; 1; 6; 10: bytes too few; 13: too many; 14: leaf label wrong; 15: root wrong |
+abbrev pub oneOpening : ℕ → List ℕ → ℕ → ℕ → List ℕ → List ℕ → Row
+oneOpening edition statement n leaf root bytes =
+    (NoEdition edition, 12)
+    ∷ (Outside 1 40 n, 1)
     ∷ (2 ^ n ≤ leaf, 6)
     ∷ (length bytes < 32 * (n + 1), 10)
     ∷ (32 * (n + 1) < length bytes, 13)
@@ -125,11 +131,11 @@ aNumber bytes at =
     ∷ ((128 ≤ byteAt bytes at) × ((byteAt bytes (at + 1) ≡ 0) ⊎ (128 ≤ byteAt bytes (at + 1))), 11)
     ∷ []
 
--- .. then 12: edition not 1, or 1, or 8 |
+-- .. then 12: edition not 1, now neither 1 nor 2, or 1, or 8 |
 abbrev pub aHead : List ℕ → Row
 aHead bytes =
     aNumber bytes 0
-    ++ (valueAt bytes 0 ≡ 1 → ⊥, 12) ∷ aNumber bytes (depthPlace bytes)
+    ++ (NoEdition (valueAt bytes 0), 12) ∷ aNumber bytes (depthPlace bytes)
     ++ (Outside 1 40 (valueAt bytes (depthPlace bytes)), 1) ∷ aNumber bytes (countPlace bytes)
     ++ (Outside 1 200 (valueAt bytes (countPlace bytes)), 8) ∷ []
 
@@ -141,9 +147,10 @@ fileRest bytes statement n t n′ t′ at =
     ∷ ((statementAt bytes at ≡ statement) × (n′ ≡ n) × (t′ ≡ t) → ⊥, 9)
     ∷ []
 
--- .. per opening 14, 15 |
+-- .. per opening 14, 15 |. W-206: a file is 'checked by [its] own order', that of the edition that its head says
 abbrev pub fileOpening : List ℕ → ℕ → ℕ → ℕ → Row
 fileOpening bytes n at i =
+    let edition : ℕ = valueAt bytes 0 in
     let statement : List ℕ = statementAt bytes at in
     let root : List ℕ = rootAt bytes at in
     let leaf : ℕ = challengeLeaf edition n statement root i in
@@ -201,10 +208,11 @@ abbrev pub planningProgram : List ℕ → Row
 planningProgram bytes = (Unreadable bytes, 17) ∷ planningChain (getD (numbers bytes) 0 0) (drop 1 (numbers bytes)) 6855
 
 -- ---- Calls for which document 01 has no row
--- openings compared, so many bytes of them: 1; 8: not 1..200 leaves; 6; 10: bytes too few; 13: too many
-abbrev pub comparing : ℕ → List ℕ → ℕ → Row
-comparing n leaves size =
-    (Outside 1 40 n, 1)
+-- openings compared, so many bytes of them: 12; 1; 8: not 1..200 leaves; 6; 10: bytes too few; 13: too many
+abbrev pub comparing : ℕ → ℕ → List ℕ → ℕ → Row
+comparing edition n leaves size =
+    (NoEdition edition, 12)
+    ∷ (Outside 1 40 n, 1)
     ∷ (Outside 1 200 (length leaves), 8)
     ∷ ((i : ℕ) × (i < length leaves) × (2 ^ n ≤ getD leaves i 0), 6)
     ∷ (size < length leaves * (32 * (n + 1)), 10)
@@ -237,10 +245,11 @@ readingNumber bytes at most = (NumberEnds bytes at most, 10) ∷ (NotShortest by
 abbrev pub writingNumber : List ℕ → ℕ → ℕ → Row
 writingNumber out at x = (length out < at + length (groupsOf x), 7) ∷ []
 
--- a whole file by budgets, its start: those of a run's start and of the head, 1, 2, 3; 8; 7
-abbrev pub startingFile : ℕ → ℕ → ℕ → ℕ → ℕ → Row
-startingFile n m t store file =
-    (Outside 1 40 n, 1)
+-- a whole file by budgets, its start: 12, and those of a run's start and of the head, 1, 2, 3; 8; 7
+abbrev pub startingFile : ℕ → ℕ → ℕ → ℕ → ℕ → ℕ → Row
+startingFile edition n m t store file =
+    (NoEdition edition, 12)
+    ∷ (Outside 1 40 n, 1)
     ∷ (MemoryOver n m, 2)
     ∷ (store < 32 * (2 ^ (m + 1) - 1), 3)
     ∷ (Outside 1 200 t, 8)
@@ -260,7 +269,7 @@ ImpossibleFile w =
 abbrev pub continuingFile : Writing → ℕ → ℕ → Row
 continuingFile w store file =
     let o : Opening = w .opening in
-    (Impossible (o .depth) (o .memory) (o .made) (2 ^ (o .depth - o .memory + 1) - 2) ⊎ ImpossibleFile w, 4)
+    (Impossible (o .edition) (o .depth) (o .memory) (o .made) (2 ^ (o .depth - o .memory + 1) - 2) ⊎ ImpossibleFile w, 4)
     ∷ (store < 32 * (2 ^ (o .memory + 1) - 1), 3)
     ∷ (file < fileSize (o .depth) (w .count), 7)
     ∷ []
@@ -269,7 +278,7 @@ continuingFile w store file =
 -- 'Writing a record: 4, then 7 for a short buffer.'
 abbrev pub writingRecord : Run → ℕ → Row
 writingRecord run out =
-    (Impossible (run .depth) (run .memory) (run .made) (2 ^ (run .depth + 1) - 1), 4) ∷ (out < length (recordOf run), 7) ∷ []
+    (Impossible (run .edition) (run .depth) (run .memory) (run .made) (2 ^ (run .depth + 1) - 1), 4) ∷ (out < length (recordOf run), 7) ∷ []
 
 -- the memory level follows the depth, and the labels made follow it
 abbrev pub memoryPlace : List ℕ → ℕ
@@ -296,9 +305,9 @@ readingRecord bytes =
     let m : ℕ = valueAt bytes (memoryPlace bytes) in
     let made : ℕ = valueWithin 6 bytes (madePlace bytes) in
     aNumber bytes 0
-    ++ (valueAt bytes 0 ≡ 1 → ⊥, 12) ∷ aNumber bytes (depthPlace bytes)
+    ++ (NoEdition (valueAt bytes 0), 12) ∷ aNumber bytes (depthPlace bytes)
     ++ aNumber bytes (memoryPlace bytes)
     ++ readingNumber bytes (madePlace bytes) 6
-    ++ (Impossible n m made (2 ^ (n + 1) - 1), 4)
+    ++ (Impossible (valueAt bytes 0) n m made (2 ^ (n + 1) - 1), 4)
     ∷ (length bytes ≡ behindWithin 6 bytes (madePlace bytes) + 32 + 32 * length (held n made) → ⊥, 18)
     ∷ []

@@ -4,16 +4,16 @@ ghost use mathlib.Core.Path.{_≡_};
 ghost use mathlib.Core.Bool.{true};
 ghost use mathlib.Core.Logic.{_↔_};
 ghost use lib.ListN.{length};
-ghost use Rattle.base.specs.Limits.{edition};
+ghost use Prim.Native.Nat.{ℕ};
 ghost use Rattle.check_theory.specs.IsProof.{IsProof};
 ghost use Rattle.draw.specs.Drawing.{drawingAnswer, drawingOf};
 ghost use Rattle.demands.specs.Demand3.{Drawn};
 use base::Check;
 use proof_file::check_file;
 
-// Demand 2: a file is accepted exactly if it is a proof.
+// Demand 2: a file is accepted exactly if it is a proof, of some edition.
 pub fn is_proof(file: &[u8], statement: [u8; 32], depth: u64, count: u64) -> bool
-    ensures { λ r. ⌜ (r ≡ true) ↔ IsProof edition (now (file .entry)) statement depth count ⌝ }
+    ensures { λ r. ⌜ (r ≡ true) ↔ ((edition : ℕ) × IsProof edition (now (file .entry)) statement depth count) ⌝ }
 {
     let check = check_file(file, statement, depth, count);
     match check {

@@ -7,7 +7,7 @@ use mathlib.Core.List.{List}
 use lib.ListN.{length, getD, take, drop, length-drop}
 use Rattle.base.specs.Choice.{every}
 use Rattle.base.specs.Bytes.{zeros}
-use Rattle.base.specs.Limits.{edition, maxDepth, maxChallenges, IsDepth, IsCount}
+use Rattle.base.specs.Limits.{maxEdition, maxDepth, maxChallenges, IsDepth, IsCount}
 use Rattle.base.specs.declared.refusal.Refusal.{Refusal}
 use Rattle.base.specs.declared.refusal.Check.{Check}
 use Rattle.base.specs.declared.refusal.Check.the-variants.{Rejected}
@@ -19,7 +19,7 @@ use Rattle.base.proofs.RowLaws.{some-refused}
 use Rattle.tree.specs.Openings.{openingSize}
 use Rattle.chain_theory.specs.Ways.{chain}
 use Rattle.chain_theory.specs.Planning.{isLeaf}
-use Rattle.base.proofs.Ranges.{in-range}
+use Rattle.base.proofs.Ranges.{in-range, within}
 use Rattle.file_head.specs.Layout.{headNumbers}
 use Rattle.file_head.specs.Head.{headOf, lengthFrom, rootAt}
 use Rattle.proof_file.specs.FileCheck.{foundIn, fileCheck}
@@ -46,14 +46,15 @@ Answers bytes statement n t list drawing after first second =
 pub file-refused : (bytes statement : List ℕ) (n t : ℕ) (list : List ℕ) (checked : Check) (r : Refusal) (i : ℕ)
     → codeOf checked ≡ fileCheck bytes statement n t → checked ≡ Rejected r i
     → Answers bytes statement n t list (notDrawn (foundIn i (numberOf r))) list (zeros 105) (zeros 105)
-unfolding drawingOf drawnList firstDrawn secondDrawn proofEdition
+unfolding drawingOf drawnList firstDrawn secondDrawn
 file-refused bytes statement n t list checked r i e told =
     let code : fileCheck bytes statement n t ≡ foundIn i (numberOf r) = sym e ∙ ap codeOf told in
     let no : isDone (foundIn i (numberOf r)) ≡ false = some-refused (foundIn i (numberOf r)) (omega (arith, number-some r)) in
     (rw (code, no), (rw (code, no), (rw (code, no), rw (code, no))))
 
 module _ (bytes statement : List ℕ) (n t : ℕ) (small : (j : ℕ) → getD bytes j 0 < 256) (ok : fileCheck bytes statement n t ≡ 0) where
-  isProof : IsProof edition bytes statement n t
+  pub isProof : IsProof (proofEdition bytes) bytes statement n t
+  unfolding proofEdition
   isProof = accepted-proof bytes statement n t small ok
 
   pub depth-known : IsDepth n
@@ -62,16 +63,16 @@ module _ (bytes statement : List ℕ) (n t : ℕ) (small : (j : ℕ) → getD by
   pub count-known : IsCount t
   count-known = isProof .count
 
-  end-known : numbersEnd (headOf bytes) ≡ length (headNumbers edition n t)
-  end-known = ap numbersEnd (file-head bytes statement n t isProof)
+  end-known : numbersEnd (headOf bytes) ≡ length (headNumbers (proofEdition bytes) n t)
+  end-known = ap numbersEnd (file-head (proofEdition bytes) bytes statement n t isProof)
 
   pub size-known : (at : ℕ) → at ≡ numbersEnd (headOf bytes) → length bytes ≡ lengthFrom n t at
-  size-known at e = rw (e, end-known) (file-size edition bytes statement n t isProof)
+  size-known at e = rw (e, end-known) (file-size (proofEdition bytes) bytes statement n t isProof)
 
-  pub leaves-known : (at : ℕ) (root leaves : List ℕ) → at ≡ numbersEnd (headOf bytes) → root ≡ rootAt bytes at
+  pub leaves-known : (edition at : ℕ) (root leaves : List ℕ) → edition ≡ proofEdition bytes → at ≡ numbersEnd (headOf bytes) → root ≡ rootAt bytes at
       → leaves ≡ leavesFrom edition n statement root 1 t → leaves ≡ leavesOf bytes statement n t
-  unfolding leavesOf proofEdition
-  leaves-known at root leaves e f g = g ∙ rw (f, e)
+  unfolding leavesOf
+  leaves-known edition at root leaves d e f g = g ∙ rw (d, f, e)
 
   pub openings-known :
       (at : ℕ) (openings : List ℕ) → at ≡ numbersEnd (headOf bytes)
@@ -81,12 +82,12 @@ module _ (bytes statement : List ℕ) (n t : ℕ) (small : (j : ℕ) → getD by
   openings-known at openings e f = f ∙ part-rest bytes (at + 64) ∙ rw e
 
   leaves-count : length (leavesOf bytes statement n t) ≡ t
-  unfolding leavesOf proofEdition
-  leaves-count = length-leaves edition n statement (rootAt bytes (numbersEnd (headOf bytes))) 1 t
+  unfolding leavesOf
+  leaves-count = length-leaves (proofEdition bytes) n statement (rootAt bytes (numbersEnd (headOf bytes))) 1 t
 
   all-leaves : every (isLeaf n) (leavesOf bytes statement n t) ≡ true
-  unfolding leavesOf proofEdition
-  all-leaves = leaves-inside edition n statement (rootAt bytes (numbersEnd (headOf bytes))) (depth-known .1) 1 t
+  unfolding leavesOf
+  all-leaves = leaves-inside (proofEdition bytes) n statement (rootAt bytes (numbersEnd (headOf bytes))) (depth-known .1) 1 t
 
   -- for comparing and for planning
   leaves-row : (least : ℕ) → least ≤ 1 → leavesRow least n (leavesOf bytes statement n t) ≡ 0
@@ -104,12 +105,13 @@ module _ (bytes statement : List ℕ) (n t : ℕ) (small : (j : ℕ) → getD by
       let all : length bytes ≡ lengthFrom n t (numbersEnd (headOf bytes)) = size-known (numbersEnd (headOf bytes)) refl in
       rw (leaves-count, length-drop) (omega arith)
 
-  pair-known : compared edition statement n (leavesOf bytes statement n t) (openingsOf bytes) ≡ pairOf bytes statement n t
-  unfolding pairOf proofEdition
+  pair-known : compared (proofEdition bytes) statement n (leavesOf bytes statement n t) (openingsOf bytes) ≡ pairOf bytes statement n t
+  unfolding pairOf
   pair-known =
-      compared-done edition statement n (leavesOf bytes statement n t) (openingsOf bytes)
+      compared-done (proofEdition bytes) statement n (leavesOf bytes statement n t) (openingsOf bytes)
       (sym
-      (size-right n (leavesOf bytes statement n t) (length (openingsOf bytes)) (leaves-row 1 (omega arith)) (omega (arith, openings-length))
+      (size-right (proofEdition bytes) n (leavesOf bytes statement n t) (length (openingsOf bytes))
+      (within 1 maxEdition (proofEdition bytes) (isProof .exists)) (leaves-row 1 (omega arith)) (omega (arith, openings-length))
       (omega (arith, openings-length))))
 
   drawing-by :
@@ -125,20 +127,21 @@ module _ (bytes statement : List ℕ) (n t : ℕ) (small : (j : ℕ) → getD by
       ∙ clash-pair (pairOf bytes statement n t) (length (chain n (leavesOf bytes statement n t))) list
 
   -- what the comparison and the chain give is what is drawn
-  pub all-drawn : (leaves openings list after first second : List ℕ) (pair : Pair) (drawing : DrawingAnswer) → leaves ≡ leavesOf bytes statement n t
+  pub all-drawn : (edition : ℕ) (leaves openings list after first second : List ℕ) (pair : Pair) (drawing : DrawingAnswer)
+      → edition ≡ proofEdition bytes → leaves ≡ leavesOf bytes statement n t
       → openings ≡ openingsOf bytes → pair ≡ compared edition statement n leaves openings
       → first ≡ firstInput edition statement n leaves openings (compared edition statement n leaves openings)
       → second
       ≡ secondInput edition statement n leaves openings (compared edition statement n leaves openings)
       → DrawnFrom pair n leaves list drawing after
       → Answers bytes statement n t list drawing after first second
-  unfolding drawnList firstDrawn secondDrawn proofEdition
-  all-drawn leaves openings list after first second pair drawing el eo p f g d =
-      let e : pair ≡ pairOf bytes statement n t = p ∙ rw (el, eo) pair-known in
+  unfolding drawnList firstDrawn secondDrawn
+  all-drawn edition leaves openings list after first second pair drawing ee el eo p f g d =
+      let e : pair ≡ pairOf bytes statement n t = p ∙ rw (ee, el, eo) pair-known in
       let q : drawing ≡ drawingOf bytes statement n t (length list) = d .0 ∙ rw (e, el) (sym (drawing-by (length list))) in (
         q,
         (
           d .1 ∙ rw (q, el),
-          (f ∙ rw (el, eo, pair-known, clash-by (length list)), g ∙ rw (el, eo, pair-known, clash-by (length list))),
+          (f ∙ rw (ee, el, eo, pair-known, clash-by (length list)), g ∙ rw (ee, el, eo, pair-known, clash-by (length list))),
         ),
       )

@@ -9,20 +9,25 @@ use borrow.Author.Tests.{lt-ltb}
 use lib.ListN.{length, take, drop, set}
 use lib.Seq.{take-suc-set, append-snoc, drop-set-lt, drop-drop}
 use Rattle.base.specs.Choice.{every}
-use Rattle.base.specs.Limits.{maxDepth, maxChallenges, IsDepth}
+use Rattle.base.specs.Limits.{maxDepth, maxChallenges, IsEdition, IsDepth}
 use Rattle.base.specs.Bytes.{zeros}
 use Rattle.base.proofs.Zeros.{drop-zeros}
 use Rattle.chain_theory.specs.Planning.{isLeaf}
 use Rattle.chain_theory.proofs.Lists.{every-both}
 use Rattle.file_head.specs.declared.HeadNumbers.{HeadNumbers}
 use Rattle.file_head.specs.Challenge.{challengeLeaf, challenged}
-use Rattle.file_head.specs.Head.{HeadAnswer, headAnswer}
+use Rattle.file_head.specs.Head.{HeadAnswer, headAnswer, headOf, headEdition}
 use Rattle.file_head.proofs.RowLaws.{challenge-done}
 use Rattle.file_head.proofs.Leaves.{challengeLeaf-small}
-use Rattle.draw.specs.Drawing.{leavesFrom, numbersEnd}
+use Rattle.draw.specs.Drawing.{leavesFrom, numbersEnd, proofEdition}
 
 pub end-known : (head told : HeadNumbers) (read : HeadAnswer) → headAnswer head ≡ read → head ≡ told → numbersEnd (headAnswer told) ≡ numbersEnd read
 end-known head told read e f = ap numbersEnd (rw f at e)
+
+pub edition-known : (head told : HeadNumbers) (bytes : List ℕ) → headAnswer head ≡ headOf bytes → head ≡ told
+    → headEdition (headAnswer told) ≡ proofEdition bytes
+unfolding proofEdition
+edition-known head told bytes e f = ap headEdition (rw f at e)
 
 module _ (edition n : ℕ) (statement root : List ℕ) where
   pub length-leaves : (i left : ℕ) → length (leavesFrom edition n statement root i left) ≡ left
@@ -44,15 +49,16 @@ module _ (edition n : ℕ) (statement root : List ℕ) where
     leaves-none = let all : count - 0 ≡ count = omega arith in rw all
 
     pub leaves-more :
-        (leaves : List ℕ) (i leaf : ℕ) → IsDepth n → count ≤ maxChallenges → length leaves ≡ maxChallenges → i < count
+        (leaves : List ℕ) (i leaf : ℕ) → IsEdition edition → IsDepth n → count ≤ maxChallenges → length leaves ≡ maxChallenges → i < count
         → leaf ≡ challenged edition n statement root (i + 1)
         → take i leaves ++ leavesFrom edition n statement root (i + 1) (count - i) ≡ leavesFrom edition n statement root 1 count
         → take (i + 1) (set leaves i leaf) ++ leavesFrom edition n statement root (i + 1 + 1) (count - (i + 1))
         ≡ leavesFrom edition n statement root 1 count
     unfolding leavesFrom challenged
-    leaves-more leaves i leaf depth few wide h e before =
+    leaves-more leaves i leaf exists depth few wide h e before =
         let more : count - i ≡ suc (count - (i + 1)) = omega arith in
-        let here : leaf ≡ challengeLeaf edition n statement root (i + 1) = rw (challenge-done n (i + 1) depth (omega arith, omega arith)) at e in
+        let here : leaf ≡ challengeLeaf edition n statement root (i + 1) =
+        rw (challenge-done edition n (i + 1) exists depth (omega arith, omega arith)) at e in
         let first : take (i + 1) (set leaves i leaf) ≡ take i leaves ++ (leaf ∷ []) = rw (add-one i) (take-suc-set leaves i leaf (omega arith)) in
         rw (first, append-snoc, here) (rw more at before)
 

@@ -5,12 +5,11 @@ use lib.Dec.{ltb}
 use lib.ListN.{length, drop}
 use Rattle.base.specs.Choice.{pick}
 use Rattle.base.specs.Bytes.{written}
-use Rattle.base.specs.Limits as limits
 use Rattle.base.specs.Number.{numberOf}
 use Rattle.base.specs.Row.{isDone}
 use Rattle.chain_theory.specs.Ways.{chain, chainCodes}
 use Rattle.file_head.specs.Challenge.{challengeLeaf}
-use Rattle.file_head.specs.Head.{HeadAnswer, numbers, notRead, headOf, rootAt}
+use Rattle.file_head.specs.Head.{HeadAnswer, numbers, notRead, headOf, headEdition, rootAt}
 use Rattle.proof_file.specs.FileCheck.{foundIn, fileCheck}
 use Rattle.compare.specs.declared.Pair.{Pair}
 use Rattle.compare.specs.declared.Pair.the-variants.{Agree, Disagree}
@@ -37,12 +36,12 @@ leavesFrom edition n statement root i (suc left) = challengeLeaf edition n state
 
 -- where the head's numbers end
 abbrev pub numbersEnd : HeadAnswer → ℕ
-numbersEnd (numbers n t at) = at
+numbersEnd (numbers e n t at) = at
 numbersEnd (notRead r) = 0
 
--- the edition of the bytes as a proof: the one that is checked
+-- the edition of the bytes as a proof: the one that its head says
 unfoldable pub proofEdition : List ℕ → ℕ
-proofEdition bytes = limits.edition
+proofEdition bytes = headEdition (headOf bytes)
 
 -- 'The leaves opened are those of its challenges 1 to t.'
 unfoldable pub leavesOf : List ℕ → List ℕ → ℕ → ℕ → List ℕ

@@ -4,6 +4,7 @@ mod whole; // whole.rt: the chain or the clash
 
 use base::Refusal;
 pub use leaves::challenge_leaves;
+pub use leaves::edition_of;
 pub use leaves::numbers_end;
 pub use whole::draw;
 

@@ -9,6 +9,7 @@ ghost use Rattle.draw.specs.Drawing.{drawingAnswer, drawnFrom, listAfter
 use crate::Drawing;
 use crate::Drawn;
 use crate::leaves::challenge_leaves;
+use crate::leaves::edition_of;
 use crate::leaves::numbers_end;
 use base::Check;
 use base::Outcome;
@@ -58,12 +59,13 @@ fn draw_accepted(
     ensures { λ r. ⌜ r .first ≡ firstDrawn (now (file .entry)) statement depth count (length (now (list .entry))) ⌝ }
     ensures { λ r. ⌜ r .second ≡ secondDrawn (now (file .entry)) statement depth count (length (now (list .entry))) ⌝ }
 {
+    let edition = edition_of(file);
     let at = numbers_end(file);
     let root = label_at(file, at + 32);
-    let leaves = challenge_leaves(depth, statement, root, count);
+    let leaves = challenge_leaves(edition, depth, statement, root, count);
     let t = count as usize;
     let start = at + 64;
-    let compared = compare(statement, depth, &leaves[..t], &file[start..]);
+    let compared = compare(edition, statement, depth, &leaves[..t], &file[start..]);
     let pair = compared.pair;
     let first = compared.first;
     let second = compared.second;

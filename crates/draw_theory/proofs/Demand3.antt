@@ -7,8 +7,9 @@ use mathlib.Core.List.{List}
 use lib.ListN.{length, getD}
 use Rattle.proof_file.specs.FileCheck.{fileCheck}
 use Rattle.check_theory.specs.IsProof.{IsProof}
-use Rattle.check_theory.proofs.Accepted.{exactly-proofs}
+use Rattle.check_theory.proofs.Completeness.{file-edition}
 use Rattle.draw.specs.Drawing.{notDrawn, drawnChain, drawnClash, drawingOf, drawnList, firstDrawn, secondDrawn, proofEdition}
+use Rattle.draw.proofs.AcceptedFile.{isProof}
 use Rattle.draw_theory.specs.Demand3.{IsAccepted, NoneDisagree, SomeDisagree, chainLength, drawnNodes, Counted, HashChain, EndsAtRoot}
 use Rattle.draw_theory.specs.Demand3.{OnTheWays, ListDrawn, IsClash, AsPlanned, ListShort, ListUntouched, NoInputs}
 use Rattle.draw_theory.proofs.Openings.{agree-none, disagree-first, first-some}
@@ -18,10 +19,15 @@ use Rattle.draw_theory.proofs.Clashes.{first-clash}
 use Rattle.draw_theory.proofs.Answers.{none-agree, some-pair, chain-given, given-chain, clash-given, given-clash, refusal-given}
 use Rattle.draw_theory.proofs.Answers.{given-refusal, given-short, as-planned}
 
+-- a proof's edition is the one that its head says
+pub edition-said : (edition : ℕ) (bytes statement : List ℕ) (n t : ℕ) → IsProof edition bytes statement n t → proofEdition bytes ≡ edition
+unfolding proofEdition
+edition-said edition bytes statement n t p = file-edition edition bytes statement n t p
+
 module _ (bytes statement : List ℕ) (n t : ℕ) (small : (j : ℕ) → getD bytes j 0 < 256) where
-  proof-of : IsAccepted bytes statement n t → IsProof (proofEdition bytes) bytes statement n t
-  unfolding proofEdition
-  proof-of = exactly-proofs bytes statement n t small .0
+  -- an accepted file is a proof of the edition that its head says
+  pub proof-of : IsAccepted bytes statement n t → IsProof (proofEdition bytes) bytes statement n t
+  proof-of = isProof bytes statement n t small
 
   length-of : IsAccepted bytes statement n t → length (drawnNodes bytes statement n t) ≡ chainLength bytes statement n t
   length-of a = nodes-count bytes statement n t (proof-of a)

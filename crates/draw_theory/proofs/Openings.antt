@@ -10,7 +10,6 @@ use lib.ListN.{length, getD, take}
 use lib.Seq.{drop-drop}
 use borrow.Author.Tests.{lt-ltb, le-ltb}
 use Rattle.base.specs.Choice.{every}
-use Rattle.base.specs.Limits.{edition}
 use Rattle.base.proofs.ChoiceLaws.{true-false}
 use Rattle.base.proofs.ChoiceLaws.{lt-or-le}
 use Rattle.tree.specs.Nodes.{Node, onWay}
@@ -184,8 +183,7 @@ module _ (bytes statement : List ℕ) (n t : ℕ) where
   -- ---- an accepted proof
   module _ (p : IsProof (proofEdition bytes) bytes statement n t) where
     ends : numbersEnd (headOf bytes) ≡ length (headNumbers (proofEdition bytes) n t)
-    unfolding proofEdition
-    ends = ap numbersEnd (file-head bytes statement n t p)
+    ends = ap numbersEnd (file-head (proofEdition bytes) bytes statement n t p)
 
     root-of : proofRoot bytes ≡ p .root
     unfolding proofRoot

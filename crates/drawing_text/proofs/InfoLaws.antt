@@ -8,7 +8,6 @@ use lib.Dec.{eqb}
 use lib.ListN.{length, length-append}
 use borrow.Author.Tests.{lt-ltb, le-ltb, eq-eqb, ne-eqb, eqb-true}
 use Rattle.base.specs.Choice.{pick}
-use Rattle.base.specs.Limits.{edition}
 use Rattle.base.specs.Row.{isDone}
 use Rattle.base.proofs.Parts.{part-length}
 use Rattle.base.proofs.RowLaws.{some-refused}
@@ -48,8 +47,8 @@ status-refused bytes number e d = rw (some-refused (shapeRefusal bytes) (omega a
 
 -- the numbers
 
-front-short : (n : ℕ) → length (factText (ascii "edition ") edition ++ factText (ascii "depth ") n) ≤ 100
-front-short n =
+front-short : (edition n : ℕ) → length (factText (ascii "edition ") edition ++ factText (ascii "depth ") n) ≤ 100
+front-short edition n =
     omega (
       arith,
       length-append (factText (ascii "edition ") edition) (factText (ascii "depth ") n),
@@ -57,21 +56,21 @@ front-short n =
       fact-short (ascii "depth ") n,
     )
 
-pub numbers-told : {all front one two' three : List ℕ} (n t : ℕ) → front ≡ added one two' → all ≡ added front three
+pub numbers-told : {all front one two' three : List ℕ} (edition n t : ℕ) → front ≡ added one two' → all ≡ added front three
     → one ≡ factText (ascii "edition ") edition → two' ≡ factText (ascii "depth ") n → three ≡ factText (ascii "challenges ") t
-    → all ≡ numbersText n t
+    → all ≡ numbersText edition n t
 unfolding numbersText
-numbers-told n t e f p q r =
+numbers-told edition n t e f p q r =
     two f (two e p q (omega (arith, fact-short (ascii "edition ") edition)) (omega (arith, fact-short (ascii "depth ") n))) r
-    (omega (arith, front-short n)) (omega (arith, fact-short (ascii "challenges ") t))
+    (omega (arith, front-short edition n)) (omega (arith, fact-short (ascii "challenges ") t))
 
-numbers-short : (n t : ℕ) → length (numbersText n t) ≤ 200
+numbers-short : (edition n t : ℕ) → length (numbersText edition n t) ≤ 200
 unfolding numbersText
-numbers-short n t =
+numbers-short edition n t =
     omega (
       arith,
       length-append (factText (ascii "edition ") edition ++ factText (ascii "depth ") n) (factText (ascii "challenges ") t),
-      front-short n,
+      front-short edition n,
       fact-short (ascii "challenges ") t,
     )
 
@@ -130,19 +129,19 @@ module _ (bytes : List ℕ) (whole at : ℕ) where
       go false e = omega (arith, fact-short (ascii "size ") (length bytes))
 
 -- what a head that can be read says
-pub known-told : {all one two' : List ℕ} (bytes : List ℕ) (n t at whole : ℕ) → whole ≡ lengthFrom n t at → all ≡ added one two'
-    → one ≡ numbersText n t → two' ≡ restText bytes whole at → all ≡ knownFrom bytes (numbers n t at)
-known-told bytes n t at whole w e p q =
-    two e p (q ∙ ap (λ (k : ℕ). restText bytes k at) w) (omega (arith, numbers-short n t))
+pub known-told : {all one two' : List ℕ} (bytes : List ℕ) (edition n t at whole : ℕ) → whole ≡ lengthFrom n t at → all ≡ added one two'
+    → one ≡ numbersText edition n t → two' ≡ restText bytes whole at → all ≡ knownFrom bytes (numbers edition n t at)
+known-told bytes edition n t at whole w e p q =
+    two e p (q ∙ ap (λ (k : ℕ). restText bytes k at) w) (omega (arith, numbers-short edition n t))
     (omega (arith, rest-short bytes (lengthFrom n t at) at (omega arith)))
 
 known-short : (bytes : List ℕ) (head : HeadAnswer) → length (knownFrom bytes head) ≤ 500
 known-short bytes (notRead r) = omega arith
-known-short bytes (numbers n t at) =
+known-short bytes (numbers edition n t at) =
     omega (
       arith,
-      length-append (numbersText n t) (restText bytes (lengthFrom n t at) at),
-      numbers-short n t,
+      length-append (numbersText edition n t) (restText bytes (lengthFrom n t at) at),
+      numbers-short edition n t,
       rest-short bytes (lengthFrom n t at) at (omega arith),
     )
 

@@ -8,7 +8,6 @@ use mathlib.Core.List.{List, [], _++_}
 use lib.Dec.{ltb, leb, eqb}
 use lib.ListN.{length, getD, length-append}
 use Rattle.base.specs.Choice.{pick, both}
-use Rattle.base.specs.Limits.{edition}
 use Rattle.base.specs.Lists.{sameBytes}
 use Rattle.base.proofs.ChoiceLaws.{both-second, both-true, true-false, lt-or-le}
 use Rattle.decimal.specs.Ascii.{ascii}
@@ -60,7 +59,7 @@ opened-not-nine : (row i next : ℕ) → 1 ≤ i → i < 256 → (next ≡ found
 opened-not-nine zero i next low high rest e = rest e
 opened-not-nine (suc row) i next low high rest e = omega arith
 
-module _ (bytes : List ℕ) (n at : ℕ) where
+module _ (edition : ℕ) (bytes : List ℕ) (n at : ℕ) where
   openings-not-nine : (i left : ℕ) → 1 ≤ i → i + left ≤ 256 → openingsFrom edition bytes n at i left ≡ foundIn 0 9 → ⊥
   unfolding openingsFrom
   openings-not-nine i zero low high e = omega arith
@@ -69,24 +68,24 @@ module _ (bytes : List ℕ) (n at : ℕ) where
 
 -- ---- a file that is refused with 9 is told by at least one line
 module _ (bytes statement : List ℕ) (n t : ℕ) where
-  rest-not-nine : (n′ t′ at : ℕ) → t′ ≤ 200 → wanted (statementAt bytes at) n′ t′ statement n t ≡ true
-      → fileRest bytes statement n t (numbers n′ t′ at) ≡ foundIn 0 9 → ⊥
-  rest-not-nine n′ t′ at few w e =
+  rest-not-nine : (e′ n′ t′ at : ℕ) → t′ ≤ 200 → wanted (statementAt bytes at) n′ t′ statement n t ≡ true
+      → fileRest bytes statement n t (numbers e′ n′ t′ at) ≡ foundIn 0 9 → ⊥
+  rest-not-nine e′ n′ t′ at few w e =
       go (ltb (length bytes) (lengthFrom n′ t′ at)) (ltb (lengthFrom n′ t′ at) (length bytes)) (rw w at e)
     where
       go : (short long : Bool)
-          → pick short (foundIn 0 10) (pick long (foundIn 0 13) (openingsFrom edition bytes n′ at 1 t′)) ≡ foundIn 0 9 → ⊥
+          → pick short (foundIn 0 10) (pick long (foundIn 0 13) (openingsFrom e′ bytes n′ at 1 t′)) ≡ foundIn 0 9 → ⊥
       go true long e = omega arith
       go false true e = omega arith
-      go false false e = openings-not-nine bytes n′ at 1 t′ (omega arith) (omega arith) e
+      go false false e = openings-not-nine e′ bytes n′ at 1 t′ (omega arith) (omega arith) e
 
   by-head : ((j : ℕ) → getD bytes j 0 < 256) → (head : HeadAnswer) → headOf bytes ≡ head
       → fileRest bytes statement n t head ≡ foundIn 0 9 → reportIn bytes statement head ≡ true
       → eqb (headDepth head) n ≡ true → eqb (headCount head) t ≡ true → ⊥
   by-head small (notRead r) h e s d c = true-false false s refl
-  by-head small (numbers n′ t′ at) h e s d c =
+  by-head small (numbers e′ n′ t′ at) h e s d c =
       let same = both-second (leb (at + 32) (length bytes)) (sameBytes (statementAt bytes at) statement) s in
-      rest-not-nine n′ t′ at (head-within bytes n′ t′ at small h .count .1)
+      rest-not-nine e′ n′ t′ at (head-within bytes e′ n′ t′ at small h .count .1)
       (both-true (sameBytes (statementAt bytes at) statement) (both (eqb n′ n) (eqb t′ t)) same (both-true (eqb n′ n) (eqb t′ t) d c)) e
 
   pub nine-told : ((j : ℕ) → getD bytes j 0 < 256) → fileCheck bytes statement n t ≡ foundIn 0 9
@@ -105,7 +104,7 @@ module _ (bytes statement : List ℕ) (n t : ℕ) where
   -- ---- what `info` refuses is refused by `verify` with the same number, whatever is wanted
   shape-by : (head : HeadAnswer) → 1 ≤ shapeFrom bytes head → fileRest bytes statement n t head ≡ foundIn 0 (shapeFrom bytes head)
   shape-by (notRead r) some = refl
-  shape-by (numbers n′ t′ at) some =
+  shape-by (numbers e′ n′ t′ at) some =
       go (ltb (length bytes) (lengthFrom n′ t′ at)) (ltb (lengthFrom n′ t′ at) (length bytes)) _ some
     where
       go : (short long : Bool) (rest : ℕ) → 1 ≤ pick short 10 (pick long 13 0)

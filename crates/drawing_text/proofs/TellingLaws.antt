@@ -23,7 +23,7 @@ use Rattle.draw.specs.declared.Drawing.the-variants.{NotDrawn, Chain, Clash}
 use Rattle.drawing_text.specs.Plain.{plainTable, wordsFor, plainText}
 use Rattle.drawing_text.specs.declared.Found.{Found}
 use Rattle.drawing_text.specs.Differ.{differText}
-use Rattle.drawing_text.specs.Verdict.{whyText, refusalText, clashLines, wantedText, noChainText, judgedText, verdictText}
+use Rattle.drawing_text.specs.Verdict.{whyText, refusalText, clashLines, editionText, wantedText, noChainText, judgedText, verdictText}
 use Rattle.drawing_text.proofs.TwoLines.{two}
 use Rattle.drawing_text.proofs.DifferLaws.{differ-short}
 
@@ -166,6 +166,11 @@ wanted-short n t = go (eqb n 0)
           fact-short (ascii "challenges ") t,
         )
 
+edition-short : (drawing : Drawing) (edition : ℕ) → length (editionText drawing edition) ≤ 100
+edition-short (NotDrawn why opening) edition = omega arith
+edition-short (Chain nodes) edition = omega (arith, fact-short (ascii "edition ") edition)
+edition-short (Clash i j l) edition = omega (arith, fact-short (ascii "edition ") edition)
+
 pub judged-short : (drawing : Drawing) (n t : ℕ) (found : Found) (size : ℕ) → length (judgedText drawing n t found size) ≤ 400
 judged-short (NotDrawn why opening) n t found size = refusal-short (numberOf why) opening size found n t
 judged-short (Chain nodes) n t found size = omega (arith, accepted-short n t nodes)
@@ -218,6 +223,16 @@ pub no-chain-told : {all one two' : List ℕ} (n t : ℕ) → all ≡ added one 
 unfolding noChainText
 no-chain-told n t e p q = two e p q (omega arith) (omega (arith, accepted-short n t 0))
 
+module _ (drawing : Drawing) (edition : ℕ) (line : List ℕ) where
+  pub edition-none : (why : Refusal) (opening : ℕ) → drawing ≡ NotDrawn why opening → line ≡ [] → line ≡ editionText drawing edition
+  edition-none why opening e l = rw e l
+
+  pub edition-chain : (nodes : ℕ) → drawing ≡ Chain nodes → line ≡ factText (ascii "edition ") edition → line ≡ editionText drawing edition
+  edition-chain nodes e l = rw e l
+
+  pub edition-clash : (i j l : ℕ) → drawing ≡ Clash i j l → line ≡ factText (ascii "edition ") edition → line ≡ editionText drawing edition
+  edition-clash i j l e f = rw e f
+
 module _ (drawing : Drawing) (n t : ℕ) (found : Found) (size : ℕ) where
   pub judged-refused : (why : Refusal) (opening number : ℕ) (line : List ℕ) → drawing ≡ NotDrawn why opening
       → number ≡ numberOf why → line ≡ refusalText number opening size found n t → line ≡ judgedText drawing n t found size
@@ -231,7 +246,12 @@ module _ (drawing : Drawing) (n t : ℕ) (found : Found) (size : ℕ) where
       → line ≡ judgedText drawing n t found size
   judged-clash i j l line e f = rw e f
 
-  pub verdict-told : {all one two' : List ℕ} → all ≡ added one two' → one ≡ wantedText n t
-      → two' ≡ judgedText drawing n t found size → all ≡ verdictText drawing n t found size
+  pub verdict-told : {all front one two' three : List ℕ} → front ≡ added one two' → all ≡ added front three
+      → one ≡ editionText drawing (found .edition) → two' ≡ wantedText n t → three ≡ judgedText drawing n t found size
+      → all ≡ verdictText drawing n t found size
   unfolding verdictText
-  verdict-told e p q = two e p q (omega (arith, wanted-short n t)) (omega (arith, judged-short drawing n t found size))
+  verdict-told e f p q r =
+      let first = edition-short drawing (found .edition) in
+      two f (two e p q (omega (arith, first)) (omega (arith, wanted-short n t))) r
+      (omega (arith, first, wanted-short n t, length-append (editionText drawing (found .edition)) (wantedText n t)))
+      (omega (arith, judged-short drawing n t found size))

@@ -4,7 +4,6 @@ use mathlib.Core.List.{List, [], _∷_, _++_}
 use lib.Dec.{ltb, eqb}
 use lib.ListN.{length}
 use Rattle.base.specs.Choice.{pick}
-use Rattle.base.specs.Limits.{edition}
 use Rattle.base.specs.Row.{firstOf, isDone}
 use Rattle.decimal.specs.Ascii.{ascii}
 use Rattle.file_head.specs.Head.{HeadAnswer, numbers, notRead, headOf, lengthFrom, statementAt, rootAt}
@@ -18,13 +17,14 @@ sizeRow size whole = firstOf ((ltb size whole, 10) ∷ (ltb whole size, 13) ∷ 
 -- the refusal by head and size, whatever is wanted; 0 where there is none
 abbrev pub shapeFrom : List ℕ → HeadAnswer → ℕ
 shapeFrom bytes (notRead r) = r
-shapeFrom bytes (numbers n t at) = sizeRow (length bytes) (lengthFrom n t at)
+shapeFrom bytes (numbers e n t at) = sizeRow (length bytes) (lengthFrom n t at)
 
 unfoldable pub shapeRefusal : List ℕ → ℕ
 shapeRefusal bytes = shapeFrom bytes (headOf bytes)
 
-unfoldable pub numbersText : ℕ → ℕ → List ℕ
-numbersText n t = factText (ascii "edition ") edition ++ factText (ascii "depth ") n ++ factText (ascii "challenges ") t
+-- the edition is the one that the head says
+unfoldable pub numbersText : ℕ → ℕ → ℕ → List ℕ
+numbersText edition n t = factText (ascii "edition ") edition ++ factText (ascii "depth ") n ++ factText (ascii "challenges ") t
 
 unfoldable pub labelsText : List ℕ → ℕ → List ℕ
 labelsText bytes at = bytesText (ascii "statement ") (statementAt bytes at) ++ bytesText (ascii "root ") (rootAt bytes at)
@@ -35,7 +35,7 @@ restText bytes whole at = pick (eqb (length bytes) whole) (labelsText bytes at) 
 
 abbrev pub knownFrom : List ℕ → HeadAnswer → List ℕ
 knownFrom bytes (notRead r) = []
-knownFrom bytes (numbers n t at) = numbersText n t ++ restText bytes (lengthFrom n t at) at
+knownFrom bytes (numbers e n t at) = numbersText e n t ++ restText bytes (lengthFrom n t at) at
 
 unfoldable pub knownText : List ℕ → List ℕ
 knownText bytes = knownFrom bytes (headOf bytes)

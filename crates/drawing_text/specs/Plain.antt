@@ -13,7 +13,7 @@ plainTable =
     ∷ (8, "the proof's number of challenges is not 1 to 200\n")
     ∷ (10, "the proof file ends too early\n")
     ∷ (11, "a number at the start of the proof file is not in its shortest form\n")
-    ∷ (12, "the proof file is of no known edition\n")
+    ∷ (12, "the proof file's edition is neither 1 nor 2\n")
     ∷ (13, "the proof file has more bytes than its openings take\n")
     ∷ (14, "an opening's leaf label is not the hash of its left siblings\n")
     ∷ (15, "an opening does not lead to the proof's root\n")

@@ -24,6 +24,12 @@ refusalText number opening size found n t = whyText number size found n t ++ rej
 unfoldable pub clashLines : ℕ → ℕ → ℕ → List ℕ → List ℕ → List ℕ
 clashLines i j l first second = clashText i j l ++ bytesText (ascii "first ") first ++ bytesText (ascii "second ") second
 
+-- the edition by which a file was accepted; nothing of one that is refused
+abbrev pub editionText : Drawing → ℕ → List ℕ
+editionText (NotDrawn why opening) edition = []
+editionText (Chain nodes) edition = factText (ascii "edition ") edition
+editionText (Clash i j l) edition = factText (ascii "edition ") edition
+
 -- depth and count wanted; nothing for depth 0, which stands for a head that cannot be read
 unfoldable pub wantedText : ℕ → ℕ → List ℕ
 wantedText n t = pick (eqb n 0) [] (factText (ascii "depth ") n ++ factText (ascii "challenges ") t)
@@ -40,4 +46,4 @@ judgedText (Clash i j l) n t found size = noChainText n t
 
 -- all that `verify` prints of a drawing, by the depth and count wanted, what the file's head says and the file's size
 unfoldable pub verdictText : Drawing → ℕ → ℕ → Found → ℕ → List ℕ
-verdictText drawing n t found size = wantedText n t ++ judgedText drawing n t found size
+verdictText drawing n t found size = editionText drawing (found .edition) ++ wantedText n t ++ judgedText drawing n t found size

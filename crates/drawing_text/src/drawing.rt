@@ -30,9 +30,10 @@ pub fn put_chain(
         × (now codes ≡ chainCodes depth (leavesOf (now file) statement depth count)) × (maxOutput ≤ length (now out)) ⌝ }
     ensures { λ r. ⌜ Wrote (now (out .entry)) 0 (planText depth (leavesOf (now (file .entry)) statement depth count)) (now (out .exit)) r ⌝ }
 {
+    let edition = draw::edition_of(file);
     let at = draw::numbers_end(file);
     let root = base::label_at(file, at + 32);
-    let leaves = draw::challenge_leaves(depth, statement, root, count);
+    let leaves = draw::challenge_leaves(edition, depth, statement, root, count);
     let t = count as usize;
     planning::put_plan(depth, &leaves[..t], codes, out)
 }

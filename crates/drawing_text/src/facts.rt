@@ -7,7 +7,6 @@ ghost use Rattle.file_head.specs.Head.{numbers};
 ghost use Rattle.lines.specs.Line.{lineOf};
 ghost use Rattle.drawing_text.specs.Info.{sizeRow, shapeRefusal, numbersText, labelsText, restText, knownFrom, knownText, endText, infoText};
 use crate::sentences::plain;
-use base::EDITION;
 use base::label_at;
 use file_head::HeadNumbers;
 use file_head::file_length;
@@ -39,17 +38,17 @@ pub fn shape_refusal(file: &[u8]) -> u64
     let head = read_head(file);
     match head {
         HeadNumbers::NotRead(why) => base::number(why),
-        HeadNumbers::Numbers(n, t, next) => {
+        HeadNumbers::Numbers(_, n, t, next) => {
             let at = next.at;
             size_refusal(file.len(), file_length(n, t, at))
         }
     }
 }
 
-fn numbers_lines(n: u64, t: u64) -> Line
-    ensures { λ r. ⌜ lineOf r ≡ numbersText n t ⌝ }
+fn numbers_lines(edition: u64, n: u64, t: u64) -> Line
+    ensures { λ r. ⌜ lineOf r ≡ numbersText edition n t ⌝ }
 {
-    let first = add_line(fact(b"edition ", EDITION), fact(b"depth ", n));
+    let first = add_line(fact(b"edition ", edition), fact(b"depth ", n));
     add_line(first, fact(b"challenges ", t))
 }
 
@@ -79,12 +78,12 @@ fn rest_lines(file: &[u8], whole: usize, at: usize) -> Line
 }
 
 // What a head that can be read says.
-fn known_lines(file: &[u8], n: u64, t: u64, at: usize) -> Line
+fn known_lines(file: &[u8], edition: u64, n: u64, t: u64, at: usize) -> Line
     requires { ⌜ (n ≤ maxDepth) × (t ≤ maxChallenges) × (at ≤ 6) ⌝ }
-    ensures { λ r. ⌜ lineOf r ≡ knownFrom (now (file .entry)) (numbers n t at) ⌝ }
+    ensures { λ r. ⌜ lineOf r ≡ knownFrom (now (file .entry)) (numbers edition n t at) ⌝ }
 {
     let whole = file_length(n, t, at);
-    add_line(numbers_lines(n, t), rest_lines(file, whole, at))
+    add_line(numbers_lines(edition, n, t), rest_lines(file, whole, at))
 }
 
 fn known(file: &[u8]) -> Line
@@ -93,9 +92,9 @@ fn known(file: &[u8]) -> Line
     let head = read_head(file);
     match head {
         HeadNumbers::NotRead(_) => empty(),
-        HeadNumbers::Numbers(n, t, next) => {
+        HeadNumbers::Numbers(edition, n, t, next) => {
             let at = next.at;
-            known_lines(file, n, t, at)
+            known_lines(file, edition, n, t, at)
         }
     }
 }

@@ -20,8 +20,9 @@ pub use telling::clash_lines;
 pub use telling::refused;
 pub use telling::verdict;
 
-// What a file's head says: depth and count, 0 and 0 if it cannot be read, and whether the statement behind them is the report's.
+// What a file's head says: edition, depth and count, each 0 if it cannot be read, and whether the statement behind them is the report's.
 pub struct Found {
+    pub edition: u64,
     pub depth: u64,
     pub count: u64,
     pub same_report: bool,

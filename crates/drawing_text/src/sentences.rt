@@ -25,7 +25,7 @@ fn words_for(number: u64) -> Line
         8 => sentence(b"the proof's number of challenges is not 1 to 200\n"),
         10 => sentence(b"the proof file ends too early\n"),
         11 => sentence(b"a number at the start of the proof file is not in its shortest form\n"),
-        12 => sentence(b"the proof file is of no known edition\n"),
+        12 => sentence(b"the proof file's edition is neither 1 nor 2\n"),
         13 => sentence(b"the proof file has more bytes than its openings take\n"),
         14 => sentence(b"an opening's leaf label is not the hash of its left siblings\n"),
         15 => sentence(b"an opening does not lead to the proof's root\n"),

@@ -1,7 +1,7 @@
 // The lines that are told of a drawing.
 ghost use mathlib.Core.Path.{_≡_};
 ghost use Rattle.lines.specs.Line.{lineOf};
-ghost use Rattle.drawing_text.specs.Verdict.{whyText, refusalText, wantedText, noChainText, judgedText, verdictText, clashLines};
+ghost use Rattle.drawing_text.specs.Verdict.{whyText, refusalText, editionText, wantedText, noChainText, judgedText, verdictText, clashLines};
 use crate::Found;
 use crate::differing::differ;
 use crate::sentences::plain;
@@ -32,6 +32,17 @@ pub fn refused(number: u64, opening: u64, size: usize, found: Found, depth: u64,
 {
     let why = why_refused(number, size, found, depth, count);
     add_line(why, rejected(number, opening))
+}
+
+// The edition by which a file was accepted; nothing of one that is refused.
+fn edition_line(drawing: Drawing, edition: u64) -> Line
+    ensures { λ r. ⌜ lineOf r ≡ editionText drawing edition ⌝ }
+{
+    match drawing {
+        Drawing::NotDrawn(_, _) => empty(),
+        Drawing::Chain(_) => fact(b"edition ", edition),
+        Drawing::Clash(_, _, _) => fact(b"edition ", edition),
+    }
 }
 
 // How much work is wanted.
@@ -80,8 +91,7 @@ fn judged(drawing: Drawing, depth: u64, count: u64, found: Found, size: usize) -
 pub fn verdict(drawing: Drawing, depth: u64, count: u64, found: Found, size: usize) -> Line
     ensures { λ r. ⌜ lineOf r ≡ verdictText drawing depth count found size ⌝ }
 {
-    add_line(
-        wanted(depth, count),
-        judged(drawing, depth, count, found, size),
-    )
+    let edition = edition_line(drawing, found.edition);
+    let asked = add_line(edition, wanted(depth, count));
+    add_line(asked, judged(drawing, depth, count, found, size))
 }

@@ -14,7 +14,7 @@ use Rattle.base.specs.Limits.{maxHashed, maxDepth, maxChallenges}
 use Rattle.base.specs.Bytes.{bigEndian, zeros, written}
 use Rattle.base.proofs.BytesLaws.{length-bigEndian}
 use Rattle.base.proofs.Zeros.{filled-more}
-use Rattle.base.specs.Row.{outside}
+use Rattle.base.specs.Row.{outside, noEdition}
 use Rattle.compression.specs.declared.Words.{Words}
 use Rattle.sha256.specs.Digest.{digestOf, digest}
 use Rattle.sha256.specs.Portions.{newHash, digestAnswer}
@@ -149,19 +149,24 @@ value-below value byte i v b = rw (add-one i) (omega arith)
 
 -- ---- the row, one law for each return
 abbrev Answers : ℕ → ℕ → List ℕ → List ℕ → ℕ → ℕ → ℕ → Type 0
-Answers edition n statement root i number leaf = (number ≡ challengeRow n i) × (leaf ≡ challenged edition n statement root i)
+Answers edition n statement root i number leaf = (number ≡ challengeRow edition n i) × (leaf ≡ challenged edition n statement root i)
 
 module _ (edition n : ℕ) (statement root : List ℕ) (i : ℕ) where
-  pub depth-refused : outside 1 maxDepth n ≡ true → Answers edition n statement root i 1 0
+  pub edition-refused : noEdition edition ≡ true → Answers edition n statement root i 12 0
   unfolding challengeRow challenged
-  depth-refused d = (rw d, rw d)
+  edition-refused e = (rw e, rw e)
 
-  module _ (d : outside 1 maxDepth n ≡ false) where
-    pub number-refused : outside 1 maxChallenges i ≡ true → Answers edition n statement root i 8 0
+  module _ (e : noEdition edition ≡ false) where
+    pub depth-refused : outside 1 maxDepth n ≡ true → Answers edition n statement root i 1 0
     unfolding challengeRow challenged
-    number-refused t = (rw (d, t), rw (d, t))
+    depth-refused d = (rw (e, d), rw (e, d))
 
-    pub leaf-answered : (leaf : ℕ) → outside 1 maxChallenges i ≡ false → leaf ≡ challengeLeaf edition n statement root i
-        → Answers edition n statement root i 0 leaf
-    unfolding challengeRow challenged
-    leaf-answered leaf t e = (rw (d, t), rw (d, t) e)
+    module _ (d : outside 1 maxDepth n ≡ false) where
+      pub number-refused : outside 1 maxChallenges i ≡ true → Answers edition n statement root i 8 0
+      unfolding challengeRow challenged
+      number-refused t = (rw (e, d, t), rw (e, d, t))
+
+      pub leaf-answered : (leaf : ℕ) → outside 1 maxChallenges i ≡ false → leaf ≡ challengeLeaf edition n statement root i
+          → Answers edition n statement root i 0 leaf
+      unfolding challengeRow challenged
+      leaf-answered leaf t l = (rw (e, d, t), rw (e, d, t) l)

@@ -8,9 +8,9 @@ use native.Mathlib.Omega.{arith}
 use borrow.Author.Tests.{eq-eqb, ne-eqb, eqb-true, not-true}
 use lib.Dec.{eqb}
 use lib.ListN.{length, take, drop, getD}
-use Rattle.base.specs.Limits.{maxDepth, maxChallenges, edition, maxOpenings, IsDepth, IsCount}
+use Rattle.base.specs.Limits.{maxEdition, maxDepth, maxChallenges, maxOpenings, IsEdition, IsDepth, IsCount}
 use Rattle.base.proofs.ChoiceLaws.{both-first, both-second}
-use Rattle.base.specs.Row.{outside, otherEdition}
+use Rattle.base.specs.Row.{outside, noEdition}
 use Rattle.groups.specs.Reading.{Answer, value, refused, readAt, checked}
 use Rattle.groups.proofs.Checked as groups
 use Rattle.groups.proofs.Checked.{Passed, checked-refused, checked-bad, checked-next, refused-some}
@@ -23,79 +23,85 @@ use Rattle.file_head.specs.HeadSteps.{countFrom, depthFrom}
 use Rattle.base.proofs.Parts.{part-size}
 use Rattle.base.proofs.Ranges.{range-of}
 
-module _ (bytes : List ℕ) (n at : ℕ) where
-  pub count-refused : (r : ℕ) → readAt bytes at 2 ≡ refused r → notRead r ≡ countFrom bytes n at
+module _ (bytes : List ℕ) (edition n at : ℕ) where
+  pub count-refused : (r : ℕ) → readAt bytes at 2 ≡ refused r → notRead r ≡ countFrom bytes edition n at
   unfolding countFrom
   count-refused r e = checked-refused notRead (readAt bytes at 2) _ _ _ r e
 
-  pub count-bad : (t end : ℕ) → readAt bytes at 2 ≡ value t end → outside 1 maxChallenges t ≡ true → notRead 8 ≡ countFrom bytes n at
+  pub count-bad : (t end : ℕ) → readAt bytes at 2 ≡ value t end → outside 1 maxChallenges t ≡ true → notRead 8 ≡ countFrom bytes edition n at
   unfolding countFrom
   count-bad t end e b = checked-bad notRead (readAt bytes at 2) (outside 1 maxChallenges) _ _ t end e b
 
   pub count-read : (t end : ℕ) → readAt bytes at 2 ≡ value t end → outside 1 maxChallenges t ≡ false
-      → numbers n t end ≡ countFrom bytes n at
+      → numbers edition n t end ≡ countFrom bytes edition n at
   unfolding countFrom
-  count-read t end e b = checked-next notRead (readAt bytes at 2) (outside 1 maxChallenges) 8 (λ t at. numbers n t at) t end e b
+  count-read t end e b = checked-next notRead (readAt bytes at 2) (outside 1 maxChallenges) 8 (λ t at. numbers edition n t at) t end e b
 
-module _ (bytes : List ℕ) (at : ℕ) where
-  pub depth-refused : (r : ℕ) → readAt bytes at 2 ≡ refused r → notRead r ≡ depthFrom bytes at
+module _ (bytes : List ℕ) (edition at : ℕ) where
+  pub depth-refused : (r : ℕ) → readAt bytes at 2 ≡ refused r → notRead r ≡ depthFrom bytes edition at
   unfolding depthFrom
   depth-refused r e = checked-refused notRead (readAt bytes at 2) _ _ _ r e
 
-  pub depth-bad : (n end : ℕ) → readAt bytes at 2 ≡ value n end → outside 1 maxDepth n ≡ true → notRead 1 ≡ depthFrom bytes at
+  pub depth-bad : (n end : ℕ) → readAt bytes at 2 ≡ value n end → outside 1 maxDepth n ≡ true → notRead 1 ≡ depthFrom bytes edition at
   unfolding depthFrom
   depth-bad n end e b = checked-bad notRead (readAt bytes at 2) (outside 1 maxDepth) _ _ n end e b
 
   pub depth-read : (n end : ℕ) → readAt bytes at 2 ≡ value n end → outside 1 maxDepth n ≡ false
-      → countFrom bytes n end ≡ depthFrom bytes at
+      → countFrom bytes edition n end ≡ depthFrom bytes edition at
   unfolding depthFrom
-  depth-read n end e b = checked-next notRead (readAt bytes at 2) (outside 1 maxDepth) 1 (countFrom bytes) n end e b
+  depth-read n end e b = checked-next notRead (readAt bytes at 2) (outside 1 maxDepth) 1 (countFrom bytes edition) n end e b
 
 module _ (bytes : List ℕ) where
-  by-steps : headOf bytes ≡ checked notRead (readAt bytes 0 2) otherEdition 12 (λ e at. depthFrom bytes at)
+  by-steps : headOf bytes ≡ checked notRead (readAt bytes 0 2) noEdition 12 (depthFrom bytes)
   unfolding headOf depthFrom countFrom
   by-steps = refl
 
   pub edition-refused : (r : ℕ) → readAt bytes 0 2 ≡ refused r → notRead r ≡ headOf bytes
-  edition-refused r e = checked-refused notRead (readAt bytes 0 2) otherEdition 12 (λ e at. depthFrom bytes at) r e ∙ sym by-steps
+  edition-refused r e = checked-refused notRead (readAt bytes 0 2) noEdition 12 (depthFrom bytes) r e ∙ sym by-steps
 
-  pub edition-bad : (x end : ℕ) → readAt bytes 0 2 ≡ value x end → (x ≡ edition → ⊥) → notRead 12 ≡ headOf bytes
+  pub edition-bad : (x end : ℕ) → readAt bytes 0 2 ≡ value x end → noEdition x ≡ true → notRead 12 ≡ headOf bytes
   edition-bad x end e b =
-      checked-bad notRead (readAt bytes 0 2) otherEdition 12 (λ e at. depthFrom bytes at) x end e (rw (ne-eqb x edition b)) ∙ sym by-steps
+      checked-bad notRead (readAt bytes 0 2) noEdition 12 (depthFrom bytes) x end e b ∙ sym by-steps
 
-  pub edition-read : (x end : ℕ) → readAt bytes 0 2 ≡ value x end → x ≡ edition → depthFrom bytes end ≡ headOf bytes
+  pub edition-read : (x end : ℕ) → readAt bytes 0 2 ≡ value x end → noEdition x ≡ false → depthFrom bytes x end ≡ headOf bytes
   edition-read x end e b =
-      checked-next notRead (readAt bytes 0 2) otherEdition 12 (λ e at. depthFrom bytes at) x end e (rw (eq-eqb x edition b)) ∙ sym by-steps
+      checked-next notRead (readAt bytes 0 2) noEdition 12 (depthFrom bytes) x end e b ∙ sym by-steps
 
 -- ---- the numbers of a head that was read
-not-numbers : (n t at r : ℕ) → notRead r ≡ numbers n t at → ⊥
-not-numbers n t at r e = let no : _≡_ {A = ℕ} 0 1 = cc in omega arith
+not-numbers : (edition n t at r : ℕ) → notRead r ≡ numbers edition n t at → ⊥
+not-numbers edition n t at r e = let no : _≡_ {A = ℕ} 0 1 = cc in omega arith
 
 -- a number that was not refused
-pub passed : (number : Answer) (bad : ℕ → Bool) (refusal : ℕ) (next : ℕ → ℕ → HeadAnswer) (n t at : ℕ)
-    → checked notRead number bad refusal next ≡ numbers n t at → Passed number bad next (numbers n t at)
-passed number bad refusal next n t at e = groups.passed notRead number bad refusal next (numbers n t at) (not-numbers n t at) e
+pub passed : (number : Answer) (bad : ℕ → Bool) (refusal : ℕ) (next : ℕ → ℕ → HeadAnswer) (edition n t at : ℕ)
+    → checked notRead number bad refusal next ≡ numbers edition n t at → Passed number bad next (numbers edition n t at)
+passed number bad refusal next edition n t at e =
+    groups.passed notRead number bad refusal next (numbers edition n t at) (not-numbers edition n t at) e
 
 -- a number ends at most two bytes on
 two-bytes : (bytes : List ℕ) (at x end : ℕ) → ((j : ℕ) → getD bytes j 0 < 256) → readAt bytes at 2 ≡ value x end → end ≤ at + 2
 two-bytes bytes at x end b e = omega (arith, only-shortest bytes at 2 x end b e .ends, length-groups-le 2 x)
 
-pub record Within (n t at : ℕ) : Type 0 where
+pub record Within (edition n t at : ℕ) : Type 0 where
+  pub exists : IsEdition edition
   pub depth : IsDepth n
   pub count : IsCount t
   pub place : at ≤ 6
 
-pub head-within : (bytes : List ℕ) (n t at : ℕ) → ((j : ℕ) → getD bytes j 0 < 256) → headOf bytes ≡ numbers n t at → Within n t at
+pub head-within : (bytes : List ℕ) (edition n t at : ℕ) → ((j : ℕ) → getD bytes j 0 < 256) → headOf bytes ≡ numbers edition n t at
+    → Within edition n t at
 unfolding depthFrom countFrom
-head-within bytes n t at b e =
-    let first = passed (readAt bytes 0 2) otherEdition 12 (λ e at. depthFrom bytes at) n t at (sym (by-steps bytes) ∙ e) in
-    let second = passed (readAt bytes (first .end) 2) (outside 1 maxDepth) 1 (λ n at. countFrom bytes n at) n t at (first .after) in
+head-within bytes edition n t at b e =
+    let first = passed (readAt bytes 0 2) noEdition 12 (depthFrom bytes) edition n t at (sym (by-steps bytes) ∙ e) in
+    let second = passed (readAt bytes (first .end) 2) (outside 1 maxDepth) 1 (countFrom bytes (first .x)) edition n t at (first .after) in
     let third =
-    passed (readAt bytes (second .end) 2) (outside 1 maxChallenges) 8 (λ t at. numbers (second .x) t at) n t at (second .after) in
+    passed (readAt bytes (second .end) 2) (outside 1 maxChallenges) 8 (λ t at. numbers (first .x) (second .x) t at) edition n t at
+    (second .after) in
+    let sameEdition : first .x ≡ edition = (let last = third .after in cc) in
     let sameDepth : second .x ≡ n = (let last = third .after in cc) in
     let sameCount : third .x ≡ t = (let last = third .after in cc) in
     let samePlace : third .end ≡ at = (let last = third .after in cc) in
     record {
+      exists = rw sameEdition at (range-of 1 maxEdition (first .x) (first .good));
       depth = rw sameDepth at (range-of 1 maxDepth (second .x) (second .good));
       count = rw sameCount at (range-of 1 maxChallenges (third .x) (third .good));
       place = omega (
@@ -111,7 +117,7 @@ head-within bytes n t at b e =
 pub head-number : (bytes : List ℕ) (r : ℕ) → headOf bytes ≡ notRead r → 1 ≤ r
 unfolding headOf
 head-number bytes r e =
-    refused-some notRead same (readAt bytes 0 2) otherEdition 12 _ r (read-number bytes 0 2) (omega arith)
+    refused-some notRead same (readAt bytes 0 2) noEdition 12 _ r (read-number bytes 0 2) (omega arith)
     (λ x at f. refused-some notRead same (readAt bytes at 2) (outside 1 maxDepth) 1 _ r (read-number bytes at 2) (omega arith)
     (λ n at f. refused-some notRead same (readAt bytes at 2) (outside 1 maxChallenges) 8 _ r (read-number bytes at 2) (omega arith)
     (λ t at f. not-refused f) f) f) e
@@ -119,7 +125,7 @@ head-number bytes r e =
     same : (k r : ℕ) → notRead k ≡ notRead r → k ≡ r
     same k r f = cc
 
-    not-refused : {n t at r : ℕ} → numbers n t at ≡ notRead r → 1 ≤ r
+    not-refused : {edition n t at r : ℕ} → numbers edition n t at ≡ notRead r → 1 ≤ r
     not-refused f = let no : _≡_ {A = ℕ} 0 1 = cc in absurd (omega arith)
 
 -- ---- sizes
@@ -146,10 +152,10 @@ module _ (bytes : List ℕ) (n t at i : ℕ) where
 -- an opening's part lies within the bytes
 pub part-inside : (bytes : List ℕ) (i : ℕ) (h : HeadAnswer) → partStart bytes i h + partLength bytes i h ≤ length bytes
 part-inside bytes i (notRead r) = omega arith
-part-inside bytes i (numbers n t at) = cases (hasOpening bytes n t at i) refl
+part-inside bytes i (numbers edition n t at) = cases (hasOpening bytes n t at i) refl
   where
     cases : (b : Bool) → hasOpening bytes n t at i ≡ b
-        → partStart bytes i (numbers n t at) + partLength bytes i (numbers n t at) ≤ length bytes
+        → partStart bytes i (numbers edition n t at) + partLength bytes i (numbers edition n t at) ≤ length bytes
     cases false e = rw e (omega arith)
     cases true e =
         let len =

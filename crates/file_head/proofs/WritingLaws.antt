@@ -73,10 +73,10 @@ head-put edition statement root n t out o1 o2 o3 at s a e1 e2 e3 =
 
 -- ---- what writing gives, by the row's answer
 module _ (edition : ℕ) (statement root : List ℕ) (n t : ℕ) (out : List ℕ) where
-  pub head-refused : isDone (headRow n t (length out)) ≡ false → out ≡ headWritten edition statement root n t out
+  pub head-refused : isDone (headRow edition n t (length out)) ≡ false → out ≡ headWritten edition statement root n t out
   unfolding headWritten
   head-refused e = rw e
 
-  pub head-written : headRow n t (length out) ≡ 0 → written out 0 (head edition statement root n t) ≡ headWritten edition statement root n t out
+  pub head-written : headRow edition n t (length out) ≡ 0 → written out 0 (head edition statement root n t) ≡ headWritten edition statement root n t out
   unfolding headWritten
   head-written e = rw e

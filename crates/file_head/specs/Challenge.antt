@@ -5,7 +5,7 @@ use lib.ListN.{length}
 use Rattle.base.specs.Choice.{pick}
 use Rattle.base.specs.Bytes.{bigEndian}
 use Rattle.base.specs.Limits.{maxDepth, maxChallenges}
-use Rattle.base.specs.Row.{firstOf, outside, isDone}
+use Rattle.base.specs.Row.{firstOf, outside, noEdition, isDone}
 use Rattle.sha256.specs.Digest.{digest}
 
 -- the nine ASCII bytes `challenge`
@@ -25,10 +25,10 @@ bigEndianValue (byte ∷ bytes) = byte * 256 ^ length bytes + bigEndianValue byt
 unfoldable pub challengeLeaf : ℕ → ℕ → List ℕ → List ℕ → ℕ → ℕ
 challengeLeaf edition n statement root i = bigEndianValue (digest (challengeInput edition n statement root i)) / 2 ^ (256 - n)
 
--- row 'A challenge': 1; 8: i not 1..200
-unfoldable pub challengeRow : ℕ → ℕ → ℕ
-challengeRow n i = firstOf ((outside 1 maxDepth n, 1) ∷ (outside 1 maxChallenges i, 8) ∷ [])
+-- row 'A challenge': 12 (W-206); 1; 8: i not 1..200
+unfoldable pub challengeRow : ℕ → ℕ → ℕ → ℕ
+challengeRow edition n i = firstOf ((noEdition edition, 12) ∷ (outside 1 maxDepth n, 1) ∷ (outside 1 maxChallenges i, 8) ∷ [])
 
 -- the leaf answered: 0 where it is refused
 unfoldable pub challenged : ℕ → ℕ → List ℕ → List ℕ → ℕ → ℕ
-challenged edition n statement root i = pick (isDone (challengeRow n i)) (challengeLeaf edition n statement root i) 0
+challenged edition n statement root i = pick (isDone (challengeRow edition n i)) (challengeLeaf edition n statement root i) 0

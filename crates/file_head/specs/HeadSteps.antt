@@ -8,10 +8,10 @@ use Rattle.groups.specs.Reading.{readAt, checked}
 use Rattle.file_head.specs.Head.{HeadAnswer, numbers, notRead}
 
 -- the count at a place, after the depth
-unfoldable pub countFrom : List ℕ → ℕ → ℕ → HeadAnswer
-countFrom bytes n at =
-    checked notRead (readAt bytes at numberGroups) (outside 1 maxChallenges) 8 (λ t at. numbers n t at)
+unfoldable pub countFrom : List ℕ → ℕ → ℕ → ℕ → HeadAnswer
+countFrom bytes e n at =
+    checked notRead (readAt bytes at numberGroups) (outside 1 maxChallenges) 8 (λ t at. numbers e n t at)
 
 -- the depth at a place, after the edition
-unfoldable pub depthFrom : List ℕ → ℕ → HeadAnswer
-depthFrom bytes at = checked notRead (readAt bytes at numberGroups) (outside 1 maxDepth) 1 (λ n at. countFrom bytes n at)
+unfoldable pub depthFrom : List ℕ → ℕ → ℕ → HeadAnswer
+depthFrom bytes e at = checked notRead (readAt bytes at numberGroups) (outside 1 maxDepth) 1 (λ n at. countFrom bytes e n at)

@@ -1,4 +1,4 @@
--- Document 01, 'File: edition (1), n, count t, then statement, root, and t openings in challenge order.'
+-- Document 01, 'File: edition (1, or from W-206 on 2), n, count t, then statement, root, and t openings in challenge order.'
 use Prim.Native.Nat.{ℕ, _+_, _-_, _*_}
 use mathlib.Core.List.{List, [], _∷_, _++_}
 use lib.Dec.{ltb}
@@ -6,7 +6,7 @@ use lib.ListN.{length}
 use Rattle.base.specs.Choice.{pick}
 use Rattle.base.specs.Bytes.{joined, written}
 use Rattle.base.specs.Limits.{maxDepth, maxChallenges}
-use Rattle.base.specs.Row.{firstOf, outside, isDone}
+use Rattle.base.specs.Row.{firstOf, outside, noEdition, isDone}
 use Rattle.tree.specs.Openings.{openingSize}
 use Rattle.groups.specs.Groups.{groups, numberGroups}
 
@@ -33,12 +33,12 @@ fileSize n t = headSize n t + t * openingSize n
 unfoldable pub file : ℕ → List ℕ → List ℕ → ℕ → ℕ → List (List ℕ) → List ℕ
 file edition statement root n t openings = head edition statement root n t ++ joined openings
 
--- row 'Writing the file's head': 1; 8: t not 1..200; 7: less than the whole file fits
-unfoldable pub headRow : ℕ → ℕ → ℕ → ℕ
-headRow n t out =
-    firstOf ((outside 1 maxDepth n, 1) ∷ (outside 1 maxChallenges t, 8) ∷ (ltb out (fileSize n t), 7) ∷ [])
+-- row 'Writing the file's head': 12 (W-206); 1; 8: t not 1..200; 7: less than the whole file fits
+unfoldable pub headRow : ℕ → ℕ → ℕ → ℕ → ℕ
+headRow edition n t out =
+    firstOf ((noEdition edition, 12) ∷ (outside 1 maxDepth n, 1) ∷ (outside 1 maxChallenges t, 8) ∷ (ltb out (fileSize n t), 7) ∷ [])
 
 -- the bytes after the head is written; as they were where it is refused
 unfoldable pub headWritten : ℕ → List ℕ → List ℕ → ℕ → ℕ → List ℕ → List ℕ
 headWritten edition statement root n t out =
-    pick (isDone (headRow n t (length out))) (written out 0 (head edition statement root n t)) out
+    pick (isDone (headRow edition n t (length out))) (written out 0 (head edition statement root n t)) out

@@ -2,13 +2,13 @@
 ghost use mathlib.Core.Path.{_≡_};
 ghost use Prim.Native.Nat.{_<_, _≤_};
 ghost use lib.ListN.{take};
-ghost use Rattle.base.specs.Limits.{edition, maxDepth};
+ghost use Rattle.base.specs.Limits.{maxDepth};
 ghost use Rattle.base.specs.Number.{outcomeNumber};
 ghost use Rattle.sha256.specs.Digest.{digest};
 ghost use Rattle.file_head.specs.Challenge.{challengeInput, bigEndianValue, challengeLeaf, challengeRow, challenged};
-use base::EDITION;
 use base::MAX_CHALLENGES;
 use base::MAX_DEPTH;
+use base::MAX_EDITION;
 use base::Outcome;
 use base::Refusal;
 use base::beyond;
@@ -59,10 +59,22 @@ pub fn challenge_leaf(edition: u64, depth: u64, statement: [u8; 32], root: [u8; 
 }
 
 // Challenge i, from 1.
-pub fn challenge(depth: u64, statement: [u8; 32], root: [u8; 32], i: u64) -> Challenged
-    ensures { λ r. ⌜ outcomeNumber (r .outcome) ≡ challengeRow depth i ⌝ }
+pub fn challenge(
+    edition: u64,
+    depth: u64,
+    statement: [u8; 32],
+    root: [u8; 32],
+    i: u64,
+) -> Challenged
+    ensures { λ r. ⌜ outcomeNumber (r .outcome) ≡ challengeRow edition depth i ⌝ }
     ensures { λ r. ⌜ r .leaf ≡ challenged edition depth statement root i ⌝ }
 {
+    if beyond(MAX_EDITION, edition) {
+        return Challenged {
+            outcome: Outcome::Refused(Refusal::Edition),
+            leaf: 0,
+        };
+    }
     if beyond(MAX_DEPTH, depth) {
         return Challenged {
             outcome: Outcome::Refused(Refusal::Depth),
@@ -77,6 +89,6 @@ pub fn challenge(depth: u64, statement: [u8; 32], root: [u8; 32], i: u64) -> Cha
     }
     Challenged {
         outcome: Outcome::Done,
-        leaf: challenge_leaf(EDITION, depth, statement, root, i),
+        leaf: challenge_leaf(edition, depth, statement, root, i),
     }
 }

@@ -3,9 +3,9 @@ ghost use mathlib.Core.Path.{_≡_};
 ghost use Rattle.file_head.specs.Head.{headAnswer, headOf};
 ghost use Rattle.file_head.specs.HeadSteps.{countFrom, depthFrom};
 use crate::HeadNumbers;
-use base::EDITION;
 use base::MAX_CHALLENGES;
 use base::MAX_DEPTH;
+use base::MAX_EDITION;
 use base::Refusal;
 use base::beyond;
 use groups::Cursor;
@@ -13,8 +13,8 @@ use groups::NUMBER_GROUPS;
 use groups::Number;
 
 // The count, after the depth.
-fn read_count(bytes: &[u8], n: u64, from: Cursor) -> HeadNumbers
-    ensures { λ r. ⌜ headAnswer r ≡ countFrom (now (bytes .entry)) n (from .at) ⌝ }
+fn read_count(bytes: &[u8], edition: u64, n: u64, from: Cursor) -> HeadNumbers
+    ensures { λ r. ⌜ headAnswer r ≡ countFrom (now (bytes .entry)) edition n (from .at) ⌝ }
 {
     let number = groups::read(bytes, from, NUMBER_GROUPS);
     match number {
@@ -23,14 +23,14 @@ fn read_count(bytes: &[u8], n: u64, from: Cursor) -> HeadNumbers
             if beyond(MAX_CHALLENGES, t) {
                 return HeadNumbers::NotRead(Refusal::Count);
             }
-            HeadNumbers::Numbers(n, t, next)
+            HeadNumbers::Numbers(edition, n, t, next)
         }
     }
 }
 
 // The depth and the count, after the edition.
-fn read_depth(bytes: &[u8], from: Cursor) -> HeadNumbers
-    ensures { λ r. ⌜ headAnswer r ≡ depthFrom (now (bytes .entry)) (from .at) ⌝ }
+fn read_depth(bytes: &[u8], edition: u64, from: Cursor) -> HeadNumbers
+    ensures { λ r. ⌜ headAnswer r ≡ depthFrom (now (bytes .entry)) edition (from .at) ⌝ }
 {
     let number = groups::read(bytes, from, NUMBER_GROUPS);
     match number {
@@ -39,7 +39,7 @@ fn read_depth(bytes: &[u8], from: Cursor) -> HeadNumbers
             if beyond(MAX_DEPTH, n) {
                 return HeadNumbers::NotRead(Refusal::Depth);
             }
-            read_count(bytes, n, next)
+            read_count(bytes, edition, n, next)
         }
     }
 }
@@ -52,10 +52,10 @@ pub fn read_head(bytes: &[u8]) -> HeadNumbers
     match number {
         Number::Refused(r) => HeadNumbers::NotRead(r),
         Number::Value(edition, next) => {
-            if edition == EDITION {
-                return read_depth(bytes, next);
+            if beyond(MAX_EDITION, edition) {
+                return HeadNumbers::NotRead(Refusal::Edition);
             }
-            HeadNumbers::NotRead(Refusal::Edition)
+            read_depth(bytes, edition, next)
         }
     }
 }

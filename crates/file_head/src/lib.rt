@@ -16,8 +16,8 @@ pub use writing::file_size;
 pub use writing::may_write;
 pub use writing::write_head;
 
-// What reading the head's numbers gives: depth, count and the place after them, or the refusal.
+// What reading the head's numbers gives: edition, depth, count and the place after them, or the refusal.
 pub enum HeadNumbers {
-    Numbers(u64, u64, Cursor),
+    Numbers(u64, u64, u64, Cursor),
     NotRead(Refusal),
 }

@@ -2,14 +2,14 @@
 ghost use mathlib.Core.Path.{_≡_};
 ghost use Prim.Native.Nat.{_<_, _≤_};
 ghost use lib.ListN.{length};
-ghost use Rattle.base.specs.Limits.{edition, maxDepth, maxChallenges};
+ghost use Rattle.base.specs.Limits.{maxDepth, maxChallenges};
 ghost use Rattle.base.specs.Bytes.{written};
 ghost use Rattle.base.specs.Number.{outcomeNumber};
 ghost use Rattle.file_head.specs.Layout.{headNumbers, head, headSize, fileSize, headRow, headWritten};
 use crate::sizes::file_length;
-use base::EDITION;
 use base::MAX_CHALLENGES;
 use base::MAX_DEPTH;
+use base::MAX_EDITION;
 use base::Outcome;
 use base::Refusal;
 use base::beyond;
@@ -48,9 +48,12 @@ fn put_head(edition: u64, statement: [u8; 32], root: [u8; 32], n: u64, t: u64, o
 }
 
 // The row, for an output of so many bytes.
-pub fn may_write(depth: u64, count: u64, out: usize) -> Outcome
-    ensures { λ r. ⌜ outcomeNumber r ≡ headRow depth count out ⌝ }
+pub fn may_write(edition: u64, depth: u64, count: u64, out: usize) -> Outcome
+    ensures { λ r. ⌜ outcomeNumber r ≡ headRow edition depth count out ⌝ }
 {
+    if beyond(MAX_EDITION, edition) {
+        return Outcome::Refused(Refusal::Edition);
+    }
     if beyond(MAX_DEPTH, depth) {
         return Outcome::Refused(Refusal::Depth);
     }
@@ -65,20 +68,21 @@ pub fn may_write(depth: u64, count: u64, out: usize) -> Outcome
 
 // Writes the head of a file of t openings at depth n.
 pub fn write_head(
+    edition: u64,
     statement: [u8; 32],
     root: [u8; 32],
     depth: u64,
     count: u64,
     out: &mut [u8],
 ) -> Outcome
-    ensures { λ r. ⌜ outcomeNumber r ≡ headRow depth count (length (now (out .entry))) ⌝ }
+    ensures { λ r. ⌜ outcomeNumber r ≡ headRow edition depth count (length (now (out .entry))) ⌝ }
     ensures { λ _. ⌜ now (out .exit) ≡ headWritten edition statement root depth count (now (out .entry)) ⌝ }
 {
-    let checked = may_write(depth, count, out.len());
+    let checked = may_write(edition, depth, count, out.len());
     match checked {
         Outcome::Refused(why) => Outcome::Refused(why),
         Outcome::Done => {
-            put_head(EDITION, statement, root, depth, count, out);
+            put_head(edition, statement, root, depth, count, out);
             Outcome::Done
         }
     }

@@ -21,6 +21,7 @@ fn taken(state: Hash, bytes: &[u8], size: usize) -> Hash {
 // The hash state with the opening of challenge i.
 fn one(
     state: Hash,
+    edition: u64,
     statement: [u8; 32],
     root: [u8; 32],
     depth: u64,
@@ -30,8 +31,16 @@ fn one(
     store: &[u8],
 ) -> Hash {
     let mut out = [90u8; 1313];
-    let picked = challenge(depth, statement, root, i);
-    let start = Opening::start(statement, depth, memory, picked.leaf, store, &mut out);
+    let picked = challenge(edition, depth, statement, root, i);
+    let start = Opening::start(
+        edition,
+        statement,
+        depth,
+        memory,
+        picked.leaf,
+        store,
+        &mut out,
+    );
     let opening = start.opening;
     open_to_end(opening, 1000, budget, store, &mut out);
     taken(state, &out, 32 * (depth % 41 + 1) as usize)
@@ -39,6 +48,7 @@ fn one(
 
 // The digest of all openings in challenge order.
 fn all(
+    edition: u64,
     statement: [u8; 32],
     root: [u8; 32],
     depth: u64,
@@ -51,7 +61,17 @@ fn all(
     let mut i: u64 = 0;
     while i < count {
         i += 1;
-        let next = one(state, statement, root, depth, memory, budget, i, store);
+        let next = one(
+            state,
+            edition,
+            statement,
+            root,
+            depth,
+            memory,
+            budget,
+            i,
+            store,
+        );
         state = next;
     }
     let end = state.finish();
@@ -59,6 +79,7 @@ fn all(
 }
 
 fn digests(
+    edition: u64,
     statement: [u8; 32],
     root: [u8; 32],
     depth: u64,
@@ -69,26 +90,36 @@ fn digests(
 ) {
     named_hex(
         b" ",
-        &all(statement, root, depth, memory, budget, count, &store),
+        &all(
+            edition,
+            statement,
+            root,
+            depth,
+            memory,
+            budget,
+            count,
+            &store,
+        ),
     );
 }
 
-fn level(statement: [u8; 32], depth: u64, memory: u64, count: u64) {
-    let store = finished(statement, depth, memory);
+fn level(edition: u64, statement: [u8; 32], depth: u64, memory: u64, count: u64) {
+    let store = finished(edition, statement, depth, memory);
     let root = label_at(&store, 0);
-    named(b"file depth ", depth);
+    named(b"file edition ", edition);
+    named(b" depth ", depth);
     named(b" count ", count);
     named(b" memory ", memory);
-    digests(statement, root, depth, memory, 1000, count, store);
-    digests(statement, root, depth, memory, 7, count, store);
-    digests(statement, root, depth, memory, 1, count, store);
+    digests(edition, statement, root, depth, memory, 1000, count, store);
+    digests(edition, statement, root, depth, memory, 7, count, store);
+    digests(edition, statement, root, depth, memory, 1, count, store);
     vector_helpers::end();
 }
 
-fn levels(statement: [u8; 32], depth: u64, count: u64) {
+fn levels(edition: u64, statement: [u8; 32], depth: u64, count: u64) {
     let mut memory: u64 = 0;
     while memory <= depth {
-        level(statement, depth, memory, count);
+        level(edition, statement, depth, memory, count);
         if memory == depth {
             return;
         }
@@ -97,10 +128,10 @@ fn levels(statement: [u8; 32], depth: u64, count: u64) {
 }
 
 // A line of the shared files.
-pub fn challenged(line: &[u8]) {
+pub fn challenged(edition: u64, line: &[u8]) {
     let mut report = [0u8; 64];
     let size = vector_helpers::decode(vector_helpers::field(line, 0), &mut report);
     let depth = vector_helpers::decimal(vector_helpers::field(line, 1));
     let count = vector_helpers::decimal(vector_helpers::field(line, 2));
-    levels(hash(&report[..size]), depth, count);
+    levels(edition, hash(&report[..size]), depth, count);
 }

@@ -1,4 +1,4 @@
-// The check of files over the shared vectors, and over every file that differs from the first of them in one bit; the row of a
+// The check of files over the shared vectors, and over every file that differs from the first of their lists in one bit; the row of a
 // challenge and that of a file's head at their edges.
 ghost use Prim.Native.Nat.{_<_};
 use base::outcome_number;
@@ -88,35 +88,50 @@ pub fn first(text: &[u8]) {
 }
 
 // The outcome of challenge i at depth n, and its leaf.
-fn challenged(n: u64, i: u64) {
-    let c = challenge(n, hash(b"challenged"), hash(b"root"), i);
+fn challenged(edition: u64, n: u64, i: u64) {
+    let c = challenge(edition, n, hash(b"challenged"), hash(b"root"), i);
     let outcome = c.outcome;
-    named(b"challenge ", n);
+    named(b"challenge ", edition);
+    column(n);
     column(i);
     column(outcome_number(outcome));
     column(c.leaf);
     vector_helpers::end();
 }
 
-fn challenges_at(n: u64) {
-    challenged(n, 0);
-    challenged(n, 1);
-    challenged(n, 2);
-    challenged(n, 199);
-    challenged(n, 200);
-    challenged(n, 201);
-    challenged(n, 4294967297);
-    challenged(n, 18446744073709551615);
+fn challenges_at(edition: u64, n: u64) {
+    challenged(edition, n, 0);
+    challenged(edition, n, 1);
+    challenged(edition, n, 2);
+    challenged(edition, n, 199);
+    challenged(edition, n, 200);
+    challenged(edition, n, 201);
+    challenged(edition, n, 4294967297);
+    challenged(edition, n, 18446744073709551615);
 }
 
 fn challenges() {
-    challenges_at(0);
-    challenges_at(1);
-    challenges_at(2);
-    challenges_at(39);
-    challenges_at(40);
-    challenges_at(41);
-    challenges_at(18446744073709551615);
+    challenges_at(2, 0);
+    challenges_at(2, 1);
+    challenges_at(2, 2);
+    challenges_at(2, 39);
+    challenges_at(2, 40);
+    challenges_at(2, 41);
+    challenges_at(2, 18446744073709551615);
+}
+
+// Editions that exist or not, at a depth that is right and at one that is not.
+fn challenges_of(edition: u64) {
+    challenges_at(edition, 40);
+    challenges_at(edition, 41);
+}
+
+fn edition_challenges() {
+    challenges_of(0);
+    challenges_of(1);
+    challenges_of(3);
+    challenges_of(4294967298);
+    challenges_of(18446744073709551615);
 }
 
 // As long as the longest file, and a byte more.
@@ -125,50 +140,69 @@ fn file_space() -> [u8; 262469] {
 }
 
 // The outcome of writing a head to so many bytes, and the digest of the bytes afterwards.
-fn head(n: u64, t: u64, out: &mut [u8]) {
-    named(b"head ", n);
+fn head(edition: u64, n: u64, t: u64, out: &mut [u8]) {
+    named(b"head ", edition);
+    column(n);
     column(t);
     column(out.len() as u64);
-    let outcome = write_head(hash(b"headed"), hash(b"root"), n, t, out);
+    let outcome = write_head(edition, hash(b"headed"), hash(b"root"), n, t, out);
     column(outcome_number(outcome));
     digest_column(out);
     vector_helpers::end();
 }
 
-fn head_at(n: u64, t: u64, size: usize) {
+fn head_at(edition: u64, n: u64, t: u64, size: usize) {
     if size <= 262469 {
         let mut space = file_space();
-        head(n, t, &mut space[..size]);
+        head(edition, n, t, &mut space[..size]);
     }
 }
 
 fn heads() {
-    head_at(0, 1, 262469);
-    head_at(0, 0, 0);
-    head_at(41, 1, 262469);
-    head_at(1, 0, 131);
-    head_at(1, 0, 0);
-    head_at(1, 201, 262469);
-    head_at(18446744073709551615, 18446744073709551615, 0);
-    head_at(40, 18446744073709551615, 262469);
+    head_at(2, 0, 1, 262469);
+    head_at(2, 0, 0, 0);
+    head_at(2, 41, 1, 262469);
+    head_at(2, 1, 0, 131);
+    head_at(2, 1, 0, 0);
+    head_at(2, 1, 201, 262469);
+    head_at(2, 18446744073709551615, 18446744073709551615, 0);
+    head_at(2, 40, 18446744073709551615, 262469);
 }
 
 fn sizes() {
-    head_at(1, 1, 131);
-    head_at(1, 1, 130);
-    head_at(1, 1, 132);
-    head_at(40, 200, 262468);
-    head_at(40, 200, 262467);
-    head_at(40, 200, 262469);
-    head_at(1, 127, 8195);
-    head_at(1, 127, 8194);
-    head_at(1, 128, 8260);
-    head_at(1, 128, 8259);
+    head_at(2, 1, 1, 131);
+    head_at(2, 1, 1, 130);
+    head_at(2, 1, 1, 132);
+    head_at(2, 40, 200, 262468);
+    head_at(2, 40, 200, 262467);
+    head_at(2, 40, 200, 262469);
+    head_at(2, 1, 127, 8195);
+    head_at(2, 1, 127, 8194);
+    head_at(2, 1, 128, 8260);
+    head_at(2, 1, 128, 8259);
+}
+
+// Editions that exist or not, with room and without, and with all else wrong.
+fn heads_of(edition: u64) {
+    head_at(edition, 1, 1, 131);
+    head_at(edition, 1, 1, 130);
+    head_at(edition, 40, 200, 262468);
+    head_at(edition, 41, 201, 0);
+}
+
+fn edition_heads() {
+    heads_of(0);
+    heads_of(1);
+    heads_of(3);
+    heads_of(4294967298);
+    heads_of(18446744073709551615);
 }
 
 // The rows of a challenge and of a head.
 pub fn rows() {
     challenges();
+    edition_challenges();
     heads();
     sizes();
+    edition_heads();
 }

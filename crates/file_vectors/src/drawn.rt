@@ -1,4 +1,4 @@
-// The shared vectors of chains: each file written from its report and drawn, with a list just long enough, one that is longer and
+// The vectors of an edition's chains: each file written from its report and drawn, with a list just long enough, one that is longer and
 // one that is short, and the same chain planned.
 use base::number;
 use base::outcome_number;
@@ -21,9 +21,9 @@ fn file_space() -> [u8; 83269] {
     [90u8; 83269]
 }
 
-// A list of 1,064 places, which held something else.
-fn list_space() -> [u64; 1064] {
-    [9u64; 1064]
+// A list of 1,108 places, which held something else.
+fn list_space() -> [u64; 1108] {
+    [9u64; 1108]
 }
 
 fn places_line(list: &[u64]) {
@@ -64,7 +64,7 @@ fn drawn(name: &[u8], file: &[u8], statement: [u8; 32], depth: u64, count: u64, 
 // Draws to so many places.
 fn drawn_at(name: &[u8], file: &[u8], statement: [u8; 32], depth: u64, count: u64, places: usize) {
     let mut list = list_space();
-    if places <= 1064 {
+    if places <= 1108 {
         drawn(name, file, statement, depth, count, &mut list[..places]);
     }
 }
@@ -84,7 +84,7 @@ fn planned_at(depth: u64, leaves: [u64; 200], count: usize, places: usize) {
     if 200 < count {
         return;
     }
-    if places <= 1064 {
+    if places <= 1108 {
         planned(depth, &leaves[..count], &mut list[..places]);
     }
 }
@@ -93,7 +93,7 @@ fn planned_at(depth: u64, leaves: [u64; 200], count: usize, places: usize) {
 fn changed(file: &mut [u8], statement: [u8; 32], depth: u64, count: u64, at: usize) {
     if at < file.len() {
         file[at] = file[at] ^ 16;
-        drawn_at(b"changed", file, statement, depth, count, 1064);
+        drawn_at(b"changed", file, statement, depth, count, 1108);
     }
 }
 
@@ -108,7 +108,7 @@ fn file_line(file: &[u8], statement: [u8; 32], depth: u64, count: u64) {
 // What is drawn to lists that are long enough, and to shorter ones.
 fn drawings(file: &[u8], statement: [u8; 32], depth: u64, count: u64, places: usize) {
     drawn_at(b"just enough", file, statement, depth, count, places);
-    drawn_at(b"more", file, statement, depth, count, 1064);
+    drawn_at(b"more", file, statement, depth, count, 1108);
     if 0 < places {
         drawn_at(b"one short", file, statement, depth, count, places - 1);
     }
@@ -119,24 +119,32 @@ fn drawings(file: &[u8], statement: [u8; 32], depth: u64, count: u64, places: us
 fn file_lines(file: &mut [u8], statement: [u8; 32], depth: u64, count: u64, places: usize) {
     file_line(file, statement, depth, count);
     drawings(file, statement, depth, count, places);
-    drawn_at(b"not wanted", file, statement, depth, 1, 1064);
+    drawn_at(b"not wanted", file, statement, depth, 1, 1108);
     changed(file, statement, depth, count, 5000);
 }
 
 // One memory level.
-fn level(statement: [u8; 32], depth: u64, memory: u64, count: u64, size: usize, places: usize) {
+fn level(
+    edition: u64,
+    statement: [u8; 32],
+    depth: u64,
+    memory: u64,
+    count: u64,
+    size: usize,
+    places: usize,
+) {
     let mut file = file_space();
-    let root = write_file(statement, depth, memory, count, &mut file);
+    let root = write_file(edition, statement, depth, memory, count, &mut file);
     if size < 83269 {
         column(base::wide(file[size]));
         vector_helpers::end();
         file_lines(&mut file[..size], statement, depth, count, places);
     }
-    let leaves = challenged(depth, statement, root);
+    let leaves = challenged(edition, depth, statement, root);
     planned_at(depth, leaves, count as usize, places);
 }
 
-pub fn drawn_and_planned(line: &[u8]) {
+pub fn drawn_and_planned(edition: u64, line: &[u8]) {
     let mut report = [0u8; 64];
     let length = vector_helpers::decode(vector_helpers::field(line, 0), &mut report);
     let statement = hash(&report[..length]);
@@ -144,8 +152,8 @@ pub fn drawn_and_planned(line: &[u8]) {
     let count = vector_helpers::decimal(vector_helpers::field(line, 2));
     let size = vector_helpers::decimal(vector_helpers::field(line, 3)) as usize;
     let places = vector_helpers::decimal(vector_helpers::field(line, 5)) as usize;
-    vector_helpers::text(b"vector");
-    level(statement, depth, most(depth), count, size, places);
-    vector_helpers::text(b"vector");
-    level(statement, depth, 8, count, size, places);
+    named(b"vector ", edition);
+    level(edition, statement, depth, most(depth), count, size, places);
+    named(b"vector ", edition);
+    level(edition, statement, depth, 8, count, size, places);
 }

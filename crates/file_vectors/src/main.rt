@@ -1,5 +1,6 @@
-// Files written, opened and checked, openings compared, and chains drawn and planned: the shared files, which are the standard input, and the
-// shared checks and chains, which are data. The stored output has the vectors' digests and answers, and an independent model's.
+// Files written, opened and checked, openings compared, and chains drawn and planned, in both editions: the shared files, of which those of
+// edition 1 are the standard input, and the shared checks and chains, which are data as the files of edition 2 are. The chains of edition 2 are
+// an independent model's. The stored output has the vectors' digests and answers, and that model's.
 mod challenged; // challenged.rt: the openings of the shared files
 mod checks; // checks.rt: files checked, and the rows of a challenge and of a head
 mod compared; // compared.rt: openings compared
@@ -23,52 +24,67 @@ enum Task {
     Draw,
 }
 
-fn vector(task: Task, line: &[u8]) {
+fn vector(task: Task, edition: u64, line: &[u8]) {
     match task {
-        Task::Write => written(line),
-        Task::Open => challenged(line),
+        Task::Write => written(edition, line),
+        Task::Open => challenged(edition, line),
         Task::Check => checked(line),
-        Task::Draw => drawn_and_planned(line),
+        Task::Draw => drawn_and_planned(edition, line),
     }
 }
 
-fn every_line(task: Task, text: &[u8]) {
+fn every_line(task: Task, edition: u64, text: &[u8]) {
     let mut at: usize = 0;
     while at < text.len() {
         let end = vector_helpers::line_end(text, at);
         let line = &text[at..end];
         if !vector_helpers::is_comment(line) {
-            vector(task, line);
+            vector(task, edition, line);
         }
         at = end + 1;
     }
 }
 
-fn shared_files() {
+// The files of an edition, read from a descriptor.
+fn shared_files(edition: u64, descriptor: i32) {
     let mut input = io::large_buffer();
-    let read = io::read_full(0, &mut input);
-    every_line(Task::Write, &input[..read]);
-    edges();
-    every_line(Task::Open, &input[..read]);
+    let read = io::read_full(descriptor, &mut input);
+    every_line(Task::Write, edition, &input[..read]);
+    every_line(Task::Open, edition, &input[..read]);
 }
 
-fn shared_checks() {
+// The checks of a file of data, in which each proof says its edition.
+fn shared_checks(name: &[u8]) {
     let mut input = io::large_buffer();
-    let read = io::read_full(os::open_read(b"checks"), &mut input);
-    every_line(Task::Check, &input[..read]);
+    let read = io::read_full(os::open_read(name), &mut input);
+    every_line(Task::Check, 0, &input[..read]);
+}
+
+// The same, with every file that differs from the first of them in one bit.
+fn checks_and_bits(name: &[u8]) {
+    let mut input = io::large_buffer();
+    let read = io::read_full(os::open_read(name), &mut input);
+    every_line(Task::Check, 0, &input[..read]);
     checks::first(&input[..read]);
 }
 
-fn shared_chains() {
+fn shared_chains(edition: u64, name: &[u8]) {
     let mut input = io::large_buffer();
-    let read = io::read_full(os::open_read(b"chains"), &mut input);
-    every_line(Task::Draw, &input[..read]);
+    let read = io::read_full(os::open_read(name), &mut input);
+    every_line(Task::Draw, edition, &input[..read]);
 }
 
 fn main() {
-    shared_files();
-    shared_checks();
+    shared_files(1, 0);
+    shared_files(2, os::open_read(b"files-2"));
+    edges();
+    checks_and_bits(b"checks");
+    checks_and_bits(b"checks-2");
+    shared_checks(b"checks-number");
     checks::rows();
-    shared_chains();
-    compared();
+    shared_chains(1, b"chains");
+    shared_chains(2, b"chains-2");
+    compared(1);
+    compared(2);
+    compared::edges();
 }

@@ -35,6 +35,7 @@ fn write_on(writing: Writing, budget: u64, store: &[u8], file: &mut [u8]) {
 
 // Writes a file over bytes that held something else, from a store; the digest of all bytes, and the check's answer.
 fn write(
+    edition: u64,
     statement: [u8; 32],
     depth: u64,
     memory: u64,
@@ -45,7 +46,16 @@ fn write(
 ) {
     let mut file = [90u8; 1024];
     let root = label_at(store, 0);
-    let start = Writing::start(statement, root, depth, memory, count, store, &mut file);
+    let start = Writing::start(
+        edition,
+        statement,
+        root,
+        depth,
+        memory,
+        count,
+        store,
+        &mut file,
+    );
     let outcome = start.outcome;
     named(b" start ", outcome_number(outcome));
     let writing = start.writing;
@@ -54,14 +64,16 @@ fn write(
     answer(&file, size, statement, depth, count);
 }
 
-fn level(statement: [u8; 32], depth: u64, memory: u64, count: u64, size: usize) {
-    let store = finished(statement, depth, memory);
-    named(b"file ", depth);
+fn level(edition: u64, statement: [u8; 32], depth: u64, memory: u64, count: u64, size: usize) {
+    let store = finished(edition, statement, depth, memory);
+    named(b"file ", edition);
+    column(depth);
     column(count);
     column(memory);
-    write(statement, depth, memory, count, 1, size, &store);
-    write(statement, depth, memory, count, 7, size, &store);
+    write(edition, statement, depth, memory, count, 1, size, &store);
+    write(edition, statement, depth, memory, count, 7, size, &store);
     write(
+        edition,
         statement,
         depth,
         memory,
@@ -74,7 +86,7 @@ fn level(statement: [u8; 32], depth: u64, memory: u64, count: u64, size: usize) 
 }
 
 // At the smallest memory level, a middle one and the greatest.
-pub fn written(line: &[u8]) {
+pub fn written(edition: u64, line: &[u8]) {
     let mut report = [0u8; 64];
     let length = vector_helpers::decode(vector_helpers::field(line, 0), &mut report);
     let statement = hash(&report[..length]);
@@ -82,8 +94,8 @@ pub fn written(line: &[u8]) {
     let count = vector_helpers::decimal(vector_helpers::field(line, 2));
     let mut file = [0u8; 1024];
     let size = vector_helpers::decode(vector_helpers::field(line, 3), &mut file);
-    level(statement, depth, 0, count, size);
-    level(statement, depth, depth / 2, count, size);
-    level(statement, depth, depth, count, size);
+    level(edition, statement, depth, 0, count, size);
+    level(edition, statement, depth, depth / 2, count, size);
+    level(edition, statement, depth, depth, count, size);
     every_part(&file[..size], count);
 }

@@ -3,5 +3,6 @@ pub mod HeldSize
 pub mod BlockLaws
 pub mod Walking
 pub mod Filled
+pub mod LastFirst
 pub mod Padded
 pub mod RuleLaws

@@ -47,7 +47,7 @@ fn label_leaf(
     held: &mut [u8],
 ) -> [u8; 32]
     requires { ⌜ (w .level ≤ depth) × (depth ≤ maxDepth) × (ones (w .position) ≤ maxDepth) × (length (now held) ≡ heldSize) ⌝ }
-    requires { ⌜ length (now front) ≤ 32 * ones (w .position) ⌝ }
+    requires { ⌜ (length (now front) ≤ 32 * ones (w .position)) × (length (now front) % 32 ≡ 0) ⌝ }
     ensures { λ r. ⌜ r
         ≡ labelBy (stampRule edition depth statement) (node (w .level) (w .position))
         (inLabels (now (front .entry) ++ take (32 * ones (w .position) - length (now (front .entry))) (now (held .entry)))) ⌝ }

@@ -1,14 +1,14 @@
 // Document 01, 'The tree': a label is SHA-256 of the statement, the level, the position and the parents' labels.
 ghost use mathlib.Core.Path.{_≡_};
-ghost use mathlib.Core.List.{_++_};
+ghost use mathlib.Core.List.{_++_, reverse};
 ghost use Prim.Native.Nat.{_+_, _-_, _*_, _%_, _≤_};
 ghost use lib.ListN.{length, take};
 ghost use Rattle.base.specs.Limits.{maxDepth, maxLabelInput};
 ghost use Rattle.sha256.specs.Padding.{blocksOf};
 ghost use Rattle.sha256.specs.Digest.{digest};
 ghost use Rattle.tree.specs.Nodes.{node};
-ghost use Rattle.tree.specs.Labels.{labelBy, tag, documentInput, inLabels};
-ghost use Rattle.base.specs.Bytes.{zeros};
+ghost use Rattle.tree.specs.Labels.{labelBy, ordered, tag, documentInput, inLabels};
+ghost use Rattle.base.specs.Bytes.{zeros, joined, written};
 ghost use Rattle.labelling.specs.Rule.{stampRule};
 ghost use Rattle.labelling.specs.Buffer.{inputSpace, paddedIn};
 ghost use Rattle.labelling.specs.Blocks.{mostBlocks};
@@ -51,6 +51,36 @@ fn tag(edition: u64, depth: u64, level: u64) -> u64
     level
 }
 
+// Writes the labels that lie in src end to end over dst from `at` on, the last first.
+fn put_last_first(dst: &mut [u8], at: usize, src: &[u8])
+    requires { ⌜ (length (now src) % 32 ≡ 0) × (at + length (now src) ≤ length (now dst)) ⌝ }
+    ensures { λ _. ⌜ now (dst .exit) ≡ written (now (dst .entry)) at (joined (reverse (inLabels (now (src .entry))))) ⌝ }
+{
+    let whole = src.len();
+    let mut left = whole;
+    while 0 < left {
+        let from = left - 32;
+        let to = at + (whole - left);
+        put(dst, to, &src[from..left]);
+        left = from;
+    }
+}
+
+// Writes the labels of front and rest behind the head, in the order in which the edition hashes them.
+fn put_labels(input: &mut [u8], edition: u64, front: &[u8], rest: &[u8])
+    requires { ⌜ (length (now front) % 32 ≡ 0) × (length (now rest) % 32 ≡ 0) × (41 + length (now front) + length (now rest) ≤ length (now input)) ⌝ }
+    ensures { λ _. ⌜ now (input .exit)
+        ≡ written (now (input .entry)) 41 (joined (ordered edition (inLabels (now (front .entry) ++ now (rest .entry))))) ⌝ }
+{
+    if edition == 1 {
+        put(input, 41, front);
+        put(input, 41 + front.len(), rest);
+        return;
+    }
+    put_last_first(input, 41, rest);
+    put_last_first(input, 41 + rest.len(), front);
+}
+
 // Lays out a node's hash input at the front of zeros: the head, then the labels of its parents in the order hashed. They are those of
 // front and then those of rest.
 pub fn put_input(
@@ -63,7 +93,7 @@ pub fn put_input(
     front: &[u8],
     rest: &[u8],
 )
-    requires { ⌜ (level ≤ depth) × (depth ≤ maxDepth) × ((length (now front) + length (now rest)) % 32 ≡ 0) ⌝ }
+    requires { ⌜ (level ≤ depth) × (depth ≤ maxDepth) × (length (now front) % 32 ≡ 0) × (length (now rest) % 32 ≡ 0) ⌝ }
     requires { ⌜ (now input ≡ zeros (length (now input))) × (41 + length (now front) + length (now rest) ≤ length (now input)) ⌝ }
     ensures { λ _. ⌜ now (input .exit)
         ≡ documentInput edition depth statement (node level position) (inLabels (now (front .entry) ++ now (rest .entry)))
@@ -74,8 +104,7 @@ pub fn put_input(
     put(input, 0, &statement);
     put(input, 32, &[(byte % 256) as u8]);
     put(input, 33, &place);
-    put(input, 41, front);
-    put(input, 41 + front.len(), rest);
+    put_labels(input, edition, front, rest);
 }
 
 // The label of a node with so many parents, whose labels are those of front and then those of rest. Their number gives the length
@@ -91,7 +120,7 @@ pub fn label(
     rest: &[u8],
 ) -> [u8; 32]
     requires { ⌜ (level ≤ depth) × (depth ≤ maxDepth) × (parents ≤ maxDepth) ⌝ }
-    requires { ⌜ length (now front) + length (now rest) ≡ 32 * parents ⌝ }
+    requires { ⌜ (length (now front) + length (now rest) ≡ 32 * parents) × (length (now front) % 32 ≡ 0) ⌝ }
     ensures { λ r. ⌜ r ≡ labelBy (stampRule edition depth statement) (node level position) (inLabels (now (front .entry) ++ now (rest .entry))) ⌝ }
 {
     let mut input = [0u8; INPUT_SPACE];

@@ -1,12 +1,21 @@
--- Calls from a state on that has `all` steps to make: none is refused, and budgets cut in any way make as many steps as one
--- call with their sum, give the same state and cost the same.
-use mathlib.Core.Path.{_≡_, sym, ap, _∙_}
+-- Calls, of every machine. What each step leaves as it is they leave too. From a state on that has `all` steps to make none is refused,
+-- and budgets cut in any way make as many steps as one call with their sum, give the same state and cost the same.
+use mathlib.Core.Path.{_≡_, refl, sym, ap, _∙_}
 use mathlib.Core.List.{List, [], _∷_}
 use Prim.Native.Nat.{ℕ, _+_, _-_, _≤_, _<_, min}
 use native.Mathlib.Omega.{arith}
 use Rattle.machine.specs.Machines.{Machine, Goes, steps, doneIn, advanced, costOf, costIn}
 use Rattle.machine.specs.Calls.{total, afterCalls, labelsOver}
-use Rattle.machine.proofs.StepLaws.{steps-add, cost-add, done-some, unchanged}
+use Rattle.machine.proofs.StepLaws.{steps-add, call-keeps, cost-add, done-some, unchanged}
+
+-- what each step leaves as it is, calls do, from every state
+pub calls-keep :
+    {S : Type 0} (machine : Machine S) (of : S → ℕ) → ((s : S) → of (machine .step s) ≡ of s)
+    → (budgets : List ℕ) (s : S) → of (afterCalls (advanced machine) s budgets) ≡ of s
+unfolding afterCalls
+calls-keep machine of kept [] s = refl
+calls-keep machine of kept (b ∷ budgets) s =
+    calls-keep machine of kept budgets (advanced machine s b) ∙ call-keeps machine of kept s b
 
 module _ {S : Type 0} (machine : Machine S) (s : S) (all : ℕ) (goes : Goes machine s all) where
   -- ---- a call after k steps

@@ -34,6 +34,17 @@ module _ {S : Type 0} (machine : Machine S) where
   steps-reach at all s begins moves (suc k) few =
       ap (machine .step) (steps-reach at all s begins moves k (omega arith)) ∙ moves k few ∙ rw (add-one k)
 
+  -- ---- what each step leaves as it is, steps and a call do
+  module _ (of : S → ℕ) (kept : (s : S) → of (machine .step s) ≡ of s) where
+    pub steps-keep : (k : ℕ) (s : S) → of (steps machine k s) ≡ of s
+    unfolding steps
+    steps-keep zero s = refl
+    steps-keep (suc k) s = kept (steps machine k s) ∙ steps-keep k s
+
+    pub call-keeps : (s : S) (budget : ℕ) → of (advanced machine s budget) ≡ of s
+    unfolding advanced
+    call-keeps s budget = steps-keep (doneIn machine s budget) s
+
   -- ---- costs
   module _ (cost : S → ℕ) where
     pub cost-none : (s : S) → costOf machine cost 0 s ≡ 0

@@ -49,11 +49,11 @@ pub record Ready (n m leaf store out : ℕ) : Type 0 where
   pub outRoom : openingSize n ≤ out
 
 -- what is known if the state can be continued
-pub can-be : (n m made leaf : ℕ) → either (impossible n m made (nodesAnew n m)) (leb (2 ^ n) leaf) ≡ false
+pub can-be : (edition n m made leaf : ℕ) → either (impossible edition n m made (nodesAnew n m)) (leb (2 ^ n) leaf) ≡ false
     → Possible n m leaf × (made ≤ nodesAnew n m)
-can-be n m made leaf e =
-    let (i, l) = neither (impossible n m made (nodesAnew n m)) (leb (2 ^ n) leaf) e in
-    let (d, o, k) = not-impossible n m made (nodesAnew n m) i in
+can-be edition n m made leaf e =
+    let (i, l) = neither (impossible edition n m made (nodesAnew n m)) (leb (2 ^ n) leaf) e in
+    let (x, d, o, k) = not-impossible edition n m made (nodesAnew n m) i in
     (possible n m leaf d o l, ltb-false (nodesAnew n m) made k)
 
 -- what a row of 0 tells
@@ -63,21 +63,21 @@ unfolding reopenRow
 continue-ready o store out e =
     let n = o .depth in
     let m = o .memory in
-    let (i, e₁) = passed (either (impossible n m (o .made) (nodesAnew n m)) (leb (2 ^ n) (o .leaf))) 4 _ (lit≤ tt) e in
+    let (i, e₁) = passed (either (impossible (o .edition) n m (o .made) (nodesAnew n m)) (leb (2 ^ n) (o .leaf))) 4 _ (lit≤ tt) e in
     let (s, e₂) = passed (ltb store (storeSize m)) 3 _ (lit≤ tt) e₁ in
     let (p, e₃) = passed (ltb out (openingSize n)) 7 0 (lit≤ tt) e₂ in
-    let (q, k) = can-be n m (o .made) (o .leaf) i in
+    let (q, k) = can-be (o .edition) n m (o .made) (o .leaf) i in
     (record { possible = q; room = ltb-false store (storeSize m) s; outRoom = ltb-false out (openingSize n) p }, k)
 
-module _ (statement : List ℕ) (n m leaf : ℕ) (store out : List ℕ) where
-  pub start-done : openRow n m leaf (length store) (length out) ≡ 0
-      → (newOpening statement n m leaf ≡ started statement n m leaf (length store) (length out))
-      × (copiedAll n m leaf store out ≡ startedOut n m leaf store out)
+module _ (edition : ℕ) (statement : List ℕ) (n m leaf : ℕ) (store out : List ℕ) where
+  pub start-done : openRow edition n m leaf (length store) (length out) ≡ 0
+      → (newOpening edition statement n m leaf ≡ started edition statement n m leaf (length store) (length out))
+      × (copiedAll n m leaf store out ≡ startedOut edition n m leaf store out)
   unfolding started startedOut
   start-done e = (rw e, rw e)
 
-  pub start-refused : isDone (openRow n m leaf (length store) (length out)) ≡ false
-      → (noOpening ≡ started statement n m leaf (length store) (length out)) × (out ≡ startedOut n m leaf store out)
+  pub start-refused : isDone (openRow edition n m leaf (length store) (length out)) ≡ false
+      → (noOpening ≡ started edition statement n m leaf (length store) (length out)) × (out ≡ startedOut edition n m leaf store out)
   unfolding started startedOut
   start-refused e = (rw e, rw e)
 

@@ -12,9 +12,9 @@ use Rattle.tree.specs.Walk.{nodesIn}
 use Rattle.tree.proofs.Order.{Place, placeOf, place-top, order-placed}
 use Rattle.labelling.specs.Step.{nextNode, heldWith}
 use Rattle.opening.specs.Rows.{nodesAnew}
-use Rattle.opening.specs.Names.{openingOf, openOf, nextAnew, labelAnew, blocksAnew}
+use Rattle.opening.specs.Names.{openOf, nextAnew, labelAnew, blocksAnew}
 use Rattle.opening_places.specs.Places.{ancestor, placed, front}
-use Rattle.opening.specs.Steps.{Open, stepped, openingMachine, steps, nextBlocksOf, stepBlocks}
+use Rattle.opening.specs.Steps.{openingOf, Open, stepped, openingMachine, steps, nextBlocksOf, stepBlocks}
 
 -- the ancestor's own label is not made anew
 pub anew-few : (n m k : ℕ) → k < nodesAnew n m → k + 1 < nodesIn (n - m)
@@ -45,26 +45,27 @@ one-step h n leaf v w w′ label label′ held held′ out out′ is so e f =
     (e ∙ ap₂ (λ (u : Node) (x : List ℕ). heldWith h v held u x) is so, f ∙ ap₂ (λ (u : Node) (x : List ℕ). placed n leaf out u x) is so)
 
 -- no step, and one more
-pub steps-none : (store statement : List ℕ) (n m leaf made : ℕ) (held out : List ℕ)
-    → steps store 0 (openOf (openingOf statement n m leaf made held) out) ≡ openOf (openingOf statement n m leaf (made + 0) held) out
-steps-none store statement n m leaf made held out =
-    rw (no-step (openingMachine store) (openOf (openingOf statement n m leaf made held) out), add-zero made)
+pub steps-none : (store : List ℕ) (edition : ℕ) (statement : List ℕ) (n m leaf made : ℕ) (held out : List ℕ)
+    → steps store 0 (openOf (openingOf edition statement n m leaf made held) out)
+    ≡ openOf (openingOf edition statement n m leaf (made + 0) held) out
+steps-none store edition statement n m leaf made held out =
+    rw (no-step (openingMachine store) (openOf (openingOf edition statement n m leaf made held) out), add-zero made)
 
-module _ (store : List ℕ) (s : Open) (i : ℕ) (statement : List ℕ) (n m leaf made : ℕ) (held out : List ℕ)
-    (before : steps store i s ≡ openOf (openingOf statement n m leaf (made + i) held) out)
+module _ (store : List ℕ) (s : Open) (i edition : ℕ) (statement : List ℕ) (n m leaf made : ℕ) (held out : List ℕ)
+    (before : steps store i s ≡ openOf (openingOf edition statement n m leaf (made + i) held) out)
     (aboves : List ℕ) (read : aboves ≡ front n m leaf store) where
   abbrev label : List ℕ
-  label = labelAnew statement n m leaf aboves held (made + i)
+  label = labelAnew edition statement n m leaf aboves held (made + i)
 
   pub steps-more : (held′ out′ : List ℕ) → held′ ≡ heldWith (n - m) (ancestor n leaf m) held (nextAnew n m leaf (made + i)) label
       → out′ ≡ placed n leaf out (nextAnew n m leaf (made + i)) label
-      → steps store (i + 1) s ≡ openOf (openingOf statement n m leaf (made + (i + 1)) held′) out′
+      → steps store (i + 1) s ≡ openOf (openingOf edition statement n m leaf (made + (i + 1)) held′) out′
   unfolding openingMachine stepped
   steps-more held′ out′ e f =
       let a : made + (i + 1) ≡ made + i + 1 = omega arith in
       rw (a, step-last (openingMachine store) i s, before, e, f, read)
 
-  pub step-blocks : (blocks : ℕ) → blocks ≡ blocksAnew statement n m leaf aboves held (made + i)
-      → blocks ≡ stepBlocks store (openOf (openingOf statement n m leaf (made + i) held) out)
+  pub step-blocks : (blocks : ℕ) → blocks ≡ blocksAnew edition statement n m leaf aboves held (made + i)
+      → blocks ≡ stepBlocks store (openOf (openingOf edition statement n m leaf (made + i) held) out)
   unfolding nextBlocksOf
-  step-blocks blocks e = e ∙ ap (λ (x : List ℕ). blocksAnew statement n m leaf x held (made + i)) read
+  step-blocks blocks e = e ∙ ap (λ (x : List ℕ). blocksAnew edition statement n m leaf x held (made + i)) read

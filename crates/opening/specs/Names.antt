@@ -1,7 +1,6 @@
 -- Short names for the contracts.
 use Prim.Native.Nat.{ℕ, _-_}
 use mathlib.Core.List.{List}
-use Rattle.base.specs.Limits.{edition}
 use Rattle.tree.specs.Nodes.{Node}
 use Rattle.tree.specs.Labels.{Label}
 use Rattle.labelling.specs.Step.{nextNode, nextLabel}
@@ -10,10 +9,6 @@ use Rattle.opening_places.specs.Places.{ancestor}
 use Rattle.opening.specs.declared.Opening.{Opening}
 use Rattle.opening.specs.Steps.{Open}
 
-abbrev pub openingOf : List ℕ → ℕ → ℕ → ℕ → ℕ → List ℕ → Opening
-openingOf statement n m leaf made held =
-    record { statement = statement; depth = n; memory = m; leaf = leaf; made = made; held = held }
-
 abbrev pub openOf : Opening → List ℕ → Open
 openOf o out = record { opening = o; out = out }
 
@@ -21,8 +16,8 @@ openOf o out = record { opening = o; out = out }
 abbrev pub nextAnew : ℕ → ℕ → ℕ → ℕ → Node
 nextAnew n m leaf made = nextNode (n - m) (ancestor n leaf m) made
 
-abbrev pub labelAnew : List ℕ → ℕ → ℕ → ℕ → List ℕ → List ℕ → ℕ → Label
-labelAnew statement n m leaf aboves held made = nextLabel edition statement (n - m) (ancestor n leaf m) aboves held made
+abbrev pub labelAnew : ℕ → List ℕ → ℕ → ℕ → ℕ → List ℕ → List ℕ → ℕ → Label
+labelAnew edition statement n m leaf aboves held made = nextLabel edition statement (n - m) (ancestor n leaf m) aboves held made
 
-abbrev pub blocksAnew : List ℕ → ℕ → ℕ → ℕ → List ℕ → List ℕ → ℕ → ℕ
-blocksAnew statement n m leaf aboves held made = nextBlocks edition statement (n - m) (ancestor n leaf m) aboves held made
+abbrev pub blocksAnew : ℕ → List ℕ → ℕ → ℕ → ℕ → List ℕ → List ℕ → ℕ → ℕ
+blocksAnew edition statement n m leaf aboves held made = nextBlocks edition statement (n - m) (ancestor n leaf m) aboves held made

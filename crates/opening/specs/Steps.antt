@@ -3,7 +3,7 @@
 use Prim.Native.Nat.{ℕ, _+_, _-_}
 use mathlib.Core.List.{List}
 use lib.ListN.{length}
-use Rattle.base.specs.Limits.{edition, heldSize}
+use Rattle.base.specs.Limits.{heldSize}
 use Rattle.base.specs.Choice.{pick}
 use Rattle.base.specs.Bytes.{zeros}
 use Rattle.base.specs.Row.{isDone}
@@ -17,20 +17,26 @@ use Rattle.opening_places.specs.Places.{ancestor, placed, copiedAll, front}
 use Rattle.opening.specs.declared.Opening.{Opening}
 use Rattle.opening.specs.Rows.{nodesAnew, openRow, reopenRow}
 
+-- an opening by its fields
+abbrev pub openingOf : ℕ → List ℕ → ℕ → ℕ → ℕ → ℕ → List ℕ → Opening
+openingOf edition statement n m leaf made held =
+    record { statement = statement; edition = edition; depth = n; memory = m; leaf = leaf; made = made; held = held }
+
 -- 'count and held labels are those of the nodes it labels anew, 0 and none at the start'
-abbrev pub newOpening : List ℕ → ℕ → ℕ → ℕ → Opening
-newOpening statement n m leaf =
-    record { statement = statement; depth = n; memory = m; leaf = leaf; made = 0; held = zeros heldSize }
+abbrev pub newOpening : ℕ → List ℕ → ℕ → ℕ → ℕ → Opening
+newOpening edition statement n m leaf = openingOf edition statement n m leaf 0 (zeros heldSize)
 
 -- what stands beside a refused start
 abbrev pub noOpening : Opening
-noOpening = newOpening (zeros 32) 0 0 0
+noOpening = newOpening 0 (zeros 32) 0 0 0
 
-unfoldable pub started : List ℕ → ℕ → ℕ → ℕ → ℕ → ℕ → Opening
-started statement n m leaf store out = pick (isDone (openRow n m leaf store out)) (newOpening statement n m leaf) noOpening
+unfoldable pub started : ℕ → List ℕ → ℕ → ℕ → ℕ → ℕ → ℕ → Opening
+started edition statement n m leaf store out =
+    pick (isDone (openRow edition n m leaf store out)) (newOpening edition statement n m leaf) noOpening
 
-unfoldable pub startedOut : ℕ → ℕ → ℕ → List ℕ → List ℕ → List ℕ
-startedOut n m leaf store out = pick (isDone (openRow n m leaf (length store) (length out))) (copiedAll n m leaf store out) out
+unfoldable pub startedOut : ℕ → ℕ → ℕ → ℕ → List ℕ → List ℕ → List ℕ
+startedOut edition n m leaf store out =
+    pick (isDone (openRow edition n m leaf (length store) (length out))) (copiedAll n m leaf store out) out
 
 -- an opening with its output
 pub record Open : Type 0 where
@@ -44,17 +50,10 @@ stepped store s =
     let h : ℕ = o .depth - o .memory in
     let v : Node = ancestor (o .depth) (o .leaf) (o .memory) in
     let w : Node = nextNode h v (o .made) in
-    let label : Label = nextLabel edition (o .statement) h v (front (o .depth) (o .memory) (o .leaf) store) (o .held) (o .made) in
+    let label : Label = nextLabel (o .edition) (o .statement) h v (front (o .depth) (o .memory) (o .leaf) store) (o .held) (o .made) in
     record {
       opening =
-          record {
-            statement = o .statement;
-            depth = o .depth;
-            memory = o .memory;
-            leaf = o .leaf;
-            made = o .made + 1;
-            held = heldWith h v (o .held) w label;
-          };
+          openingOf (o .edition) (o .statement) (o .depth) (o .memory) (o .leaf) (o .made + 1) (heldWith h v (o .held) w label);
       out = placed (o .depth) (o .leaf) (s .out) w label;
     }
 
@@ -77,7 +76,7 @@ labelsIn store s budget = machines.doneIn (openingMachine store) s budget
 -- W-207: the blocks of the next label made anew, and those of the labels that a call makes
 unfoldable pub nextBlocksOf : List ℕ → Opening → ℕ
 nextBlocksOf store o =
-    nextBlocks edition (o .statement) (o .depth - o .memory) (ancestor (o .depth) (o .leaf) (o .memory))
+    nextBlocks (o .edition) (o .statement) (o .depth - o .memory) (ancestor (o .depth) (o .leaf) (o .memory))
     (front (o .depth) (o .memory) (o .leaf) store) (o .held) (o .made)
 
 abbrev pub stepBlocks : List ℕ → Open → ℕ

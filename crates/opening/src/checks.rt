@@ -10,6 +10,7 @@ ghost use Rattle.run.specs.Rows.{impossible};
 ghost use Rattle.opening.specs.Rows.{nodesAnew, leafChecks, openRow, reopenRow};
 use crate::Opening;
 use base::MAX_DEPTH;
+use base::MAX_EDITION;
 use base::Outcome;
 use base::Refusal;
 use base::beyond;
@@ -39,9 +40,12 @@ fn output_short(depth: u64, out: usize) -> bool
     (out as u64) < 32 * (depth + 1)
 }
 
-pub fn not_possible(depth: u64, memory: u64, made: u64, leaf: u64) -> bool
-    ensures { λ r. ⌜ r ≡ either (impossible depth memory made (nodesAnew depth memory)) (leb (2 ^ depth) leaf) ⌝ }
+pub fn not_possible(edition: u64, depth: u64, memory: u64, made: u64, leaf: u64) -> bool
+    ensures { λ r. ⌜ r ≡ either (impossible edition depth memory made (nodesAnew depth memory)) (leb (2 ^ depth) leaf) ⌝ }
 {
+    if beyond(MAX_EDITION, edition) {
+        return true;
+    }
     if beyond(MAX_DEPTH, depth) {
         return true;
     }
@@ -68,9 +72,19 @@ fn leaf_fits(depth: u64, leaf: u64, out: usize) -> Outcome
     Outcome::Done
 }
 
-pub fn may_start(depth: u64, memory: u64, leaf: u64, store: usize, out: usize) -> Outcome
-    ensures { λ r. ⌜ outcomeNumber r ≡ openRow depth memory leaf store out ⌝ }
+pub fn may_start(
+    edition: u64,
+    depth: u64,
+    memory: u64,
+    leaf: u64,
+    store: usize,
+    out: usize,
+) -> Outcome
+    ensures { λ r. ⌜ outcomeNumber r ≡ openRow edition depth memory leaf store out ⌝ }
 {
+    if beyond(MAX_EDITION, edition) {
+        return Outcome::Refused(Refusal::Edition);
+    }
     let checked = run::may_start(depth, memory, store);
     match checked {
         Outcome::Refused(why) => Outcome::Refused(why),
@@ -81,7 +95,13 @@ pub fn may_start(depth: u64, memory: u64, leaf: u64, store: usize, out: usize) -
 pub fn may_continue(opening: Opening, store: usize, out: usize) -> Outcome
     ensures { λ r. ⌜ outcomeNumber r ≡ reopenRow opening store out ⌝ }
 {
-    if not_possible(opening.depth, opening.memory, opening.made, opening.leaf) {
+    if not_possible(
+        opening.edition,
+        opening.depth,
+        opening.memory,
+        opening.made,
+        opening.leaf,
+    ) {
         return Outcome::Refused(Refusal::State);
     }
     if store_short(opening.memory, store) {

@@ -14,7 +14,6 @@ ghost use Rattle.opening.specs.Names.{openOf, nextAnew, labelAnew, block
 ghost use Rattle.opening_places.specs.Places.{ancestor, placed};
 ghost use Rattle.opening.specs.Steps.{steps, blocksOver};
 use crate::Opening;
-use base::EDITION;
 use labelling::label_next;
 use opening_places::labels_above;
 use opening_places::put_label;
@@ -27,6 +26,7 @@ pub struct Stepped {
 
 // One step, with the left siblings' labels in front, and its blocks. Its caller knows that a node is left.
 fn label_one(
+    edition: u64,
     statement: [u8; 32],
     depth: u64,
     memory: u64,
@@ -40,16 +40,16 @@ fn label_one(
     requires { ⌜ (length (now front) ≡ 32 * ones (leaf / 2 ^ (depth - memory))) × (length (now held) ≡ heldSize) × (openingSize depth ≤ length (now out)) ⌝ }
     ensures { λ _. ⌜ now (held .exit)
         ≡ heldWith (depth - memory) (ancestor depth leaf memory) (now (held .entry)) (nextAnew depth memory leaf made)
-        (labelAnew statement depth memory leaf (now (front .entry)) (now (held .entry)) made) ⌝ }
+        (labelAnew edition statement depth memory leaf (now (front .entry)) (now (held .entry)) made) ⌝ }
     ensures { λ _. ⌜ now (out .exit)
         ≡ placed depth leaf (now (out .entry)) (nextAnew depth memory leaf made)
-        (labelAnew statement depth memory leaf (now (front .entry)) (now (held .entry)) made) ⌝ }
-    ensures { λ r. ⌜ (r ≡ blocksAnew statement depth memory leaf (now (front .entry)) (now (held .entry)) made) × (r ≤ mostBlocks) ⌝ }
+        (labelAnew edition statement depth memory leaf (now (front .entry)) (now (held .entry)) made) ⌝ }
+    ensures { λ r. ⌜ (r ≡ blocksAnew edition statement depth memory leaf (now (front .entry)) (now (held .entry)) made) × (r ≤ mostBlocks) ⌝ }
 {
     let height = depth - memory;
     let position = leaf >> height;
     let w = label_next(
-        EDITION,
+        edition,
         statement,
         height,
         memory,
@@ -71,6 +71,7 @@ pub fn label_many(opening: Opening, count: u64, store: &[u8], out: &mut [u8]) ->
     ensures { λ r. ⌜ now (out .exit) ≡ steps (now (store .entry)) count (openOf opening (now (out .entry))) .out ⌝ }
     ensures { λ r. ⌜ (r .blocks ≡ blocksOver (now (store .entry)) count (openOf opening (now (out .entry)))) × (r .blocks ≤ mostBlocks * count) ⌝ }
 {
+    let edition = opening.edition;
     let statement = opening.statement;
     let depth = opening.depth;
     let memory = opening.memory;
@@ -84,6 +85,7 @@ pub fn label_many(opening: Opening, count: u64, store: &[u8], out: &mut [u8]) ->
     let mut i = 0;
     while i < count {
         blocks += label_one(
+            edition,
             statement,
             depth,
             memory,
@@ -97,6 +99,7 @@ pub fn label_many(opening: Opening, count: u64, store: &[u8], out: &mut [u8]) ->
     }
     let opening = Opening {
         statement,
+        edition,
         depth,
         memory,
         leaf,

@@ -24,6 +24,7 @@ use opening_places::copy_held;
 #[repr(C)]
 pub struct Opening {
     pub statement: [u8; 32],
+    pub edition: u64,
     pub depth: u64,
     pub memory: u64,
     pub leaf: u64,
@@ -45,12 +46,13 @@ pub struct Advanced {
     pub opening: Opening,
 }
 
-fn new_opening(statement: [u8; 32], depth: u64, memory: u64, leaf: u64) -> Opening
-    ensures { λ r. ⌜ r ≡ newOpening statement depth memory leaf ⌝ }
+fn new_opening(edition: u64, statement: [u8; 32], depth: u64, memory: u64, leaf: u64) -> Opening
+    ensures { λ r. ⌜ r ≡ newOpening edition statement depth memory leaf ⌝ }
 {
     let held = [0u8; HELD_SIZE];
     Opening {
         statement,
+        edition,
         depth,
         memory,
         leaf,
@@ -62,6 +64,7 @@ fn new_opening(statement: [u8; 32], depth: u64, memory: u64, leaf: u64) -> Openi
 impl Opening {
     // Copies what the store holds of the opening to the output, and writes no other byte.
     pub fn start(
+        edition: u64,
         statement: [u8; 32],
         depth: u64,
         memory: u64,
@@ -69,19 +72,19 @@ impl Opening {
         store: &[u8],
         out: &mut [u8],
     ) -> Started
-        ensures { λ r. ⌜ outcomeNumber (r .outcome) ≡ openRow depth memory leaf (length (now (store .entry))) (length (now (out .entry))) ⌝ }
-        ensures { λ r. ⌜ r .opening ≡ started statement depth memory leaf (length (now (store .entry))) (length (now (out .entry))) ⌝ }
-        ensures { λ r. ⌜ now (out .exit) ≡ startedOut depth memory leaf (now (store .entry)) (now (out .entry)) ⌝ }
+        ensures { λ r. ⌜ outcomeNumber (r .outcome) ≡ openRow edition depth memory leaf (length (now (store .entry))) (length (now (out .entry))) ⌝ }
+        ensures { λ r. ⌜ r .opening ≡ started edition statement depth memory leaf (length (now (store .entry))) (length (now (out .entry))) ⌝ }
+        ensures { λ r. ⌜ now (out .exit) ≡ startedOut edition depth memory leaf (now (store .entry)) (now (out .entry)) ⌝ }
     {
-        let outcome = may_start(depth, memory, leaf, store.len(), out.len());
+        let outcome = may_start(edition, depth, memory, leaf, store.len(), out.len());
         match outcome {
             Outcome::Done => {
                 copy_held(depth, memory, leaf, store, out);
-                let opening = new_opening(statement, depth, memory, leaf);
+                let opening = new_opening(edition, statement, depth, memory, leaf);
                 Started { outcome, opening }
             }
             Outcome::Refused(_) => {
-                let opening = new_opening([0u8; 32], 0, 0, 0);
+                let opening = new_opening(0, [0u8; 32], 0, 0, 0);
                 Started { outcome, opening }
             }
         }

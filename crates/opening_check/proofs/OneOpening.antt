@@ -17,7 +17,7 @@ use Rattle.base.specs.Lists.{sameBytes}
 use Rattle.base.proofs.BytesLaws.{joined-append}
 use Rattle.base.proofs.ChoiceLaws.{is-odd, is-even, odd-true, odd-false}
 use Rattle.base.proofs.Copying.{length-written}
-use Rattle.base.specs.Row.{outside}
+use Rattle.base.specs.Row.{outside, noEdition}
 use Rattle.tree.specs.Nodes.{node}
 use Rattle.tree.specs.Labels.{Label, labelBy, inLabels}
 use Rattle.tree.specs.Openings.{Given, childLabels, computed, inputAt, openingSize}
@@ -168,42 +168,50 @@ module _ (edition : ℕ) (statement : List ℕ) (n leaf : ℕ) (root bytes : Lis
 
 -- ---- the row, one law for each return
 module _ (edition : ℕ) (statement : List ℕ) (n leaf : ℕ) (root bytes : List ℕ) where
-  pub depth-refused : outside 1 maxDepth n ≡ true → 1 ≡ openingRow edition statement n leaf root bytes
+  pub edition-refused : noEdition edition ≡ true → 12 ≡ openingRow edition statement n leaf root bytes
   unfolding openingRow
-  depth-refused d = rw d
+  edition-refused e = rw e
 
-  module _ (d : outside 1 maxDepth n ≡ false) (small : n ≤ maxDepth) where
-    pub leaf-refused : (1 * 2 ^ n) % 2 ^ 64 ≤ leaf → 6 ≡ openingRow edition statement n leaf root bytes
+  module _ (e : noEdition edition ≡ false) where
+    pub depth-refused : outside 1 maxDepth n ≡ true → 1 ≡ openingRow edition statement n leaf root bytes
     unfolding openingRow
-    leaf-refused h = let l : 2 ^ n ≤ leaf = rw (shifted-one n small) at h in rw (d, le-leb (2 ^ n) leaf l)
+    depth-refused d = rw (e, d)
 
-    module _ (inside : leaf < (1 * 2 ^ n) % 2 ^ 64) where
-      inside-leaf : leaf < 2 ^ n
-      inside-leaf = rw (shifted-one n small) at inside
-
-      pub short-refused : length bytes < openingSize n → 10 ≡ openingRow edition statement n leaf root bytes
+    module _ (d : outside 1 maxDepth n ≡ false) (small : n ≤ maxDepth) where
+      pub leaf-refused : (1 * 2 ^ n) % 2 ^ 64 ≤ leaf → 6 ≡ openingRow edition statement n leaf root bytes
       unfolding openingRow
-      short-refused h = rw (d, lt-leb (2 ^ n) leaf inside-leaf, lt-ltb (length bytes) (openingSize n) h)
+      leaf-refused h = let l : 2 ^ n ≤ leaf = rw (shifted-one n small) at h in rw (e, d, le-leb (2 ^ n) leaf l)
 
-      module _ (enough : openingSize n ≤ length bytes) where
-        pub long-refused : openingSize n < length bytes → 13 ≡ openingRow edition statement n leaf root bytes
+      module _ (inside : leaf < (1 * 2 ^ n) % 2 ^ 64) where
+        inside-leaf : leaf < 2 ^ n
+        inside-leaf = rw (shifted-one n small) at inside
+
+        pub short-refused : length bytes < openingSize n → 10 ≡ openingRow edition statement n leaf root bytes
         unfolding openingRow
-        long-refused h =
-            rw (
-              d,
-              lt-leb (2 ^ n) leaf inside-leaf,
-              le-ltb (length bytes) (openingSize n) enough,
-              lt-ltb (openingSize n)
-                  (length bytes) h,
-            )
+        short-refused h = rw (e, d, lt-leb (2 ^ n) leaf inside-leaf, lt-ltb (length bytes) (openingSize n) h)
 
-        pub rest-right : length bytes ≤ openingSize n → rightRow edition statement n leaf root bytes ≡ openingRow edition statement n leaf root bytes
-        unfolding rightRow openingRow
-        rest-right h =
-            rw (
-              d,
-              lt-leb (2 ^ n) leaf inside-leaf,
-              le-ltb (length bytes) (openingSize n) enough,
-              le-ltb (openingSize n)
-                  (length bytes) h,
-            )
+        module _ (enough : openingSize n ≤ length bytes) where
+          pub long-refused : openingSize n < length bytes → 13 ≡ openingRow edition statement n leaf root bytes
+          unfolding openingRow
+          long-refused h =
+              rw (
+                e,
+                d,
+                lt-leb (2 ^ n) leaf inside-leaf,
+                le-ltb (length bytes) (openingSize n) enough,
+                lt-ltb (openingSize n)
+                    (length bytes) h,
+              )
+
+          pub rest-right :
+              length bytes ≤ openingSize n → rightRow edition statement n leaf root bytes ≡ openingRow edition statement n leaf root bytes
+          unfolding rightRow openingRow
+          rest-right h =
+              rw (
+                e,
+                d,
+                lt-leb (2 ^ n) leaf inside-leaf,
+                le-ltb (length bytes) (openingSize n) enough,
+                le-ltb (openingSize n)
+                    (length bytes) h,
+              )

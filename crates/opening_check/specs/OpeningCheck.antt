@@ -7,7 +7,7 @@ use lib.Dec.{ltb, leb}
 use lib.ListN.{length, take, drop}
 use Rattle.base.specs.Lists.{sameBytes}
 use Rattle.base.specs.Limits.{maxDepth}
-use Rattle.base.specs.Row.{firstOf, outside}
+use Rattle.base.specs.Row.{firstOf, outside, noEdition}
 use Rattle.tree.specs.Nodes.{node}
 use Rattle.tree.specs.Labels.{Rule}
 use Rattle.tree.specs.Openings.{Given, computed, inputAt, openingSize}
@@ -34,11 +34,12 @@ rightRow edition statement n leaf root bytes =
     ∷ []
     )
 
--- 1; 6; 10: bytes too few; 13: too many; 14; 15
+-- 12 (W-206); 1; 6; 10: bytes too few; 13: too many; 14; 15
 unfoldable pub openingRow : ℕ → List ℕ → ℕ → ℕ → List ℕ → List ℕ → ℕ
 openingRow edition statement n leaf root bytes =
     firstOf
-    ((outside 1 maxDepth n, 1)
+    ((noEdition edition, 12)
+    ∷ (outside 1 maxDepth n, 1)
     ∷ (leb (2 ^ n) leaf, 6)
     ∷ (ltb (length bytes) (openingSize n), 10)
     ∷ (ltb (openingSize n) (length bytes), 13)

@@ -3,7 +3,7 @@ ghost use mathlib.Core.Path.{_≡_};
 ghost use mathlib.Core.List.{[]};
 ghost use Prim.Native.Nat.{_+_, _*_, _/_, _%_, _^_, _<_, _≤_};
 ghost use lib.ListN.{length};
-ghost use Rattle.base.specs.Limits.{edition, maxDepth};
+ghost use Rattle.base.specs.Limits.{maxDepth};
 ghost use Rattle.base.specs.Choice.{pick, odd};
 ghost use Rattle.base.specs.Bytes.{written};
 ghost use Rattle.base.specs.Number.{outcomeNumber};
@@ -12,8 +12,8 @@ ghost use Rattle.tree.specs.Labels.{labelBy};
 ghost use Rattle.tree.specs.Openings.{childLabels, computed, inputAt, openingSize};
 ghost use Rattle.labelling.specs.Rule.{stampRule};
 ghost use Rattle.opening_check.specs.OpeningCheck.{givenBy, rightRow, openingRow};
-use base::EDITION;
 use base::MAX_DEPTH;
+use base::MAX_EDITION;
 use base::Outcome;
 use base::Refusal;
 use base::beyond;
@@ -152,6 +152,7 @@ pub fn right(
 
 // One opening checked.
 pub fn check_opening(
+    edition: u64,
     statement: [u8; 32],
     depth: u64,
     leaf: u64,
@@ -160,6 +161,9 @@ pub fn check_opening(
 ) -> Outcome
     ensures { λ r. ⌜ outcomeNumber r ≡ openingRow edition statement depth leaf root (now (bytes .entry)) ⌝ }
 {
+    if beyond(MAX_EDITION, edition) {
+        return Outcome::Refused(Refusal::Edition);
+    }
     if beyond(MAX_DEPTH, depth) {
         return Outcome::Refused(Refusal::Depth);
     }
@@ -173,5 +177,5 @@ pub fn check_opening(
     if size < bytes.len() {
         return Outcome::Refused(Refusal::BytesLeft);
     }
-    right(EDITION, statement, depth, leaf, root, bytes)
+    right(edition, statement, depth, leaf, root, bytes)
 }

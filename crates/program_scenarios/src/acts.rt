@@ -4,6 +4,7 @@ use crate::front;
 use crate::make;
 use crate::rest;
 use crate::say;
+use base::NEW_EDITION;
 use words::word;
 
 pub fn is_word(word: &[u8], name: &[u8]) -> bool {
@@ -96,12 +97,13 @@ fn remove(line: &[u8]) {
     os::unlink(word(line, 1));
 }
 
-// `pause REPORT PROOF DEPTH CHALLENGES MEMORY LABELS`: the checkpoint that a seal has after so many labels, at memory level 6 at most.
+// `pause REPORT PROOF DEPTH CHALLENGES MEMORY LABELS`: the checkpoint that a seal of the newest edition has after so many labels, at memory
+// level 6 at most.
 fn pause(line: &[u8]) {
     let stated = files::state_report(word(line, 1), 1);
     let statement = stated.statement;
     let mut store = io::buffer();
-    let run = run::new_run(statement, number(line, 3), number(line, 5));
+    let run = run::new_run(NEW_EDITION, statement, number(line, 3), number(line, 5));
     let advanced = run.advance(number(line, 6), &mut store);
     let paused = advanced.run;
     let mut space = [0u8; 8192];

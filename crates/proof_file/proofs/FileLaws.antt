@@ -22,7 +22,6 @@ use Rattle.file_head.specs.Challenge.{challengeLeaf}
 use Rattle.file_head.specs.Layout.{openingFrom}
 use Rattle.file_head.specs.Head.{numbers, notRead, headOf, lengthFrom, statementAt, rootAt, openingAt}
 use Rattle.opening_check.specs.OpeningCheck.{rightRow}
-use Rattle.base.specs.Limits as limits
 use Rattle.proof_file.specs.FileCheck.{foundIn, openingsFrom, wanted, fileRest, fileCheck}
 use Rattle.base.proofs.Parts.{part-size}
 
@@ -73,8 +72,8 @@ module _ (statement statement′ : List ℕ) (n t n′ t′ : ℕ) where
       sym (tells-bytes .equal statement statement′ (both-first (sameBytes statement statement′) (both (eqb n n′) (eqb t t′)) e))
 
 -- ---- 10; 13; 9; then the openings
-module _ (bytes statement : List ℕ) (depth count n t at size : ℕ) (is : size ≡ lengthFrom n t at) where
-  pub too-short : length bytes < size → foundIn 0 10 ≡ fileRest bytes statement depth count (numbers n t at)
+module _ (bytes statement : List ℕ) (depth count edition n t at size : ℕ) (is : size ≡ lengthFrom n t at) where
+  pub too-short : length bytes < size → foundIn 0 10 ≡ fileRest bytes statement depth count (numbers edition n t at)
   too-short h = let short : length bytes < lengthFrom n t at = rw is at h in rw (lt-ltb (length bytes) (lengthFrom n t at) short)
 
   module _ (enough : size ≤ length bytes) where
@@ -82,7 +81,7 @@ module _ (bytes statement : List ℕ) (depth count n t at size : ℕ) (is : size
     not-short = rw is at enough
 
     pub too-long : size < length bytes
-        → foundIn 0 13 ≡ fileRest bytes statement depth count (numbers n t at)
+        → foundIn 0 13 ≡ fileRest bytes statement depth count (numbers edition n t at)
     too-long h =
         let long : lengthFrom n t at < length bytes = rw is at h in
         rw (le-ltb (length bytes) (lengthFrom n t at) not-short, lt-ltb (lengthFrom n t at) (length bytes) long)
@@ -92,12 +91,12 @@ module _ (bytes statement : List ℕ) (depth count n t at size : ℕ) (is : size
       not-long = rw is at all
 
       pub not-wanted : wanted (statementAt bytes at) n t statement depth count ≡ false
-          → foundIn 0 9 ≡ fileRest bytes statement depth count (numbers n t at)
+          → foundIn 0 9 ≡ fileRest bytes statement depth count (numbers edition n t at)
       not-wanted w =
           rw (le-ltb (length bytes) (lengthFrom n t at) not-short, le-ltb (lengthFrom n t at) (length bytes) not-long, w)
 
       pub is-wanted : wanted (statementAt bytes at) n t statement depth count ≡ true
-          → openingsFrom limits.edition bytes n at 1 t ≡ fileRest bytes statement depth count (numbers n t at)
+          → openingsFrom edition bytes n at 1 t ≡ fileRest bytes statement depth count (numbers edition n t at)
       is-wanted w =
           rw (le-ltb (length bytes) (lengthFrom n t at) not-short, le-ltb (lengthFrom n t at) (length bytes) not-long, w)
 
@@ -107,7 +106,7 @@ module _ (bytes statement : List ℕ) (depth count : ℕ) where
   unfolding fileCheck
   head-refused r e = rw e
 
-  pub rest-checked : (n t at : ℕ) → headOf bytes ≡ numbers n t at
-      → fileRest bytes statement depth count (numbers n t at) ≡ fileCheck bytes statement depth count
+  pub rest-checked : (edition n t at : ℕ) → headOf bytes ≡ numbers edition n t at
+      → fileRest bytes statement depth count (numbers edition n t at) ≡ fileCheck bytes statement depth count
   unfolding fileCheck
-  rest-checked n t at e = rw e
+  rest-checked edition n t at e = rw e

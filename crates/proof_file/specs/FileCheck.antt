@@ -6,7 +6,6 @@ use lib.Dec.{ltb, eqb}
 use lib.ListN.{length}
 use Rattle.base.specs.Choice.{pick, both}
 use Rattle.base.specs.Lists.{sameBytes}
-use Rattle.base.specs.Limits as limits
 use Rattle.base.specs.Row.{isDone}
 use Rattle.file_head.specs.Challenge.{challengeLeaf}
 use Rattle.file_head.specs.Head.{HeadAnswer, numbers, notRead, headOf, lengthFrom, statementAt, rootAt, openingAt}
@@ -33,13 +32,13 @@ openingsFrom edition bytes n at i (suc left) =
 abbrev pub wanted : List ℕ → ℕ → ℕ → List ℕ → ℕ → ℕ → Bool
 wanted statement n t statement′ n′ t′ = both (sameBytes statement statement′) (both (eqb n n′) (eqb t t′))
 
--- row 'File, rest': 10; 13; 9; per opening 14, 15
+-- row 'File, rest': 10; 13; 9; per opening 14, 15 by the rule of the edition that the head says (W-206)
 abbrev pub fileRest : List ℕ → List ℕ → ℕ → ℕ → HeadAnswer → ℕ
 fileRest bytes statement n t (notRead r) = foundIn 0 r
-fileRest bytes statement n t (numbers n′ t′ at) =
+fileRest bytes statement n t (numbers e n′ t′ at) =
     pick (ltb (length bytes) (lengthFrom n′ t′ at)) (foundIn 0 10)
     (pick (ltb (lengthFrom n′ t′ at) (length bytes)) (foundIn 0 13)
-    (pick (not (wanted (statementAt bytes at) n′ t′ statement n t)) (foundIn 0 9) (openingsFrom limits.edition bytes n′ at 1 t′)))
+    (pick (not (wanted (statementAt bytes at) n′ t′ statement n t)) (foundIn 0 9) (openingsFrom e bytes n′ at 1 t′)))
 
 -- the answer as one number, 0 if accepted
 unfoldable pub fileCheck : List ℕ → List ℕ → ℕ → ℕ → ℕ

@@ -7,7 +7,6 @@ ghost use Rattle.base.specs.Number.{codeOf};
 ghost use Rattle.file_head.specs.Head.{numbers, lengthFrom, statementAt};
 ghost use Rattle.proof_file.specs.FileCheck.{openingsFrom, wanted, fileRest, fileCheck};
 use base::Check;
-use base::EDITION;
 use base::Outcome;
 use base::Refusal;
 use base::label_at;
@@ -74,6 +73,7 @@ fn is_wanted(
 // What follows the numbers.
 fn check_rest(
     bytes: &[u8],
+    edition: u64,
     statement: [u8; 32],
     depth: u64,
     count: u64,
@@ -82,7 +82,7 @@ fn check_rest(
     at: usize,
 ) -> Check
     requires { ⌜ (1 ≤ n) × (n ≤ maxDepth) × (t ≤ maxChallenges) × (at ≤ 6) ⌝ }
-    ensures { λ r. ⌜ codeOf r ≡ fileRest (now (bytes .entry)) statement depth count (numbers n t at) ⌝ }
+    ensures { λ r. ⌜ codeOf r ≡ fileRest (now (bytes .entry)) statement depth count (numbers edition n t at) ⌝ }
 {
     let size = file_length(n, t, at);
     if bytes.len() < size {
@@ -94,7 +94,7 @@ fn check_rest(
     if !is_wanted(bytes, statement, depth, count, n, t, at) {
         return Check::Rejected(Refusal::NotWanted, 0);
     }
-    check_openings(bytes, EDITION, statement, n, t, at)
+    check_openings(bytes, edition, statement, n, t, at)
 }
 
 // The check of a file.
@@ -104,9 +104,9 @@ pub fn check_file(bytes: &[u8], statement: [u8; 32], depth: u64, count: u64) -> 
     let head = read_head(bytes);
     match head {
         HeadNumbers::NotRead(r) => Check::Rejected(r, 0),
-        HeadNumbers::Numbers(n, t, next) => {
+        HeadNumbers::Numbers(edition, n, t, next) => {
             let at = next.at;
-            check_rest(bytes, statement, depth, count, n, t, at)
+            check_rest(bytes, edition, statement, depth, count, n, t, at)
         }
     }
 }

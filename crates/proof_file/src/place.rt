@@ -54,7 +54,7 @@ pub fn opening_place(bytes: &[u8], i: u64) -> Place
             offset: 0,
             length: 0,
         },
-        HeadNumbers::Numbers(n, t, next) => {
+        HeadNumbers::Numbers(_, n, t, next) => {
             let at = next.at;
             place_at(bytes, n, t, at, i)
         }

@@ -27,9 +27,9 @@ fn answers(bytes: &[u8], end: usize) {
 }
 
 // A record cut after every byte, and with bytes behind it.
-fn cuts(depth: u64, memory: u64, made: u64) {
+fn cuts(edition: u64, depth: u64, memory: u64, made: u64) {
     let mut out = [90u8; MAX_RECORD];
-    let written = write_record(state(depth, memory, made), &mut out);
+    let written = write_record(state(edition, depth, memory, made), &mut out);
     vector_helpers::number(written.size as u64);
     answers(&out, 140);
 }
@@ -102,57 +102,63 @@ fn forms(edition: u64, depth: u64, memory: u64, made: u64) {
     }
 }
 
-fn editions() {
+// Editions that exist or not, in their shortest form and in a longer one; one that does not exist is refused before all behind it.
+pub fn editions() {
     numbers(0, 0, 40, 14, 0);
+    numbers(0, 1, 40, 14, 0);
     numbers(0, 2, 40, 14, 0);
+    numbers(0, 3, 40, 14, 0);
     numbers(0, 3, 41, 99, 99);
+    numbers(0, 127, 40, 14, 0);
+    numbers(1000, 1, 40, 14, 0);
+    numbers(1000, 2, 40, 14, 0);
     numbers(1000, 128, 40, 14, 0);
+    numbers(1000, 130, 40, 14, 0);
     numbers(1000, 200, 0, 99, 99);
     numbers(1003, 200, 0, 99, 0);
 }
 
-fn depths_and_levels() {
-    numbers(0, 1, 0, 0, 0);
-    numbers(0, 1, 41, 0, 0);
-    numbers(0, 1, 127, 0, 0);
-    numbers(100, 1, 128, 0, 0);
-    numbers(1, 1, 0, 0, 0);
-    numbers(0, 1, 40, 13, 0);
-    numbers(0, 1, 40, 14, 0);
-    numbers(0, 1, 40, 15, 0);
-    numbers(0, 1, 40, 20, 0);
-    numbers(0, 1, 40, 21, 0);
-    numbers(0, 1, 13, 14, 0);
-    numbers(10, 1, 40, 128, 0);
+fn depths_and_levels(edition: u64) {
+    numbers(0, edition, 0, 0, 0);
+    numbers(0, edition, 41, 0, 0);
+    numbers(0, edition, 127, 0, 0);
+    numbers(100, edition, 128, 0, 0);
+    numbers(1, edition, 0, 0, 0);
+    numbers(0, edition, 40, 13, 0);
+    numbers(0, edition, 40, 14, 0);
+    numbers(0, edition, 40, 15, 0);
+    numbers(0, edition, 40, 20, 0);
+    numbers(0, edition, 40, 21, 0);
+    numbers(0, edition, 13, 14, 0);
+    numbers(10, edition, 40, 128, 0);
 }
 
 // The labels made, at depths 3 and 40.
-fn counts() {
-    numbers(0, 1, 3, 1, 1);
-    numbers(0, 1, 3, 1, 2);
-    numbers(0, 1, 3, 1, 14);
-    numbers(0, 1, 3, 1, 15);
-    numbers(0, 1, 3, 1, 16);
-    numbers(1, 1, 3, 1, 128);
-    numbers(1, 1, 40, 14, 128);
-    numbers(4, 1, 40, 14, 34359738367);
-    numbers(5, 1, 40, 14, 34359738367);
-    numbers(5, 1, 40, 14, 2199023255550);
-    numbers(5, 1, 40, 14, 2199023255551);
-    numbers(5, 1, 40, 14, 2199023255552);
-    numbers(5, 1, 40, 14, 4398046511103);
-    numbers(6, 1, 40, 14, 2199023255551);
-    numbers(6, 1, 40, 14, 4398046511104);
-    numbers(9, 1, 40, 14, 0);
+fn counts(edition: u64) {
+    numbers(0, edition, 3, 1, 1);
+    numbers(0, edition, 3, 1, 2);
+    numbers(0, edition, 3, 1, 14);
+    numbers(0, edition, 3, 1, 15);
+    numbers(0, edition, 3, 1, 16);
+    numbers(1, edition, 3, 1, 128);
+    numbers(1, edition, 40, 14, 128);
+    numbers(4, edition, 40, 14, 34359738367);
+    numbers(5, edition, 40, 14, 34359738367);
+    numbers(5, edition, 40, 14, 2199023255550);
+    numbers(5, edition, 40, 14, 2199023255551);
+    numbers(5, edition, 40, 14, 2199023255552);
+    numbers(5, edition, 40, 14, 4398046511103);
+    numbers(6, edition, 40, 14, 2199023255551);
+    numbers(6, edition, 40, 14, 4398046511104);
+    numbers(9, edition, 40, 14, 0);
 }
 
-pub fn taken_up() {
-    cuts(1, 0, 0);
-    cuts(3, 2, 9);
-    cuts(40, 14, 2199023255551);
-    forms(1, 3, 1, 15);
-    forms(1, 41, 99, 99);
-    editions();
-    depths_and_levels();
-    counts();
+pub fn taken_up(edition: u64) {
+    cuts(edition, 1, 0, 0);
+    cuts(edition, 3, 2, 9);
+    cuts(edition, 40, 14, 2199023255551);
+    forms(edition, 3, 1, 15);
+    forms(edition, 41, 99, 99);
+    depths_and_levels(edition);
+    counts(edition);
 }

@@ -11,6 +11,7 @@ use base::MAX_RECORD;
 use base::outcome_number;
 use run::Run;
 use run::Started;
+use run::new_run;
 use run_record::read_record;
 use run_record::write_record;
 use vector_helpers::column;
@@ -29,12 +30,13 @@ fn places() -> [u8; HELD_SIZE] {
 }
 
 // A run made by hand, with something in the places that hold no label too.
-pub fn state(depth: u64, memory: u64, made: u64) -> Run
-    ensures { λ r. ⌜ r ≡ runOf (replicate 32 201) depth memory made (r .held) ⌝ }
+pub fn state(edition: u64, depth: u64, memory: u64, made: u64) -> Run
+    ensures { λ r. ⌜ r ≡ runOf edition (replicate 32 201) depth memory made (r .held) ⌝ }
 {
     let held = places();
     Run {
         statement: [201u8; 32],
+        edition,
         depth,
         memory,
         made,
@@ -44,7 +46,8 @@ pub fn state(depth: u64, memory: u64, made: u64) -> Run
 
 // Writes the record. Its size.
 fn wrote(run: Run, out: &mut [u8]) -> usize {
-    vector_helpers::number(run.depth);
+    vector_helpers::number(run.edition);
+    column(run.depth);
     column(run.memory);
     column(run.made);
     column(out.len() as u64);
@@ -60,6 +63,7 @@ fn wrote(run: Run, out: &mut [u8]) -> usize {
 fn run_columns(run: Run) {
     let statement = run.statement;
     let held = run.held;
+    column(run.edition);
     column(run.depth);
     column(run.memory);
     column(run.made);
@@ -95,10 +99,9 @@ fn line(run: Run) {
 }
 
 // Each of so many states of a run from its start.
-fn states(depth: u64, memory: u64, count: u64) {
+fn states(edition: u64, depth: u64, memory: u64, count: u64) {
     let mut store = [0u8; 224];
-    let start = Run::start(hash(b"hull"), depth, memory, &store);
-    let mut run = start.run;
+    let mut run = new_run(edition, hash(b"hull"), depth, memory);
     let mut left = count;
     while 0 < left {
         line(run);
@@ -110,58 +113,67 @@ fn states(depth: u64, memory: u64, count: u64) {
 }
 
 // Before the first label, after it, with all 41 places held, before the root and finished.
-fn deep() {
-    line(state(40, 14, 0));
-    line(state(40, 14, 1));
-    line(state(40, 14, 2199023255511));
-    line(state(40, 14, 2199023255550));
-    line(state(40, 14, 2199023255551));
+fn deep(edition: u64) {
+    line(state(edition, 40, 14, 0));
+    line(state(edition, 40, 14, 1));
+    line(state(edition, 40, 14, 2199023255511));
+    line(state(edition, 40, 14, 2199023255550));
+    line(state(edition, 40, 14, 2199023255551));
 }
 
 // A run made by hand, and an output of this length.
-fn edge(depth: u64, memory: u64, made: u64, len: usize) {
+fn edge(edition: u64, depth: u64, memory: u64, made: u64, len: usize) {
     if len <= 1353 {
         let mut out = [90u8; MAX_RECORD];
-        wrote(state(depth, memory, made), &mut out[..len]);
+        wrote(state(edition, depth, memory, made), &mut out[..len]);
         vector_helpers::end();
     }
 }
 
 // No room, one byte less than a record takes, just enough, and more.
-fn lengths(depth: u64, memory: u64, made: u64, size: usize)
+fn lengths(edition: u64, depth: u64, memory: u64, made: u64, size: usize)
     requires { ⌜ 1 ≤ size ⌝ }
 {
-    edge(depth, memory, made, 0);
-    edge(depth, memory, made, size - 1);
-    edge(depth, memory, made, size);
-    edge(depth, memory, made, 1353);
+    edge(edition, depth, memory, made, 0);
+    edge(edition, depth, memory, made, size - 1);
+    edge(edition, depth, memory, made, size);
+    edge(edition, depth, memory, made, 1353);
 }
 
 // 4 comes before 7.
-fn edges() {
-    lengths(0, 0, 0, 36);
-    lengths(41, 0, 0, 36);
-    lengths(18446744073709551615, 0, 0, 36);
-    lengths(3, 3, 0, 36);
-    lengths(3, 4, 0, 36);
-    lengths(13, 14, 0, 36);
-    lengths(14, 14, 0, 36);
-    lengths(40, 15, 0, 36);
-    lengths(40, 20, 0, 36);
-    lengths(3, 1, 14, 100);
-    lengths(3, 1, 15, 68);
-    lengths(3, 1, 16, 68);
-    lengths(3, 1, 18446744073709551615, 68);
-    lengths(40, 14, 2199023255511, 1353);
-    lengths(40, 14, 2199023255551, 73);
-    lengths(40, 14, 2199023255552, 73);
+fn edges(edition: u64) {
+    lengths(edition, 0, 0, 0, 36);
+    lengths(edition, 41, 0, 0, 36);
+    lengths(edition, 18446744073709551615, 0, 0, 36);
+    lengths(edition, 3, 3, 0, 36);
+    lengths(edition, 3, 4, 0, 36);
+    lengths(edition, 13, 14, 0, 36);
+    lengths(edition, 14, 14, 0, 36);
+    lengths(edition, 40, 15, 0, 36);
+    lengths(edition, 40, 20, 0, 36);
+    lengths(edition, 3, 1, 14, 100);
+    lengths(edition, 3, 1, 15, 68);
+    lengths(edition, 3, 1, 16, 68);
+    lengths(edition, 3, 1, 18446744073709551615, 68);
+    lengths(edition, 40, 14, 2199023255511, 1353);
+    lengths(edition, 40, 14, 2199023255551, 73);
+    lengths(edition, 40, 14, 2199023255552, 73);
 }
 
-pub fn written() {
-    states(1, 1, 4);
-    states(2, 2, 8);
-    states(3, 2, 16);
-    states(4, 2, 32);
-    deep();
-    edges();
+// Editions that do not exist: 4, before 7 as well.
+pub fn no_edition() {
+    lengths(0, 3, 1, 14, 100);
+    lengths(3, 3, 1, 14, 100);
+    lengths(128, 3, 1, 14, 101);
+    lengths(4294967298, 3, 1, 14, 100);
+    lengths(18446744073709551615, 3, 1, 14, 100);
+}
+
+pub fn written(edition: u64) {
+    states(edition, 1, 1, 4);
+    states(edition, 2, 2, 8);
+    states(edition, 3, 2, 16);
+    states(edition, 4, 2, 32);
+    deep(edition);
+    edges(edition);
 }

@@ -6,12 +6,12 @@ use Prim.Native.Nat.{ℕ, _-_, _≤_, min}
 use borrow.Author.Tests.{ltb-false}
 use lib.Dec.{ltb, lit≤}
 use lib.ListN.{length}
-use Rattle.base.specs.Limits.{maxDepth, maxMemory, IsDepth}
+use Rattle.base.specs.Limits.{maxDepth, maxMemory, maxEdition, newEdition, IsEdition, IsDepth}
 use Rattle.base.specs.declared.refusal.Refusal.{Refusal}
 use Rattle.base.specs.declared.refusal.Outcome.{Outcome}
 use Rattle.base.specs.declared.refusal.Outcome.the-variants.{Refused}
 use Rattle.base.specs.Number.{numberOf, outcomeNumber}
-use Rattle.base.specs.Row.{firstOf, outside, either, isDone, memoryOver}
+use Rattle.base.specs.Row.{firstOf, outside, either, isDone, memoryOver, noEdition}
 use Rattle.base.proofs.Ranges.{range-of, depth-inside, memory-inside, neither}
 use Rattle.base.proofs.RowLaws.{passed, none-holds, row-refused, row-passed, not-done, refused-number}
 use Rattle.machine.proofs.StepLaws as machines
@@ -40,39 +40,49 @@ module _ (n m store : ℕ) where
   unfolding startRow
   start-passes more number done e = e ∙ sym (row-passed (startChecks n m store) more (none-holds (startChecks n m store) refl done))
 
--- a state that is not impossible: none of its three conditions holds
-pub not-impossible : (n m made all : ℕ) → impossible n m made all ≡ false
-    → (outside 1 maxDepth n ≡ false) × (memoryOver n m ≡ false) × (ltb all made ≡ false)
-not-impossible n m made all e =
-    let (d, f) = neither (outside 1 maxDepth n) (either (memoryOver n m) (ltb all made)) e in
+-- a state that is not impossible: none of its four conditions holds
+pub not-impossible : (edition n m made all : ℕ) → impossible edition n m made all ≡ false
+    → (noEdition edition ≡ false) × (outside 1 maxDepth n ≡ false) × (memoryOver n m ≡ false) × (ltb all made ≡ false)
+not-impossible edition n m made all e =
+    let (x, g) = neither (noEdition edition) (either (outside 1 maxDepth n) (either (memoryOver n m) (ltb all made))) e in
+    let (d, f) = neither (outside 1 maxDepth n) (either (memoryOver n m) (ltb all made)) g in
     let (o, l) = neither (memoryOver n m) (ltb all made) f in
-    (d, o, l)
+    (x, d, o, l)
 
 -- a run that can be
-pub record Possible (n m made : ℕ) : Type 0 where
+pub record Possible (edition n m made : ℕ) : Type 0 where
+  pub exists : IsEdition edition
   pub depth : n ≤ maxDepth
   pub memory : m ≤ maxMemory
   pub made-few : made ≤ nodesIn n
 
-pub possible : (n m made : ℕ) → impossible n m made (nodesIn n) ≡ false → Possible n m made
-possible n m made e =
-    let (d, o, l) = not-impossible n m made (nodesIn n) e in
-    record { depth = depth-inside n d; memory = memory-inside n m o; made-few = ltb-false (nodesIn n) made l }
+pub possible : (edition n m made : ℕ) → impossible edition n m made (nodesIn n) ≡ false → Possible edition n m made
+possible edition n m made e =
+    let (x, d, o, l) = not-impossible edition n m made (nodesIn n) e in
+    record {
+      exists = range-of 1 maxEdition edition x;
+      depth = depth-inside n d;
+      memory = memory-inside n m o;
+      made-few = ltb-false (nodesIn n) made l;
+    }
 
 pub record Whole (run : Run) (store : ℕ) : Type 0 where
-  pub possible : Possible (run .depth) (run .memory) (run .made)
+  pub possible : Possible (run .edition) (run .depth) (run .memory) (run .made)
   pub room : storeSize (run .memory) ≤ store
 
 pub may-go-on : (run : Run) (store : ℕ) → continueRow run store ≡ 0 → Whole run store
 unfolding continueRow
 may-go-on run store e =
-    let (a, f) = passed (impossible (run .depth) (run .memory) (run .made) (nodesIn (run .depth))) 4 _ (lit≤ tt) e in
+    let (a, f) = passed (impossible (run .edition) (run .depth) (run .memory) (run .made) (nodesIn (run .depth))) 4 _ (lit≤ tt) e in
     let (b, g) = passed (ltb store (storeSize (run .memory))) 3 0 (lit≤ tt) f in
-    record { possible = possible (run .depth) (run .memory) (run .made) a; room = ltb-false store (storeSize (run .memory)) b }
+    record {
+      possible = possible (run .edition) (run .depth) (run .memory) (run .made) a;
+      room = ltb-false store (storeSize (run .memory)) b;
+    }
 
 -- what a start and a call give, by their answers
 module _ (statement : List ℕ) (n m store : ℕ) where
-  pub start-done : startRow n m store ≡ 0 → newRun statement n m ≡ started statement n m store
+  pub start-done : startRow n m store ≡ 0 → newRun newEdition statement n m ≡ started statement n m store
   unfolding started
   start-done e = rw e
 

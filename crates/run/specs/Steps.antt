@@ -3,7 +3,7 @@ use Prim.Native.Nat.{ℕ, _+_, _-_}
 use mathlib.Core.List.{List, []}
 use lib.Dec.{leb}
 use lib.ListN.{length}
-use Rattle.base.specs.Limits.{edition, heldSize}
+use Rattle.base.specs.Limits.{newEdition, heldSize}
 use Rattle.base.specs.Choice.{pick}
 use Rattle.base.specs.Bytes.{zeros, written}
 use Rattle.base.specs.Row.{isDone}
@@ -19,19 +19,21 @@ use Rattle.run.specs.declared.Run.{Run}
 use Rattle.run.specs.Rows.{startRow, continueRow}
 
 -- a run by its fields
-abbrev pub runOf : List ℕ → ℕ → ℕ → ℕ → List ℕ → Run
-runOf statement n m made held = record { statement = statement; depth = n; memory = m; made = made; held = held }
+abbrev pub runOf : ℕ → List ℕ → ℕ → ℕ → ℕ → List ℕ → Run
+runOf edition statement n m made held =
+    record { statement = statement; edition = edition; depth = n; memory = m; made = made; held = held }
 
 -- 'A new run has made 0 labels and all its places are zero.'
-abbrev pub newRun : List ℕ → ℕ → ℕ → Run
-newRun statement n m = record { statement = statement; depth = n; memory = m; made = 0; held = zeros heldSize }
+abbrev pub newRun : ℕ → List ℕ → ℕ → ℕ → Run
+newRun edition statement n m = runOf edition statement n m 0 (zeros heldSize)
 
 -- what stands beside a refused start
 abbrev pub noRun : Run
-noRun = newRun (zeros 32) 0 0
+noRun = newRun 0 (zeros 32) 0 0
 
+-- 'New runs write 2' (W-206)
 unfoldable pub started : List ℕ → ℕ → ℕ → ℕ → Run
-started statement n m store = pick (isDone (startRow n m store)) (newRun statement n m) noRun
+started statement n m store = pick (isDone (startRow n m store)) (newRun newEdition statement n m) noRun
 
 -- a run with its store
 pub record Stamped : Type 0 where
@@ -45,21 +47,14 @@ stamped run store = record { run = run; store = store }
 abbrev pub stored : ℕ → List ℕ → Node → Label → List ℕ
 stored m store w label = pick (leb (w .level) m) (written store (slot w) label) store
 
--- one step: the next node is labelled
+-- one step: the next node is labelled; 'a run keeps its edition' (W-206)
 unfoldable pub stepped : Stamped → Stamped
 stepped s =
     let r : Run = s .run in
     let w : Node = nextNode (r .depth) root (r .made) in
-    let label : Label = nextLabel edition (r .statement) (r .depth) root [] (r .held) (r .made) in
+    let label : Label = nextLabel (r .edition) (r .statement) (r .depth) root [] (r .held) (r .made) in
     record {
-      run =
-          record {
-            statement = r .statement;
-            depth = r .depth;
-            memory = r .memory;
-            made = r .made + 1;
-            held = heldWith (r .depth) root (r .held) w label;
-          };
+      run = runOf (r .edition) (r .statement) (r .depth) (r .memory) (r .made + 1) (heldWith (r .depth) root (r .held) w label);
       store = stored (r .memory) (s .store) w label;
     }
 
@@ -81,7 +76,7 @@ labelsIn s budget = machines.doneIn runMachine s budget
 
 -- W-207: the blocks of the next label, and 'the sum over exactly the labels they made in that call'
 unfoldable pub stepBlocks : Stamped → ℕ
-stepBlocks s = let r : Run = s .run in nextBlocks edition (r .statement) (r .depth) root [] (r .held) (r .made)
+stepBlocks s = let r : Run = s .run in nextBlocks (r .edition) (r .statement) (r .depth) root [] (r .held) (r .made)
 
 abbrev pub blocksOver : ℕ → Stamped → ℕ
 blocksOver k s = machines.costOf runMachine stepBlocks k s

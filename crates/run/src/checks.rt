@@ -9,6 +9,7 @@ ghost use Rattle.tree.specs.Store.{storeSize};
 ghost use Rattle.run.specs.Rows.{impossible, startRow, continueRow};
 use crate::Run;
 use base::MAX_DEPTH;
+use base::MAX_EDITION;
 use base::Outcome;
 use base::Refusal;
 use base::beyond;
@@ -31,9 +32,12 @@ pub fn store_short(memory: u64, store: usize) -> bool
 }
 
 // Whether no run has these numbers.
-pub fn not_possible(depth: u64, memory: u64, made: u64) -> bool
-    ensures { λ r. ⌜ r ≡ impossible depth memory made (nodesIn depth) ⌝ }
+pub fn not_possible(edition: u64, depth: u64, memory: u64, made: u64) -> bool
+    ensures { λ r. ⌜ r ≡ impossible edition depth memory made (nodesIn depth) ⌝ }
 {
+    if beyond(MAX_EDITION, edition) {
+        return true;
+    }
     if beyond(MAX_DEPTH, depth) {
         return true;
     }
@@ -62,7 +66,7 @@ pub fn may_start(depth: u64, memory: u64, store: usize) -> Outcome
 pub fn may_continue(run: Run, store: usize) -> Outcome
     ensures { λ r. ⌜ outcomeNumber r ≡ continueRow run store ⌝ }
 {
-    if not_possible(run.depth, run.memory, run.made) {
+    if not_possible(run.edition, run.depth, run.memory, run.made) {
         return Outcome::Refused(Refusal::State);
     }
     if store_short(run.memory, store) {

@@ -9,7 +9,6 @@ ghost use Rattle.tree.specs.Store.{storeSize};
 ghost use Rattle.labelling.specs.Blocks.{mostBlocks};
 ghost use Rattle.run.specs.Steps.{runOf, stamped, stored, stepped, stepBlocks, steps, blocksOver};
 use crate::Run;
-use base::EDITION;
 use base::put;
 use labelling::Labelled;
 use labelling::label_next;
@@ -34,6 +33,7 @@ pub struct Stepped {
 
 // One step, and its blocks. Its caller knows that a node is left and that the store is whole.
 fn label_one(
+    edition: u64,
     statement: [u8; 32],
     depth: u64,
     memory: u64,
@@ -42,11 +42,11 @@ fn label_one(
     store: &mut [u8],
 ) -> u64
     requires { ⌜ (depth ≤ maxDepth) × (made < nodesIn depth) × (length (now held) ≡ heldSize) × (storeSize memory ≤ length (now store)) ⌝ }
-    ensures { λ _. ⌜ now (held .exit) ≡ stepped (stamped (runOf statement depth memory made (now (held .entry))) (now (store .entry))) .run .held ⌝ }
-    ensures { λ _. ⌜ now (store .exit) ≡ stepped (stamped (runOf statement depth memory made (now (held .entry))) (now (store .entry))) .store ⌝ }
-    ensures { λ r. ⌜ (r ≡ stepBlocks (stamped (runOf statement depth memory made (now (held .entry))) (now (store .entry)))) × (r ≤ mostBlocks) ⌝ }
+    ensures { λ _. ⌜ now (held .exit) ≡ stepped (stamped (runOf edition statement depth memory made (now (held .entry))) (now (store .entry))) .run .held ⌝ }
+    ensures { λ _. ⌜ now (store .exit) ≡ stepped (stamped (runOf edition statement depth memory made (now (held .entry))) (now (store .entry))) .store ⌝ }
+    ensures { λ r. ⌜ (r ≡ stepBlocks (stamped (runOf edition statement depth memory made (now (held .entry))) (now (store .entry)))) × (r ≤ mostBlocks) ⌝ }
 {
-    let w = label_next(EDITION, statement, depth, 0, 0, b"", held, made);
+    let w = label_next(edition, statement, depth, 0, 0, b"", held, made);
     keep(store, memory, w);
     w.blocks
 }
@@ -58,6 +58,7 @@ pub fn label_many(run: Run, count: u64, store: &mut [u8]) -> Stepped
     ensures { λ r. ⌜ now (store .exit) ≡ steps count (stamped run (now (store .entry))) .store ⌝ }
     ensures { λ r. ⌜ (r .blocks ≡ blocksOver count (stamped run (now (store .entry)))) × (r .blocks ≤ mostBlocks * count) ⌝ }
 {
+    let edition = run.edition;
     let statement = run.statement;
     let depth = run.depth;
     let memory = run.memory;
@@ -66,11 +67,20 @@ pub fn label_many(run: Run, count: u64, store: &mut [u8]) -> Stepped
     let mut blocks = 0;
     let mut i = 0;
     while i < count {
-        blocks += label_one(statement, depth, memory, made + i, &mut held, store);
+        blocks += label_one(
+            edition,
+            statement,
+            depth,
+            memory,
+            made + i,
+            &mut held,
+            store,
+        );
         i += 1;
     }
     let run = Run {
         statement,
+        edition,
         depth,
         memory,
         made: made + count,

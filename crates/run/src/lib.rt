@@ -10,6 +10,7 @@ ghost use Rattle.labelling.specs.Blocks.{mostBlocks};
 ghost use Rattle.run.specs.Rows.{startRow, continueRow};
 ghost use Rattle.run.specs.Steps.{newRun, started, stamped, labelsIn, blocksIn, advanced};
 use base::HELD_SIZE;
+use base::NEW_EDITION;
 use base::Outcome;
 use base::smaller;
 use checks::may_continue;
@@ -19,10 +20,11 @@ pub use checks::not_possible;
 pub use checks::store_short;
 use labels::label_many;
 
-// Document 01's run: statement, n, m, the number of labels made, and 41 places of 32 bytes for held labels.
+// Document 01's run: statement, edition (W-206), n, m, the number of labels made, and 41 places of 32 bytes for held labels.
 #[repr(C)]
 pub struct Run {
     pub statement: [u8; 32],
+    pub edition: u64,
     pub depth: u64,
     pub memory: u64,
     pub made: u64,
@@ -44,12 +46,13 @@ pub struct Advanced {
 }
 
 // A run with no label made.
-pub fn new_run(statement: [u8; 32], depth: u64, memory: u64) -> Run
-    ensures { λ r. ⌜ r ≡ newRun statement depth memory ⌝ }
+pub fn new_run(edition: u64, statement: [u8; 32], depth: u64, memory: u64) -> Run
+    ensures { λ r. ⌜ r ≡ newRun edition statement depth memory ⌝ }
 {
     let held = [0u8; HELD_SIZE];
     Run {
         statement,
+        edition,
         depth,
         memory,
         made: 0,
@@ -66,11 +69,11 @@ impl Run {
         let outcome = may_start(depth, memory, store.len());
         match outcome {
             Outcome::Done => {
-                let run = new_run(statement, depth, memory);
+                let run = new_run(NEW_EDITION, statement, depth, memory);
                 Started { outcome, run }
             }
             Outcome::Refused(_) => {
-                let run = new_run([0u8; 32], 0, 0);
+                let run = new_run(0, [0u8; 32], 0, 0);
                 Started { outcome, run }
             }
         }

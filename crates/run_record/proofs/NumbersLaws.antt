@@ -4,11 +4,8 @@ use mathlib.Core.Bool.{Bool}
 use mathlib.Core.List.{List, _++_, append-assoc}
 use Prim.Native.Nat.{ℕ, _+_, _≤_, _<_}
 use native.Mathlib.Omega.{arith}
-use borrow.Author.Tests.{eqb-true, not-false}
-use lib.Dec.{eqb}
 use lib.ListN.{length, drop, getD, length-append}
-use Rattle.base.specs.Limits.{edition}
-use Rattle.base.specs.Row.{otherEdition}
+use Rattle.base.specs.Row.{noEdition}
 use Rattle.groups.specs.Groups.{groups, numberGroups}
 use Rattle.groups.specs.Reading.{Answer, readAt, checked}
 use Rattle.groups.proofs.Checked as groups
@@ -20,24 +17,24 @@ use Rattle.run_record.specs.Layout.{madeGroups, numbersSpace, recordNumb
 use Rattle.run_record.specs.Reading.{NumbersAnswer, numbers, notRead, anyNumber, numbersOf}
 
 -- the first bytes are the four numbers, and the place is the one after them
-pub record NumbersRead (bytes : List ℕ) (n m made at : ℕ) : Type 0 where
+pub record NumbersRead (bytes : List ℕ) (edition n m made at : ℕ) : Type 0 where
   pub form : bytes ≡ recordNumbers edition n m made ++ drop at bytes
   pub ends : at ≡ length (recordNumbers edition n m made)
 
-not-numbers : (n m made at r : ℕ) → notRead r ≡ numbers n m made at → ⊥
-not-numbers n m made at r e = let no : _≡_ {A = ℕ} 0 1 = cc in omega arith
+not-numbers : (edition n m made at r : ℕ) → notRead r ≡ numbers edition n m made at → ⊥
+not-numbers edition n m made at r e = let no : _≡_ {A = ℕ} 0 1 = cc in omega arith
 
 -- a number that was not refused
-passed : (number : Answer) (bad : ℕ → Bool) (refusal : ℕ) (next : ℕ → ℕ → NumbersAnswer) (n m made at : ℕ)
-    → checked notRead number bad refusal next ≡ numbers n m made at → Passed number bad next (numbers n m made at)
-passed number bad refusal next n m made at e =
-    groups.passed notRead number bad refusal next (numbers n m made at) (not-numbers n m made at) e
+passed : (number : Answer) (bad : ℕ → Bool) (refusal : ℕ) (next : ℕ → ℕ → NumbersAnswer) (edition n m made at : ℕ)
+    → checked notRead number bad refusal next ≡ numbers edition n m made at → Passed number bad next (numbers edition n m made at)
+passed number bad refusal next edition n m made at e =
+    groups.passed notRead number bad refusal next (numbers edition n m made at) (not-numbers edition n m made at) e
 
 numbers-of :
-    (bytes : List ℕ) (n m made a b c d : ℕ) → Shortest bytes 0 numberGroups edition a → Shortest bytes a numberGroups n b
-    → Shortest bytes b numberGroups m c → Shortest bytes c madeGroups made d → NumbersRead bytes n m made d
+    (bytes : List ℕ) (edition n m made a b c d : ℕ) → Shortest bytes 0 numberGroups edition a → Shortest bytes a numberGroups n b
+    → Shortest bytes b numberGroups m c → Shortest bytes c madeGroups made d → NumbersRead bytes edition n m made d
 unfolding recordNumbers
-numbers-of bytes n m made a b c d s₁ s₂ s₃ s₄ =
+numbers-of bytes edition n m made a b c d s₁ s₂ s₃ s₄ =
     record {
       form =
           simp append-assoc
@@ -49,25 +46,24 @@ numbers-of bytes n m made a b c d s₁ s₂ s₃ s₄ =
     }
 
 same-read :
-    (bytes : List ℕ) (n m made at n′ m′ made′ at′ : ℕ) → n ≡ n′ → m ≡ m′ → made ≡ made′ → at ≡ at′ → NumbersRead bytes n m made at
-    → NumbersRead bytes n′ m′ made′ at′
-same-read bytes n m made at n′ m′ made′ at′ p q r s read = rw (p, q, r, s) at read
+    (bytes : List ℕ) (edition n m made at edition′ n′ m′ made′ at′ : ℕ) → edition ≡ edition′ → n ≡ n′ → m ≡ m′ → made ≡ made′ → at ≡ at′
+    → NumbersRead bytes edition n m made at → NumbersRead bytes edition′ n′ m′ made′ at′
+same-read bytes edition n m made at edition′ n′ m′ made′ at′ o p q r s read = rw (o, p, q, r, s) at read
 
 -- only the shortest form of the numbers is read
 pub numbers-read :
-    (bytes : List ℕ) (n m made at : ℕ) → ((j : ℕ) → getD bytes j 0 < 256) → numbersOf bytes ≡ numbers n m made at
-    → NumbersRead bytes n m made at
+    (bytes : List ℕ) (edition n m made at : ℕ) → ((j : ℕ) → getD bytes j 0 < 256) → numbersOf bytes ≡ numbers edition n m made at
+    → NumbersRead bytes edition n m made at
 unfolding numbersOf
-numbers-read bytes n m made at small e =
-    let p₁ = passed (readAt bytes 0 numberGroups) otherEdition 12 _ n m made at e in
-    let p₂ = passed (readAt bytes (p₁ .end) numberGroups) anyNumber 4 _ n m made at (p₁ .after) in
-    let p₃ = passed (readAt bytes (p₂ .end) numberGroups) anyNumber 4 _ n m made at (p₂ .after) in
-    let p₄ = passed (readAt bytes (p₃ .end) madeGroups) anyNumber 4 _ n m made at (p₃ .after) in
-    let one : p₁ .x ≡ edition = eqb-true (p₁ .x) edition (not-false (eqb (p₁ .x) edition) (p₁ .good)) in
+numbers-read bytes edition n m made at small e =
+    let p₁ = passed (readAt bytes 0 numberGroups) noEdition 12 _ edition n m made at e in
+    let p₂ = passed (readAt bytes (p₁ .end) numberGroups) anyNumber 4 _ edition n m made at (p₁ .after) in
+    let p₃ = passed (readAt bytes (p₂ .end) numberGroups) anyNumber 4 _ edition n m made at (p₂ .after) in
+    let p₄ = passed (readAt bytes (p₃ .end) madeGroups) anyNumber 4 _ edition n m made at (p₃ .after) in
     let last = p₄ .after in
-    same-read bytes (p₂ .x) (p₃ .x) (p₄ .x) (p₄ .end) n m made at (cc) (cc) (cc) (cc)
-    (numbers-of bytes (p₂ .x) (p₃ .x) (p₄ .x) (p₁ .end) (p₂ .end) (p₃ .end) (p₄ .end)
-    (rw one at (only-shortest bytes 0 numberGroups (p₁ .x) (p₁ .end) small (p₁ .read)))
+    same-read bytes (p₁ .x) (p₂ .x) (p₃ .x) (p₄ .x) (p₄ .end) edition n m made at (cc) (cc) (cc) (cc) (cc)
+    (numbers-of bytes (p₁ .x) (p₂ .x) (p₃ .x) (p₄ .x) (p₁ .end) (p₂ .end) (p₃ .end) (p₄ .end)
+    (only-shortest bytes 0 numberGroups (p₁ .x) (p₁ .end) small (p₁ .read))
     (only-shortest bytes (p₁ .end) numberGroups (p₂ .x) (p₂ .end) small (p₂ .read))
     (only-shortest bytes (p₂ .end) numberGroups (p₃ .x) (p₃ .end) small (p₃ .read))
     (only-shortest bytes (p₃ .end) madeGroups (p₄ .x) (p₄ .end) small (p₄ .read)))
@@ -86,15 +82,16 @@ numbers-length e n m made =
     ))
 
 pub numbers-within :
-    (bytes : List ℕ) (n m made at : ℕ) → ((j : ℕ) → getD bytes j 0 < 256) → numbersOf bytes ≡ numbers n m made at → at ≤ numbersSpace
-numbers-within bytes n m made at small e =
-    omega (arith, numbers-read bytes n m made at small e .ends, numbers-length edition n m made)
+    (bytes : List ℕ) (edition n m made at : ℕ) → ((j : ℕ) → getD bytes j 0 < 256) → numbersOf bytes ≡ numbers edition n m made at
+    → at ≤ numbersSpace
+numbers-within bytes edition n m made at small e =
+    omega (arith, numbers-read bytes edition n m made at small e .ends, numbers-length edition n m made)
 
 -- a reading that is refused is refused with a number
 pub refusal-number : (bytes : List ℕ) (r : ℕ) → numbersOf bytes ≡ notRead r → 1 ≤ r
 unfolding numbersOf
 refusal-number bytes r e =
-    refused-some notRead same (readAt bytes 0 numberGroups) otherEdition 12 _ r (read-number bytes 0 numberGroups) (omega arith)
+    refused-some notRead same (readAt bytes 0 numberGroups) noEdition 12 _ r (read-number bytes 0 numberGroups) (omega arith)
     (λ x at f. refused-some notRead same (readAt bytes at numberGroups) anyNumber 4 _ r (read-number bytes at numberGroups) (omega arith)
     (λ n at f. refused-some notRead same (readAt bytes at numberGroups) anyNumber 4 _ r (read-number bytes at numberGroups) (omega arith)
     (λ m at f. refused-some notRead same (readAt bytes at madeGroups) anyNumber 4 _ r (read-number bytes at madeGroups) (omega arith)
@@ -103,5 +100,5 @@ refusal-number bytes r e =
     same : (k r : ℕ) → notRead k ≡ notRead r → k ≡ r
     same k r f = cc
 
-    not-refused : {n m made at r : ℕ} → numbers n m made at ≡ notRead r → 1 ≤ r
+    not-refused : {edition n m made at r : ℕ} → numbers edition n m made at ≡ notRead r → 1 ≤ r
     not-refused f = let no : _≡_ {A = ℕ} 0 1 = cc in absurd (omega arith)

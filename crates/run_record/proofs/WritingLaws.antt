@@ -7,7 +7,7 @@ use native.Mathlib.Omega.{arith}
 use borrow.Author.Tests.{lt-ltb, le-ltb}
 use lib.ListN.{length, take, drop, length-append}
 use lib.Seq.{take-at, length-take-le}
-use Rattle.base.specs.Limits.{edition, maxDepth, maxMemory}
+use Rattle.base.specs.Limits.{maxEdition, maxDepth, maxMemory}
 use Rattle.base.specs.Bytes.{written}
 use Rattle.base.proofs.WrittenLaws.{written-next, written-three}
 use Rattle.groups.specs.Groups.{groups, groupsOf, maxGroups, numberGroups}
@@ -18,7 +18,8 @@ use Rattle.run.proofs.StepLaws.{small-nodes}
 use Rattle.run_record.specs.Layout.{madeGroups, heldLength, heldLabels, recordNumbers, recordOf, noSuchRun, recordRow, recordSize, recordWritten}
 
 -- ---- the four numbers, each in as many groups as it takes
-module _ (n m made : ℕ) (depth : n ≤ maxDepth) (memory : m ≤ maxMemory) (few : made ≤ nodesIn n) where
+module _ (edition n m made : ℕ) (exists : edition ≤ maxEdition) (depth : n ≤ maxDepth) (memory : m ≤ maxMemory)
+    (few : made ≤ nodesIn n) where
   small : (x : ℕ) → x < 128 → groupsOf x ≡ groups numberGroups x
   small x h = groups-same maxGroups numberGroups x (omega arith) (omega arith) (omega arith) (omega arith)
 
@@ -61,22 +62,22 @@ pub record Answered (run : Run) (out : List ℕ) (number size : ℕ) (after : Li
 -- the length of a possible run's record
 pub record-size : (run : Run) → length (run .statement) ≡ 32 → heldLength (run .depth) (run .made) ≤ length (run .held)
     → length (recordOf run)
-    ≡ length (recordNumbers edition (run .depth) (run .memory) (run .made)) + 32 + heldLength (run .depth) (run .made)
+    ≡ length (recordNumbers (run .edition) (run .depth) (run .memory) (run .made)) + 32 + heldLength (run .depth) (run .made)
 unfolding recordOf
 record-size run s h = rw (length-append, length-append, s, length-take-le (heldLength (run .depth) (run .made)) (run .held) h)
 
 -- numbers, statement and held labels make the record
-pub parts-are : (run : Run) (numbers labels : List ℕ) → numbers ≡ recordNumbers edition (run .depth) (run .memory) (run .made)
+pub parts-are : (run : Run) (numbers labels : List ℕ) → numbers ≡ recordNumbers (run .edition) (run .depth) (run .memory) (run .made)
     → labels ≡ heldLabels run → numbers ++ run .statement ++ labels ≡ recordOf run
 unfolding recordOf
 parts-are run numbers labels e f = rw (e, f)
 
 module _ (run : Run) (out : List ℕ) where
-  pub no-such-run : noSuchRun (run .depth) (run .memory) (run .made) ≡ true → Answered run out 4 0 out
+  pub no-such-run : noSuchRun (run .edition) (run .depth) (run .memory) (run .made) ≡ true → Answered run out 4 0 out
   unfolding recordRow recordSize recordWritten
   no-such-run e = record { row = rw e; bytes = rw e; output = rw e }
 
-  module _ (possible : noSuchRun (run .depth) (run .memory) (run .made) ≡ false) where
+  module _ (possible : noSuchRun (run .edition) (run .depth) (run .memory) (run .made) ≡ false) where
     pub short-buffer : length out < length (recordOf run) → Answered run out 7 0 out
     unfolding recordRow recordSize recordWritten
     short-buffer h =

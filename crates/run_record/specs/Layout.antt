@@ -7,7 +7,6 @@ use lib.Dec.{ltb}
 use lib.ListN.{length, take}
 use Rattle.base.specs.Choice.{pick}
 use Rattle.base.specs.Bytes.{written}
-use Rattle.base.specs.Limits.{edition}
 use Rattle.base.specs.Row.{firstOf, isDone}
 use Rattle.groups.specs.Groups.{groups, numberGroups}
 use Rattle.tree.specs.Walk.{nodesIn}
@@ -36,16 +35,16 @@ abbrev pub heldLabels : Run → List ℕ
 heldLabels run = take (heldLength (run .depth) (run .made)) (run .held)
 
 unfoldable pub recordOf : Run → List ℕ
-recordOf run = recordNumbers edition (run .depth) (run .memory) (run .made) ++ run .statement ++ heldLabels run
+recordOf run = recordNumbers (run .edition) (run .depth) (run .memory) (run .made) ++ run .statement ++ heldLabels run
 
 -- no run has these numbers: what continuing a run refuses with 4
-abbrev pub noSuchRun : ℕ → ℕ → ℕ → Bool
-noSuchRun n m made = impossible n m made (nodesIn n)
+abbrev pub noSuchRun : ℕ → ℕ → ℕ → ℕ → Bool
+noSuchRun edition n m made = impossible edition n m made (nodesIn n)
 
 -- 'Writing a record: 4, then 7 for a short buffer.'
 unfoldable pub recordRow : Run → ℕ → ℕ
 recordRow run out =
-    firstOf ((noSuchRun (run .depth) (run .memory) (run .made), 4) ∷ (ltb out (length (recordOf run)), 7) ∷ [])
+    firstOf ((noSuchRun (run .edition) (run .depth) (run .memory) (run .made), 4) ∷ (ltb out (length (recordOf run)), 7) ∷ [])
 
 -- how many bytes are written: 0 where it is refused
 unfoldable pub recordSize : Run → ℕ → ℕ

@@ -7,13 +7,13 @@ use Rattle.run_record.specs.Layout.{madeGroups}
 use Rattle.run_record.specs.Reading.{NumbersAnswer, numbers, notRead, anyNumber}
 
 -- the labels made, after the memory level
-unfoldable pub madeFrom : List ℕ → ℕ → ℕ → ℕ → NumbersAnswer
-madeFrom bytes n m at = checked notRead (readAt bytes at madeGroups) anyNumber 4 (λ made at. numbers n m made at)
+unfoldable pub madeFrom : List ℕ → ℕ → ℕ → ℕ → ℕ → NumbersAnswer
+madeFrom bytes e n m at = checked notRead (readAt bytes at madeGroups) anyNumber 4 (λ made at. numbers e n m made at)
 
 -- the memory level, after the depth
-unfoldable pub memoryFrom : List ℕ → ℕ → ℕ → NumbersAnswer
-memoryFrom bytes n at = checked notRead (readAt bytes at numberGroups) anyNumber 4 (λ m at. madeFrom bytes n m at)
+unfoldable pub memoryFrom : List ℕ → ℕ → ℕ → ℕ → NumbersAnswer
+memoryFrom bytes e n at = checked notRead (readAt bytes at numberGroups) anyNumber 4 (λ m at. madeFrom bytes e n m at)
 
 -- the depth, after the edition
-unfoldable pub depthFrom : List ℕ → ℕ → NumbersAnswer
-depthFrom bytes at = checked notRead (readAt bytes at numberGroups) anyNumber 4 (λ n at. memoryFrom bytes n at)
+unfoldable pub depthFrom : List ℕ → ℕ → ℕ → NumbersAnswer
+depthFrom bytes e at = checked notRead (readAt bytes at numberGroups) anyNumber 4 (λ n at. memoryFrom bytes e n at)

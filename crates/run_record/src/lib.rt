@@ -15,9 +15,9 @@ const MADE_GROUPS: usize = 6;
 
 const NUMBERS_SPACE: usize = 3 * NUMBER_GROUPS + MADE_GROUPS;
 
-// What reading the numbers gives: depth, memory level, labels made and the place after them, or the refusal.
+// What reading the numbers gives: edition, depth, memory level, labels made and the place after them, or the refusal.
 pub enum RecordNumbers {
-    Numbers(u64, u64, u64, Cursor),
+    Numbers(u64, u64, u64, u64, Cursor),
     NotRead(Refusal),
 }
 

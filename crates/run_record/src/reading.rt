@@ -22,11 +22,11 @@ use run::new_run;
 use run::not_possible;
 
 // The row after the numbers: 4, then 18. They end at a place.
-fn may_resume(depth: u64, memory: u64, made: u64, at: usize, len: usize) -> Outcome
+fn may_resume(edition: u64, depth: u64, memory: u64, made: u64, at: usize, len: usize) -> Outcome
     requires { ⌜ at ≤ numbersSpace ⌝ }
-    ensures { λ r. ⌜ outcomeNumber r ≡ restRow depth memory made at len ⌝ }
+    ensures { λ r. ⌜ outcomeNumber r ≡ restRow edition depth memory made at len ⌝ }
 {
-    if not_possible(depth, memory, made) {
+    if not_possible(edition, depth, memory, made) {
         return Outcome::Refused(Refusal::State);
     }
     if len != at + 32 + held_length(depth, made) {
@@ -36,9 +36,9 @@ fn may_resume(depth: u64, memory: u64, made: u64, at: usize, len: usize) -> Outc
 }
 
 // The run of these numbers, which end at a place. Its callers know that the length is what they require.
-fn run_at(bytes: &[u8], depth: u64, memory: u64, made: u64, at: usize) -> Run
+fn run_at(bytes: &[u8], edition: u64, depth: u64, memory: u64, made: u64, at: usize) -> Run
     requires { ⌜ (depth ≤ maxDepth) × (made ≤ nodesIn depth) × (length (now bytes) ≡ lengthFrom depth made at) ⌝ }
-    ensures { λ r. ⌜ r ≡ runFrom (now (bytes .entry)) depth memory made at ⌝ }
+    ensures { λ r. ⌜ r ≡ runFrom (now (bytes .entry)) edition depth memory made at ⌝ }
 {
     let statement = label_at(bytes, at);
     let labels = at + 32;
@@ -46,6 +46,7 @@ fn run_at(bytes: &[u8], depth: u64, memory: u64, made: u64, at: usize) -> Run
     put(&mut held, 0, &bytes[labels..]);
     Run {
         statement,
+        edition,
         depth,
         memory,
         made,
@@ -58,7 +59,7 @@ fn refused(why: Refusal) -> Started
     ensures { λ r. ⌜ outcomeNumber (r .outcome) ≡ numberOf why ⌝ }
     ensures { λ r. ⌜ r .run ≡ noRun ⌝ }
 {
-    let run = new_run([0u8; 32], 0, 0);
+    let run = new_run(0, [0u8; 32], 0, 0);
     Started {
         outcome: Outcome::Refused(why),
         run,
@@ -73,13 +74,13 @@ pub fn read_record(bytes: &[u8]) -> Started
     let numbers = read_numbers(bytes);
     match numbers {
         RecordNumbers::NotRead(why) => refused(why),
-        RecordNumbers::Numbers(depth, memory, made, after) => {
+        RecordNumbers::Numbers(edition, depth, memory, made, after) => {
             let at = after.at;
-            let outcome = may_resume(depth, memory, made, at, bytes.len());
+            let outcome = may_resume(edition, depth, memory, made, at, bytes.len());
             match outcome {
                 Outcome::Refused(why) => refused(why),
                 Outcome::Done => {
-                    let run = run_at(bytes, depth, memory, made, at);
+                    let run = run_at(bytes, edition, depth, memory, made, at);
                     Started { outcome, run }
                 }
             }

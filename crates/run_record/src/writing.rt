@@ -4,14 +4,13 @@ ghost use mathlib.Core.List.{_++_};
 ghost use Prim.Native.Nat.{_+_, _≤_};
 ghost use lib.ListN.{length, take};
 ghost use Rattle.base.specs.Bytes.{written};
-ghost use Rattle.base.specs.Limits.{edition, maxDepth, maxMemory};
+ghost use Rattle.base.specs.Limits.{maxEdition, maxDepth, maxMemory};
 ghost use Rattle.base.specs.Number.{outcomeNumber};
 ghost use Rattle.tree.specs.Held.{held};
 ghost use Rattle.tree.specs.Walk.{nodesIn};
 ghost use Rattle.run_record.specs.Layout.{heldLength, recordNumbers, recordRow, recordSize, recordWritten};
 use crate::NUMBERS_SPACE;
 use crate::Recorded;
-use base::EDITION;
 use base::Outcome;
 use base::Refusal;
 use base::put;
@@ -52,13 +51,13 @@ pub fn held_length(depth: u64, made: u64) -> usize
 }
 
 // The four numbers in their groups.
-fn lay_numbers(depth: u64, memory: u64, made: u64) -> NumbersLaid
-    requires { ⌜ (depth ≤ maxDepth) × (memory ≤ maxMemory) × (made ≤ nodesIn depth) ⌝ }
+fn lay_numbers(edition: u64, depth: u64, memory: u64, made: u64) -> NumbersLaid
+    requires { ⌜ (edition ≤ maxEdition) × (depth ≤ maxDepth) × (memory ≤ maxMemory) × (made ≤ nodesIn depth) ⌝ }
     ensures { λ r. ⌜ take (r .count) (r .bytes) ≡ recordNumbers edition depth memory made ⌝ }
     ensures { λ r. ⌜ r .count ≡ length (recordNumbers edition depth memory made) ⌝ }
 {
     let mut bytes = [0u8; NUMBERS_SPACE];
-    let first = groups::put_number(EDITION, &mut bytes, 0);
+    let first = groups::put_number(edition, &mut bytes, 0);
     let second = groups::put_number(depth, &mut bytes, first);
     let third = groups::put_number(memory, &mut bytes, second);
     let count = groups::put_number(made, &mut bytes, third);
@@ -82,13 +81,13 @@ pub fn write_record(run: Run, out: &mut [u8]) -> Recorded
     ensures { λ r. ⌜ r .size ≡ recordSize run (length (now (out .entry))) ⌝ }
     ensures { λ _. ⌜ now (out .exit) ≡ recordWritten run (now (out .entry)) ⌝ }
 {
-    if not_possible(run.depth, run.memory, run.made) {
+    if not_possible(run.edition, run.depth, run.memory, run.made) {
         return Recorded {
             outcome: Outcome::Refused(Refusal::State),
             size: 0,
         };
     }
-    let numbers = lay_numbers(run.depth, run.memory, run.made);
+    let numbers = lay_numbers(run.edition, run.depth, run.memory, run.made);
     let count = numbers.count;
     let labels = held_length(run.depth, run.made);
     let size = count + 32 + labels;

@@ -17,6 +17,7 @@ use Rattle.run_theory.specs.Runs.{Startable, atStart, called, reported}
 use Rattle.run_theory.proofs.RunLaws.{run-reached, continue-reached}
 use Rattle.run_record_theory.specs.Pausing.{HasArrays, Continuable, remainingOf, tidied, tidiedAt, paused, calledPausing, reportedPausing}
 use Rattle.run_record_theory.proofs.Tidy.{kept-front, tidied-places}
+use Rattle.run_theory.proofs.Editions.{run-calls-keep-edition}
 use Rattle.run_theory.proofs.GoesOn.{goes-possible, goes-on, after-steps, all-made}
 use Rattle.run_record_theory.proofs.Reading.{record-back}
 use Rattle.run_record_theory.proofs.Sizes.{finished-length}
@@ -45,6 +46,11 @@ module _ (s : Stamped) (can : Continuable s) where
 
   pub paused-continuable : Continuable (paused s)
   paused-continuable = rw paused-tidied (tidied-continuable s can)
+
+  -- W-206: a record has the run's edition, and reading gives it back
+  pub paused-keeps-edition : paused s .run .edition ≡ s .run .edition
+  unfolding tidied
+  paused-keeps-edition = ap (λ (t : Stamped). t .run .edition) paused-tidied
 
 -- ---- a portion of calls with a pause after it
 after-portion : (s : Stamped) (can : Continuable s) (budgets : List ℕ) → paused (called s budgets) ≡ tidiedAt (called s budgets)
@@ -102,6 +108,20 @@ pausing-labels s can [] = refl
 pausing-labels s can (budgets ∷ portions) =
     labels-next s can budgets (joined portions) (reportedPausing (paused (called s budgets)) portions)
     (pausing-labels (paused (called s budgets)) (portion-continuable s can budgets) portions)
+
+-- the edition is the run's through any calls and pauses
+edition-next : (s : Stamped) (can : Continuable s) (budgets : List ℕ) (end : Stamped)
+    → end .run .edition ≡ paused (called s budgets) .run .edition → end .run .edition ≡ s .run .edition
+edition-next s can budgets end e =
+    e ∙ paused-keeps-edition (called s budgets) (called-continuable s can budgets) ∙ run-calls-keep-edition budgets s
+
+pub pausing-keeps-edition : (s : Stamped) → Continuable s → (portions : List (List ℕ))
+    → calledPausing s portions .run .edition ≡ s .run .edition
+unfolding calledPausing
+pausing-keeps-edition s can [] = refl
+pausing-keeps-edition s can (budgets ∷ portions) =
+    edition-next s can budgets (calledPausing (paused (called s budgets)) portions)
+    (pausing-keeps-edition (paused (called s budgets)) (portion-continuable s can budgets) portions)
 
 -- ---- a tidy run: pausing changes nothing at all
 module _ (s : Stamped) (can : Continuable s) (tidy : tidied (s .run) ≡ s .run) (budgets : List ℕ) where
@@ -161,24 +181,25 @@ module _ (s : Stamped) (can : Continuable s) where
       )
 
 -- ---- runs from a start
-module _ (statement : List ℕ) (n m : ℕ) (store : List ℕ) (startable : Startable n m (length store)) (size : length statement ≡ 32) where
-  pub reached-tidy : (k : ℕ) → k ≤ nodesIn n → tidied (steps k (atStart statement n m store) .run) ≡ steps k (atStart statement n m store) .run
-  reached-tidy k few = rw (run-reached statement n m store (startable .shallow) k few) (runAfter-tidy statement n m k)
+module _ (edition : ℕ) (statement : List ℕ) (n m : ℕ) (store : List ℕ) (startable : Startable edition n m (length store))
+    (size : length statement ≡ 32) where
+  pub reached-tidy : (k : ℕ) → k ≤ nodesIn n → tidied (steps k (atStart edition statement n m store) .run) ≡ steps k (atStart edition statement n m store) .run
+  reached-tidy k few = rw (run-reached edition statement n m store (startable .shallow) k few) (runAfter-tidy edition statement n m k)
 
-  pub reached-continuable : (k : ℕ) → k ≤ nodesIn n → Continuable (steps k (atStart statement n m store))
+  pub reached-continuable : (k : ℕ) → k ≤ nodesIn n → Continuable (steps k (atStart edition statement n m store))
   reached-continuable k few =
       record {
         arrays =
-            rw (run-reached statement n m store (startable .shallow) k few) (runAfter-arrays statement n m k size (startable .shallow) few);
-        goes = continue-reached statement n m store startable k few;
+            rw (run-reached edition statement n m store (startable .shallow) k few) (runAfter-arrays edition statement n m k size (startable .shallow) few);
+        goes = continue-reached edition statement n m store startable k few;
       }
 
   -- a run after any labels, then called with pauses, is the run never paused
   pub pausing-reached : (k : ℕ) → k ≤ nodesIn n → (portions : List (List ℕ))
-      → calledPausing (steps k (atStart statement n m store)) portions ≡ called (steps k (atStart statement n m store)) (joined portions)
-  pausing-reached k few = pausing-same (steps k (atStart statement n m store)) (reached-continuable k few) (reached-tidy k few)
+      → calledPausing (steps k (atStart edition statement n m store)) portions ≡ called (steps k (atStart edition statement n m store)) (joined portions)
+  pausing-reached k few = pausing-same (steps k (atStart edition statement n m store)) (reached-continuable k few) (reached-tidy k few)
 
   pub pausing-start : (portions : List (List ℕ))
-      → calledPausing (atStart statement n m store) portions ≡ called (atStart statement n m store) (joined portions)
+      → calledPausing (atStart edition statement n m store) portions ≡ called (atStart edition statement n m store) (joined portions)
   unfolding machines.steps
   pausing-start = pausing-reached 0 (omega arith)

@@ -10,8 +10,9 @@ use borrow.Author.Tests.{eqb-true, eq-eqb, not-false}
 use lib.Dec.{eqb, lit≤}
 use lib.ListN.{length, take, drop, getD, length-append, length-drop, length-replicate, take-append-drop}
 use lib.Seq.{take-at, drop-at, drop-append-add, drop-drop, length-take-le}
-use Rattle.base.specs.Limits.{edition, heldSize}
+use Rattle.base.specs.Limits.{maxEdition, heldSize}
 use Rattle.base.specs.Bytes.{zeros}
+use Rattle.base.proofs.Ranges.{within}
 use Rattle.base.proofs.RowLaws as rows
 use Rattle.groups.specs.Groups.{groups, numberGroups}
 use Rattle.groups.specs.Reading.{value, readAt}
@@ -33,7 +34,7 @@ small-back : (x : ℕ) (before rest : List ℕ) → x < 128
     → readAt (before ++ groups numberGroups x ++ rest) (length before) numberGroups ≡ value x (length before + length (groups numberGroups x))
 small-back x before rest small = read-written numberGroups numberGroups x before rest (omega arith) (omega arith) (omega arith) (omega arith)
 
-module _ (n m made : ℕ) (can : Possible n m made) (rest : List ℕ) where
+module _ (edition n m made : ℕ) (can : Possible edition n m made) (rest : List ℕ) where
   edition-back :
       readAt (recordNumbers edition n m made ++ rest) 0 numberGroups
       ≡ value edition (length (groups numberGroups edition))
@@ -77,33 +78,33 @@ module _ (n m made : ℕ) (can : Possible n m made) (rest : List ℕ) where
       (read-written madeGroups madeGroups made (groups numberGroups edition ++ groups numberGroups n ++ groups numberGroups m) rest
       (omega arith) (omega arith) made-below (omega (arith, made-below))))
 
-  numbers-back : numbersOf (recordNumbers edition n m made ++ rest) ≡ numbers n m made (length (recordNumbers edition n m made))
+  numbers-back : numbersOf (recordNumbers edition n m made ++ rest) ≡ numbers edition n m made (length (recordNumbers edition n m made))
   unfolding numbersOf
-  numbers-back = rw (edition-back, depth-back, memory-back, made-back)
+  numbers-back = rw (edition-back, within 1 maxEdition edition (can .exists), depth-back, memory-back, made-back)
 
-module _ (run : Run) (arrays : HasArrays run) (can : noSuchRun (run .depth) (run .memory) (run .made) ≡ false) where
+module _ (run : Run) (arrays : HasArrays run) (can : noSuchRun (run .edition) (run .depth) (run .memory) (run .made) ≡ false) where
   -- the place after the numbers
   afterNumbers : ℕ
-  afterNumbers = length (recordNumbers edition (run .depth) (run .memory) (run .made))
+  afterNumbers = length (recordNumbers (run .edition) (run .depth) (run .memory) (run .made))
 
-  bounds : Possible (run .depth) (run .memory) (run .made)
-  bounds = possible (run .depth) (run .memory) (run .made) can
+  bounds : Possible (run .edition) (run .depth) (run .memory) (run .made)
+  bounds = possible (run .edition) (run .depth) (run .memory) (run .made) can
 
   labels-size : length (heldLabels run) ≡ heldLength (run .depth) (run .made)
   labels-size = length-take-le (heldLength (run .depth) (run .made)) (run .held) (held-inside run arrays (bounds .depth) (bounds .made-few))
 
-  record-parts : recordOf run ≡ recordNumbers edition (run .depth) (run .memory) (run .made) ++ (run .statement ++ heldLabels run)
+  record-parts : recordOf run ≡ recordNumbers (run .edition) (run .depth) (run .memory) (run .made) ++ (run .statement ++ heldLabels run)
   unfolding recordOf
-  record-parts = append-assoc (recordNumbers edition (run .depth) (run .memory) (run .made)) (run .statement) (heldLabels run)
+  record-parts = append-assoc (recordNumbers (run .edition) (run .depth) (run .memory) (run .made)) (run .statement) (heldLabels run)
 
   pub record-size :
       length (recordOf run)
-      ≡ lengthFrom (run .depth) (run .made) (length (recordNumbers edition (run .depth) (run .memory) (run .made)))
+      ≡ lengthFrom (run .depth) (run .made) (length (recordNumbers (run .edition) (run .depth) (run .memory) (run .made)))
   record-size = rw (record-parts, length-append, length-append (run .statement) (heldLabels run), labels-size, arrays .statementSize) (omega arith)
 
-  numbers-again : numbersOf (recordOf run) ≡ numbers (run .depth) (run .memory) (run .made) afterNumbers
+  numbers-again : numbersOf (recordOf run) ≡ numbers (run .edition) (run .depth) (run .memory) (run .made) afterNumbers
   unfolding afterNumbers
-  numbers-again = rw record-parts (numbers-back (run .depth) (run .memory) (run .made) bounds (run .statement ++ heldLabels run))
+  numbers-again = rw record-parts (numbers-back (run .edition) (run .depth) (run .memory) (run .made) bounds (run .statement ++ heldLabels run))
 
   row-again : resumeRow (recordOf run) ≡ 0
   unfolding resumeRow restRow afterNumbers
@@ -112,16 +113,16 @@ module _ (run : Run) (arrays : HasArrays run) (can : noSuchRun (run .depth) (run
   statement-again : take 32 (drop afterNumbers (recordOf run)) ≡ run .statement
   unfolding afterNumbers
   statement-again =
-      rw (record-parts, drop-at (recordNumbers edition (run .depth) (run .memory) (run .made)) (run .statement ++ heldLabels run) afterNumbers refl)
+      rw (record-parts, drop-at (recordNumbers (run .edition) (run .depth) (run .memory) (run .made)) (run .statement ++ heldLabels run) afterNumbers refl)
       (take-at (run .statement) (heldLabels run) 32 (arrays .statementSize))
 
   labels-again : drop (afterNumbers + 32) (recordOf run) ≡ heldLabels run
   unfolding afterNumbers
   labels-again =
-      rw (record-parts, drop-append-add (recordNumbers edition (run .depth) (run .memory) (run .made)) (run .statement ++ heldLabels run) 32)
+      rw (record-parts, drop-append-add (recordNumbers (run .edition) (run .depth) (run .memory) (run .made)) (run .statement ++ heldLabels run) 32)
       (drop-at (run .statement) (heldLabels run) 32 (arrays .statementSize))
 
-  run-again : runFrom (recordOf run) (run .depth) (run .memory) (run .made) afterNumbers ≡ tidied run
+  run-again : runFrom (recordOf run) (run .edition) (run .depth) (run .memory) (run .made) afterNumbers ≡ tidied run
   unfolding runFrom tidied
   run-again = rw (statement-again, labels-again, labels-size)
 
@@ -135,10 +136,10 @@ module _ (run : Run) (arrays : HasArrays run) (can : noSuchRun (run .depth) (run
 pub record IsRecord (bytes : List ℕ) (run : Run) : Type 0 where
   pub written : recordOf run ≡ bytes
   pub arrays : HasArrays run
-  pub possible : noSuchRun (run .depth) (run .memory) (run .made) ≡ false
+  pub possible : noSuchRun (run .edition) (run .depth) (run .memory) (run .made) ≡ false
   pub tidy : tidied run ≡ run
 
-module _ (bytes : List ℕ) (n m made at : ℕ) (read : NumbersRead bytes n m made at) (can : noSuchRun n m made ≡ false)
+module _ (bytes : List ℕ) (edition n m made at : ℕ) (read : NumbersRead bytes edition n m made at) (can : noSuchRun edition n m made ≡ false)
     (size : length bytes ≡ lengthFrom n made at) where
   labels-read : length (drop (at + 32) bytes) ≡ heldLength n made
   labels-read = rw length-drop (omega arith)
@@ -147,7 +148,7 @@ module _ (bytes : List ℕ) (n m made at : ℕ) (read : NumbersRead bytes n m ma
       take (heldLength n made) (drop (at + 32) bytes ++ zeros (heldSize - length (drop (at + 32) bytes))) ≡ drop (at + 32) bytes
   labels-front = take-at (drop (at + 32) bytes) _ (heldLength n made) labels-read
 
-  from-record : recordOf (runFrom bytes n m made at) ≡ bytes
+  from-record : recordOf (runFrom bytes edition n m made at) ≡ bytes
   unfolding recordOf runFrom
   from-record =
       ap (λ (l : List ℕ). recordNumbers edition n m made ++ take 32 (drop at bytes) ++ l) labels-front
@@ -156,40 +157,41 @@ module _ (bytes : List ℕ) (n m made at : ℕ) (read : NumbersRead bytes n m ma
       (ap (λ (l : List ℕ). take 32 (drop at bytes) ++ l) (sym (drop-drop 32 at bytes)) ∙ take-append-drop 32 (drop at bytes))
       ∙ sym (read .form)
 
-  from-arrays : HasArrays (runFrom bytes n m made at)
+  from-arrays : HasArrays (runFrom bytes edition n m made at)
   unfolding runFrom
   from-arrays =
-      let b : Possible n m made = possible n m made can in
+      let b : Possible edition n m made = possible edition n m made can in
       record {
         statementSize = length-take-le 32 (drop at bytes) (rw length-drop (omega arith));
         placesSize =
             rw (length-append, length-replicate, labels-read) (omega (arith, held-fits n made (b .depth) (b .made-few)));
       }
 
-  from-tidy : tidied (runFrom bytes n m made at) ≡ runFrom bytes n m made at
+  from-tidy : tidied (runFrom bytes edition n m made at) ≡ runFrom bytes edition n m made at
   unfolding tidied runFrom
   from-tidy =
-      ap (runOf (take 32 (drop at bytes)) n m made)
+      ap (runOf edition (take 32 (drop at bytes)) n m made)
       (ap (λ (l : List ℕ). l ++ zeros (heldSize - heldLength n made)) labels-front
       ∙ ap (λ (c : ℕ). drop (at + 32) bytes ++ zeros (heldSize - c)) (sym labels-read))
 
-  from-bytes : IsRecord bytes (runFrom bytes n m made at)
+  from-bytes : IsRecord bytes (runFrom bytes edition n m made at)
   unfolding runFrom
   from-bytes = record { written = from-record; arrays = from-arrays; possible = can; tidy = from-tidy }
 
 -- the rest's two conditions do not hold
-rest-passed : (n m made at len : ℕ) → restRow n m made at len ≡ 0 → (noSuchRun n m made ≡ false) × (len ≡ lengthFrom n made at)
+rest-passed : (edition n m made at len : ℕ) → restRow edition n m made at len ≡ 0
+    → (noSuchRun edition n m made ≡ false) × (len ≡ lengthFrom n made at)
 unfolding restRow
-rest-passed n m made at len e =
-    let (a, f) = rows.passed (noSuchRun n m made) 4 _ (lit≤ tt) e in
+rest-passed edition n m made at len e =
+    let (a, f) = rows.passed (noSuchRun edition n m made) 4 _ (lit≤ tt) e in
     let (b, g) = rows.passed (not (eqb len (lengthFrom n made at))) 18 0 (lit≤ tt) f in
     (a, eqb-true len (lengthFrom n made at) (not-false (eqb len (lengthFrom n made at)) b))
 
 module _ (bytes : List ℕ) (small : (j : ℕ) → getD bytes j 0 < 256) where
   by-answer : (answer : NumbersAnswer) → numbersOf bytes ≡ answer → rowAfter (length bytes) answer ≡ 0 → IsRecord bytes (runRead bytes answer)
-  by-answer (numbers n m made at) is e =
-      let (can, size) = rest-passed n m made at (length bytes) e in
-      from-bytes bytes n m made at (numbers-read bytes n m made at small is) can size
+  by-answer (numbers edition n m made at) is e =
+      let (can, size) = rest-passed edition n m made at (length bytes) e in
+      from-bytes bytes edition n m made at (numbers-read bytes edition n m made at small is) can size
   by-answer (notRead r) is e = absurd (omega (arith, refusal-number bytes r is))
 
   module _ (done : resumeRow bytes ≡ 0) where
@@ -204,7 +206,7 @@ module _ (bytes : List ℕ) (small : (j : ℕ) → getD bytes j 0 < 256) where
     pub read-arrays : HasArrays (resumed bytes)
     read-arrays = is-record .arrays
 
-    pub read-possible : noSuchRun (resumed bytes .depth) (resumed bytes .memory) (resumed bytes .made) ≡ false
+    pub read-possible : noSuchRun (resumed bytes .edition) (resumed bytes .depth) (resumed bytes .memory) (resumed bytes .made) ≡ false
     read-possible = is-record .possible
 
     pub read-tidy : tidied (resumed bytes) ≡ resumed bytes

@@ -9,7 +9,8 @@ use lib.Count.{ones-ones}
 use lib.Dec.{lit<}
 use lib.ListN.{length, take}
 use lib.Seq.{take-at}
-use Rattle.base.specs.Limits.{edition, maxDepth, maxMemory, heldSize, maxRecord}
+use Rattle.base.specs.Limits.{maxEdition, IsEdition, maxDepth, maxMemory, heldSize, maxRecord}
+use Rattle.base.proofs.Ranges.{within}
 use Rattle.groups.specs.Groups.{groups}
 use Rattle.groups.proofs.Steps.{groups-last}
 use Rattle.groups.proofs.Sizes.{length-groups-le}
@@ -32,18 +33,20 @@ use Rattle.run_record.proofs.HeldCounts.{held-fits}
 use Rattle.run_record_theory.proofs.Reading.{record-size}
 
 -- edition, depth and memory level take a byte each, the labels made at most six
-numbers-size : (n m made : ℕ) → Possible n m made → length (recordNumbers edition n m made) ≡ 3 + length (groups madeGroups made)
+numbers-size : (edition n m made : ℕ) → Possible edition n m made → length (recordNumbers edition n m made) ≡ 3 + length (groups madeGroups made)
 unfolding recordNumbers
-numbers-size n m made can =
-    rw (groups-last 1 edition (lit< tt), groups-last 1 n (omega arith), groups-last 1 m (omega arith)) (omega arith)
+numbers-size edition n m made can =
+    rw (groups-last 1 edition (omega arith), groups-last 1 n (omega arith), groups-last 1 m (omega arith)) (omega arith)
 
-pub record-length : (run : Run) → HasArrays run → noSuchRun (run .depth) (run .memory) (run .made) ≡ false → length (recordOf run) ≤ maxRecord
+pub record-length : (run : Run) → HasArrays run → noSuchRun (run .edition) (run .depth) (run .memory) (run .made) ≡ false
+    → length (recordOf run) ≤ maxRecord
 record-length run arrays can =
-    let b : Possible (run .depth) (run .memory) (run .made) = possible (run .depth) (run .memory) (run .made) can in
+    let b : Possible (run .edition) (run .depth) (run .memory) (run .made) =
+    possible (run .edition) (run .depth) (run .memory) (run .made) can in
     omega (
       arith,
       record-size run arrays can,
-      numbers-size (run .depth) (run .memory) (run .made) b,
+      numbers-size (run .edition) (run .depth) (run .memory) (run .made) b,
       length-groups-le madeGroups (run .made),
       held-fits (run .depth) (run .made) (b .depth) (b .made-few),
     )
@@ -53,18 +56,18 @@ pub finished-length : (n : ℕ) → heldLength n (nodesIn n) ≡ 32
 finished-length n = rw (held-done n)
 
 pub finished-record : (run : Run) → run .made ≡ nodesIn (run .depth)
-    → recordOf run ≡ recordNumbers edition (run .depth) (run .memory) (run .made) ++ run .statement ++ take 32 (run .held)
+    → recordOf run ≡ recordNumbers (run .edition) (run .depth) (run .memory) (run .made) ++ run .statement ++ take 32 (run .held)
 unfolding recordOf
 finished-record run e =
     let size : heldLength (run .depth) (run .made) ≡ 32 = rw e (finished-length (run .depth)) in
-    ap (λ (c : ℕ). recordNumbers edition (run .depth) (run .memory) (run .made) ++ run .statement ++ take c (run .held)) size
+    ap (λ (c : ℕ). recordNumbers (run .edition) (run .depth) (run .memory) (run .made) ++ run .statement ++ take c (run .held)) size
 
 -- of a run reached from a start that label is the tree's root label
-pub finished-root : (statement : List ℕ) (n m : ℕ) (store : List ℕ) → n ≤ maxDepth
-    → recordOf (steps (nodesIn n) (atStart statement n m store) .run)
+pub finished-root : (edition : ℕ) (statement : List ℕ) (n m : ℕ) (store : List ℕ) → n ≤ maxDepth
+    → recordOf (steps (nodesIn n) (atStart edition statement n m store) .run)
     ≡ recordNumbers edition n m (nodesIn n) ++ statement ++ labelOf edition statement n root
-finished-root statement n m store shallow =
-    rw (run-reached statement n m store shallow (nodesIn n) (omega arith))
+finished-root edition statement n m store shallow =
+    rw (run-reached edition statement n m store shallow (nodesIn n) (omega arith))
     (finished-record (runAfter edition statement n m (nodesIn n)) refl
     ∙ ap (λ (l : List ℕ). recordNumbers edition n m (nodesIn n) ++ statement ++ l)
     (ap (take 32) (held-top edition statement n n root)
@@ -84,14 +87,19 @@ longest-held : length (held 40 longestMade) ≡ 41
 unfolding labellingOrder
 longest-held = held-count 40 longestMade (node 39 (2 ^ 39 - 1)) longest-few longest-next ∙ ap (λ (c : ℕ). c + 2) (ones-ones 39)
 
-pub longest-record : (statement places : List ℕ) (m : ℕ) → length statement ≡ 32 → length places ≡ heldSize → m ≤ maxMemory
-    → length (recordOf (runOf statement 40 m longestMade places)) ≡ maxRecord
+pub longest-record : (edition : ℕ) (statement places : List ℕ) (m : ℕ) → IsEdition edition → length statement ≡ 32 → length places ≡ heldSize → m ≤ maxMemory
+    → length (recordOf (runOf edition statement 40 m longestMade places)) ≡ maxRecord
 unfolding groups
-longest-record statement places m a b low =
-    let can : noSuchRun 40 m longestMade ≡ false = rw (le-ltb (min 40 maxMemory) m low, le-ltb (nodesIn 40) longestMade (omega (arith, longest-few))) in
+longest-record edition statement places m exists a b low =
+    let can : noSuchRun edition 40 m longestMade ≡ false =
+    rw (
+      within 1 maxEdition edition exists,
+      le-ltb (min 40 maxMemory) m low,
+      le-ltb (nodesIn 40) longestMade (omega (arith, longest-few)),
+    ) in
     omega (
       arith,
-      record-size (runOf statement 40 m longestMade places) (record { statementSize = a; placesSize = b }) can,
-      numbers-size 40 m longestMade (possible 40 m longestMade can),
+      record-size (runOf edition statement 40 m longestMade places) (record { statementSize = a; placesSize = b }) can,
+      numbers-size edition 40 m longestMade (possible edition 40 m longestMade can),
       longest-held,
     )

@@ -6,7 +6,7 @@ use Prim.Native.Nat.{ℕ, _+_, _-_, _*_, _≤_, _<_}
 use native.Mathlib.Omega.{arith}
 use lib.ListN.{length, take, drop, length-append, length-drop, length-replicate, take-append-drop}
 use lib.Seq.{take-at, drop-at, take-add, drop-drop, length-take-le}
-use Rattle.base.specs.Limits.{edition, maxDepth, heldSize}
+use Rattle.base.specs.Limits.{maxDepth, heldSize}
 use Rattle.base.specs.Bytes.{zeros, written}
 use Rattle.base.specs.Choice.{pick}
 use Rattle.base.proofs.Parts.{written-behind}
@@ -122,10 +122,10 @@ module _ (n k : ℕ) (places : List ℕ) (whole : length places ≡ heldSize) (s
       let c : heldLength n k ≡ at + 64 = omega (arith, count-inner n k small inner) in
       rw c (inner-read places whole at (omega (arith, held-fits n k shallow (omega arith))))
 
-  label-same : (statement : List ℕ)
+  label-same : (edition : ℕ) (statement : List ℕ)
       → nextLabel edition statement n root [] (kept (heldLength n k) places) k ≡ nextLabel edition statement n root [] places k
   unfolding nextLabel hashedLabels
-  label-same statement =
+  label-same edition statement =
       ap (λ (bytes : List ℕ). labelBy (stampRule edition (root .level + n) statement) (nextNode n root k) (inLabels bytes))
       (read-same (isLeaf n root (nextNode n root k)) refl)
 
@@ -177,7 +177,7 @@ module _ (run : Run) (arrays : HasArrays run) (shallow : run .depth ≤ maxDepth
   pub tidied-twice : tidied (tidied run) ≡ tidied run
   unfolding tidied kept
   tidied-twice =
-      ap (runOf (run .statement) (run .depth) (run .memory) (run .made))
+      ap (runOf (run .edition) (run .statement) (run .depth) (run .memory) (run .made))
       (kept-twice (heldLength (run .depth) (run .made)) (run .held) held-inside)
 
   -- a record has only what tidying keeps
@@ -195,7 +195,7 @@ module _ (s : Stamped) (arrays : HasArrays (s .run)) (shallow : s .run .depth �
         statementSize = arrays .statementSize;
         placesSize =
             places-size (s .run .depth) (s .run .made) (s .run .held) (arrays .placesSize) shallow small _
-            (next-size (s .run .statement) (s .run .depth) (s .run .held) (s .run .made));
+            (next-size (s .run .edition) (s .run .statement) (s .run .depth) (s .run .held) (s .run .made));
       }
 
   -- tidied before or after, it is the same
@@ -205,12 +205,12 @@ module _ (s : Stamped) (arrays : HasArrays (s .run)) (shallow : s .run .depth �
       let r : Run = s .run in
       let n : ℕ = r .depth in
       let w : Node = nextNode n root (r .made) in
-      let label : Label = nextLabel edition (r .statement) n root [] (r .held) (r .made) in
+      let label : Label = nextLabel (r .edition) (r .statement) n root [] (r .held) (r .made) in
       let places : List ℕ = kept (heldLength n (r .made)) (r .held) in
-      let e : label ≡ nextLabel edition (r .statement) n root [] places (r .made) =
-      sym (label-same n (r .made) (r .held) (arrays .placesSize) shallow small (r .statement)) in
+      let e : label ≡ nextLabel (r .edition) (r .statement) n root [] places (r .made) =
+      sym (label-same n (r .made) (r .held) (arrays .placesSize) shallow small (r .edition) (r .statement)) in
       let h : kept (heldLength n (r .made + 1)) (heldWith n root (r .held) w label)
-      ≡ heldWith n root places w (nextLabel edition (r .statement) n root [] places (r .made)) =
-      held-same n (r .made) (r .held) (arrays .placesSize) shallow small label (next-size (r .statement) n (r .held) (r .made))
+      ≡ heldWith n root places w (nextLabel (r .edition) (r .statement) n root [] places (r .made)) =
+      held-same n (r .made) (r .held) (arrays .placesSize) shallow small label (next-size (r .edition) (r .statement) n (r .held) (r .made))
       ∙ ap (heldWith n root places w) e in
-      λ i. stamped (runOf (r .statement) n (r .memory) (r .made + 1) (h i)) (stored (r .memory) (s .store) w (e i))
+      λ i. stamped (runOf (r .edition) (r .statement) n (r .memory) (r .made + 1) (h i)) (stored (r .memory) (s .store) w (e i))

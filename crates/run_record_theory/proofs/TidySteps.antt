@@ -5,7 +5,7 @@ use Prim.Native.Nat.{ℕ, zero, suc, _-_, _≤_, _<_, min}
 use native.Mathlib.Omega.{arith}
 use lib.ListN.{length}
 use lib.Seq.{take-at}
-use Rattle.base.specs.Limits.{edition, maxDepth, heldSize}
+use Rattle.base.specs.Limits.{maxDepth, heldSize}
 use Rattle.base.specs.Bytes.{zeros}
 use Rattle.machine.specs.Machines as machines
 use Rattle.machine.specs.Calls.{total}
@@ -26,13 +26,13 @@ use Rattle.run_record_theory.proofs.Tidy.{tidied-arrays, tidied-twice, 
 use Rattle.run_theory.proofs.GoesOn.{After, still-goes, goes-on, steps-after}
 
 -- ---- what a start and calls give is tidy
-module _ (statement : List ℕ) (n m k : ℕ) where
+module _ (edition : ℕ) (statement : List ℕ) (n m k : ℕ) where
   pub runAfter-tidy : tidied (runAfter edition statement n m k) ≡ runAfter edition statement n m k
   unfolding tidied heldBytes
   runAfter-tidy =
       let labels : List ℕ = labelsOf edition statement n (held n k) in
       let size : length labels ≡ heldLength n k = labels-length edition statement n (held n k) in
-      ap (runOf statement n m k)
+      ap (runOf edition statement n m k)
       (ap (λ (l : List ℕ). l ++ zeros (heldSize - heldLength n k)) (take-at labels _ (heldLength n k) size)
       ∙ ap (λ (c : ℕ). labels ++ zeros (heldSize - c)) (sym size))
 

@@ -30,7 +30,7 @@ remainingOf s = nodesIn (s .run .depth) - s .run .made
 -- the run with its unused places zero, as every run that a start and calls give has them
 unfoldable pub tidied : Run → Run
 tidied run =
-    runOf (run .statement) (run .depth) (run .memory) (run .made)
+    runOf (run .edition) (run .statement) (run .depth) (run .memory) (run .made)
     (heldLabels run ++ zeros (heldSize - heldLength (run .depth) (run .made)))
 
 abbrev pub tidiedAt : Stamped → Stamped

@@ -5,7 +5,6 @@ use Prim.Native.Nat.{ℕ, _≤_}
 use native.Mathlib.Omega.{arith}
 use mathlib.Core.List.{List, _++_}
 use lib.ListN.{length, drop}
-use Rattle.base.specs.Limits.{edition}
 use Rattle.machine.specs.Calls.{total, afterCalls}
 use Rattle.tree.specs.Walk.{nodesIn}
 use Rattle.tree.specs.Openings.{openingNodes, openingSize}
@@ -19,13 +18,13 @@ use Rattle.run_theory.proofs.StoreLaws.{store-length, store-whole}
 use Rattle.run_theory.proofs.RunLaws.{run-reached}
 use Rattle.run_theory.proofs.OpeningCalls.{opening-carried}
 
-module _ (statement : List ℕ) (n m : ℕ) (store : List ℕ) (fit : LevelsFit n m (length store)) where
+module _ (edition : ℕ) (statement : List ℕ) (n m : ℕ) (store : List ℕ) (fit : LevelsFit n m (length store)) where
   -- the store as a finished run leaves it
   abbrev pub finishedStore : List ℕ
-  finishedStore = steps (nodesIn n) (atStart statement n m store) .store
+  finishedStore = steps (nodesIn n) (atStart edition statement n m store) .store
 
   finished-is : finishedStore ≡ storeAfter edition statement n m (nodesIn n) store
-  finished-is = ap (λ (s : Stamped). s .store) (run-reached statement n m store (fit .shallow) (nodesIn n) (omega arith))
+  finished-is = ap (λ (s : Stamped). s .store) (run-reached edition statement n m store (fit .shallow) (nodesIn n) (omega arith))
 
   pub finished-length : length finishedStore ≡ length store
   finished-length = ap length finished-is ∙ store-length edition statement n m store (fit .enough) (nodesIn n) (omega arith)
@@ -38,9 +37,9 @@ module _ (statement : List ℕ) (n m : ℕ) (store : List ℕ) (fit : LevelsFit 
 
   -- Over that store, untouched, any budgets that suffice write the tree's opening, and no byte behind it.
   pub finished-opening :
-      (lower leaf : ℕ) (out : List ℕ) → lower ≤ m → Openable n lower leaf (length finishedStore) (length out) → (budgets : List ℕ)
+      (lower leaf : ℕ) (out : List ℕ) → lower ≤ m → Openable edition n lower leaf (length finishedStore) (length out) → (budgets : List ℕ)
       → nodesAnew n lower ≤ total budgets
-      → afterCalls (opening.advanced finishedStore) (newOpen statement n lower leaf finishedStore out) budgets .out
+      → afterCalls (opening.advanced finishedStore) (newOpen edition statement n lower leaf finishedStore out) budgets .out
       ≡ labelsOf edition statement n (openingNodes n leaf) ++ drop (openingSize n) out
   finished-opening lower leaf out le fits budgets enough =
-      opening-carried statement n lower leaf finishedStore out fits (finished-holds lower le) budgets enough
+      opening-carried edition statement n lower leaf finishedStore out fits (finished-holds lower le) budgets enough

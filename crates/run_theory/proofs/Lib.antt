@@ -10,3 +10,4 @@ pub mod OpeningCalls
 pub mod Finished
 pub mod Idle
 pub mod GoesOn
+pub mod Editions

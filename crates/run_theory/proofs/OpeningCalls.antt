@@ -4,13 +4,15 @@ use Prim.Native.Nat.{ℕ, _-_, _^_, _≤_, _<_, min}
 use native.Mathlib.Nat.{sub-self}
 use native.Mathlib.Omega.{arith}
 use mathlib.Core.Bool.{Bool, true}
-use mathlib.Core.List.{List, _++_}
+use mathlib.Core.List.{List, _∷_, _++_}
 use lib.Dec.{leb}
 use lib.ListN.{length, drop}
 use borrow.Author.Tests.{ltb-false, leb-true, leb-false, not-false, le-ltb, le-leb, lt-leb}
 use Rattle.base.specs.Choice.{both}
-use Rattle.base.specs.Limits.{edition, maxDepth, maxMemory}
+use Rattle.base.specs.Limits.{maxEdition, maxDepth, maxMemory}
 use Rattle.base.proofs.ChoiceLaws.{both-first, both-second}
+use Rattle.base.specs.Row.{noEdition}
+use Rattle.base.proofs.Ranges.{within, range-of}
 use Rattle.base.proofs.RowLaws.{NoneHolds, none-holds}
 use Rattle.machine.specs.Machines.{Goes}
 use Rattle.machine.specs.Calls.{total, afterCalls}
@@ -27,11 +29,12 @@ use Rattle.run_theory.specs.Openings.{HoldsLabels, Openable, openingAfte
 use Rattle.run_theory.proofs.OpeningRun.{opening-start, opening-reached, length-after, opening-done}
 
 -- ---- the rows
-module _ (n m leaf store out : ℕ) where
-  pub open-fits : Openable n m leaf store out → openRow n m leaf store out ≡ 0
+module _ (edition n m leaf store out : ℕ) where
+  pub open-fits : Openable edition n m leaf store out → openRow edition n m leaf store out ≡ 0
   unfolding openRow
   open-fits fits =
       rw (
+        within 1 maxEdition edition (fits .exists),
         le-leb 1 n (fits .depth .0),
         le-leb n maxDepth (fits .depth .1),
         le-ltb (min n maxMemory) m (fits .memory),
@@ -40,13 +43,14 @@ module _ (n m leaf store out : ℕ) where
         le-ltb out (openingSize n) (fits .outFits),
       )
 
-  pub fits-open : openRow n m leaf store out ≡ 0 → Openable n m leaf store out
+  pub fits-open : openRow edition n m leaf store out ≡ 0 → Openable edition n m leaf store out
   unfolding openRow
   fits-open e =
-      let row : List (Bool × ℕ) = startChecks n m store ++ leafChecks n leaf out in
-      let none : NoneHolds row = none-holds row refl e in
+      let row : List (Bool × ℕ) = (noEdition edition, 12) ∷ startChecks n m store ++ leafChecks n leaf out in
+      let (known, none) : NoneHolds row = none-holds row refl e in
       let depth : both (leb 1 n) (leb n maxDepth) ≡ true = not-false (both (leb 1 n) (leb n maxDepth)) (none .0) in
       record {
+        exists = range-of 1 maxEdition edition known;
         depth =
             (leb-true 1 n (both-first (leb 1 n) (leb n maxDepth) depth), leb-true n maxDepth (both-second (leb 1 n) (leb n maxDepth) depth));
         memory = ltb-false (min n maxMemory) m (none .1 .0);
@@ -57,11 +61,12 @@ module _ (n m leaf store out : ℕ) where
 
 module _ (o : Opening) (store out : ℕ) where
   pub reopen-fits :
-      Openable (o .depth) (o .memory) (o .leaf) store out → o .made ≤ nodesAnew (o .depth) (o .memory)
+      Openable (o .edition) (o .depth) (o .memory) (o .leaf) store out → o .made ≤ nodesAnew (o .depth) (o .memory)
       → reopenRow o store out ≡ 0
   unfolding reopenRow
   reopen-fits fits few =
       rw (
+        within 1 maxEdition (o .edition) (fits .exists),
         le-leb 1 (o .depth) (fits .depth .0),
         le-leb (o .depth) maxDepth (fits .depth .1),
         le-ltb (min (o .depth) maxMemory) (o .memory) (fits .memory),
@@ -73,20 +78,20 @@ module _ (o : Opening) (store out : ℕ) where
 
 -- ---- the start
 pub started-fits :
-    (statement : List ℕ) (n m leaf store out : ℕ) → Openable n m leaf store out
-    → started statement n m leaf store out ≡ newOpening statement n m leaf
+    (edition : ℕ) (statement : List ℕ) (n m leaf store out : ℕ) → Openable edition n m leaf store out
+    → started edition statement n m leaf store out ≡ newOpening edition statement n m leaf
 unfolding started
-started-fits statement n m leaf store out fits = rw (open-fits n m leaf store out fits)
+started-fits edition statement n m leaf store out fits = rw (open-fits edition n m leaf store out fits)
 
 pub startedOut-fits :
-    (n m leaf : ℕ) (store out : List ℕ) → Openable n m leaf (length store) (length out)
-    → startedOut n m leaf store out ≡ copiedAll n m leaf store out
+    (edition n m leaf : ℕ) (store out : List ℕ) → Openable edition n m leaf (length store) (length out)
+    → startedOut edition n m leaf store out ≡ copiedAll n m leaf store out
 unfolding startedOut
-startedOut-fits n m leaf store out fits = rw (open-fits n m leaf (length store) (length out) fits)
+startedOut-fits edition n m leaf store out fits = rw (open-fits edition n m leaf (length store) (length out) fits)
 
 -- ---- the calls
 module _
-    (statement : List ℕ) (n m leaf : ℕ) (store out : List ℕ) (fits : Openable n m leaf (length store) (length out)) where
+    (edition : ℕ) (statement : List ℕ) (n m leaf : ℕ) (store out : List ℕ) (fits : Openable edition n m leaf (length store) (length out)) where
   memory-le : m ≤ n
   memory-le = omega arith
 
@@ -100,11 +105,11 @@ module _
 
   module _ (holds : HoldsLabels edition statement n m store) where
     reached :
-        (k : ℕ) → k ≤ nodesAnew n m → steps store k (newOpen statement n m leaf store out) ≡ openAfter edition statement n m leaf k out
-    reached = opening-reached statement n m leaf store out holds (fits .depth .1) memory-le (fits .position)
+        (k : ℕ) → k ≤ nodesAnew n m → steps store k (newOpen edition statement n m leaf store out) ≡ openAfter edition statement n m leaf k out
+    reached = opening-reached edition statement n m leaf store out holds (fits .depth .1) memory-le (fits .position)
 
     -- what remains falls by one with each label: the laws of calls hold of it
-    pub opening-goes : Goes (openingMachine store) (newOpen statement n m leaf store out) (nodesAnew n m)
+    pub opening-goes : Goes (openingMachine store) (newOpen edition statement n m leaf store out) (nodesAnew n m)
     unfolding openingMachine
     opening-goes =
         record {
@@ -116,16 +121,16 @@ module _
     -- any cut of budgets makes their sum of labels, up to all there are
     pub opening-calls :
         (budgets : List ℕ)
-        → afterCalls (advanced store) (newOpen statement n m leaf store out) budgets
+        → afterCalls (advanced store) (newOpen edition statement n m leaf store out) budgets
         ≡ openAfter edition statement n m leaf (min (total budgets) (nodesAnew n m)) out
     opening-calls budgets =
-        calls-state (openingMachine store) (newOpen statement n m leaf store out) (nodesAnew n m) opening-goes budgets
+        calls-state (openingMachine store) (newOpen edition statement n m leaf store out) (nodesAnew n m) opening-goes budgets
         ∙ reached (min (total budgets) (nodesAnew n m)) (omega arith)
 
     -- budgets that suffice end at the tree's opening of the leaf
     pub opening-carried :
         (budgets : List ℕ) → nodesAnew n m ≤ total budgets
-        → afterCalls (advanced store) (newOpen statement n m leaf store out) budgets .out
+        → afterCalls (advanced store) (newOpen edition statement n m leaf store out) budgets .out
         ≡ labelsOf edition statement n (openingNodes n leaf) ++ drop (openingSize n) out
     opening-carried budgets enough =
         let all : min (total budgets) (nodesAnew n m) ≡ nodesAnew n m = omega arith in
@@ -137,9 +142,9 @@ pub none-anew : (n : ℕ) → nodesAnew n n ≡ 0
 none-anew n = rw (sub-self n)
 
 pub opening-copied :
-    (statement : List ℕ) (n leaf : ℕ) (store out : List ℕ) → HoldsLabels edition statement n n store → 1 ≤ n → leaf < 2 ^ n
+    (edition : ℕ) (statement : List ℕ) (n leaf : ℕ) (store out : List ℕ) → HoldsLabels edition statement n n store → 1 ≤ n → leaf < 2 ^ n
     → openingSize n ≤ length out
     → copiedAll n n leaf store out ≡ labelsOf edition statement n (openingNodes n leaf) ++ drop (openingSize n) out
-opening-copied statement n leaf store out holds deep inside fits =
+opening-copied edition statement n leaf store out holds deep inside fits =
     ap (λ (s : Open). s .out) (opening-start edition statement n n leaf store holds inside out (omega arith))
     ∙ rw none-anew at (opening-done edition statement n n leaf out deep (omega arith) fits)

@@ -11,7 +11,6 @@ use lib.ListN.{length, take, drop, getD, length-map}
 use lib.Seq.{take-suc}
 use lib.Pow.{shr-lt}
 use borrow.Author.Tests.{eqb-true}
-use Rattle.base.specs.Limits as limits
 use Rattle.base.specs.Limits.{maxDepth}
 use Rattle.base.specs.Choice.{pick}
 use Rattle.base.specs.Bytes.{joined}
@@ -73,7 +72,7 @@ module _ (edition : ℕ) (statement : List ℕ) (n m leaf : ℕ) (store : List �
 
   pub opening-start :
       (out : List ℕ) → m ≤ n
-      → newOpen statement n m leaf store out ≡ openAfter edition statement n m leaf 0 out
+      → newOpen edition statement n m leaf store out ≡ openAfter edition statement n m leaf 0 out
   unfolding outAfter anewNodes
   opening-start out le =
       rw (← held-none edition statement n (n - m) (ancestor n leaf m), append-nil, copied-by out le (eqb m n) refl)
@@ -91,11 +90,11 @@ out-step edition statement n m leaf k out w small e =
     rw (more, ← append-assoc) (sym (outWith-append edition statement n leaf (copiedNodes n m leaf ++ take k xs) (w ∷ []) out))
 
 module _
-    (statement : List ℕ) (n m leaf : ℕ) (store out : List ℕ) (holds : HoldsLabels limits.edition statement n m store)
+    (edition : ℕ) (statement : List ℕ) (n m leaf : ℕ) (store out : List ℕ) (holds : HoldsLabels edition statement n m store)
     (shallow : n ≤ maxDepth) (le : m ≤ n) (inside : leaf < 2 ^ n) where
   pub opening-step :
       (k : ℕ) → k < nodesAnew n m
-      → stepped store (openAfter limits.edition statement n m leaf k out) ≡ openAfter limits.edition statement n m leaf (k + 1) out
+      → stepped store (openAfter edition statement n m leaf k out) ≡ openAfter edition statement n m leaf (k + 1) out
   unfolding stepped
   opening-step k small =
       let h : ℕ = n - m in
@@ -103,27 +102,27 @@ module _
       let w : Node = nextNode h v k in
       let fits : m + h ≡ n = omega arith in
       let few : k < nodesIn h = omega (arith, anew-count n m) in
-      let label : nextLabel limits.edition statement h v (front n m leaf store) (heldBytes limits.edition statement n h v k) k
-      ≡ labelOf limits.edition statement n w =
-      rw (front-labels limits.edition statement n m leaf store holds inside le) (next-label limits.edition statement n h k v fits shallow few) in
-      let held : heldWith h v (heldBytes limits.edition statement n h v k) w (labelOf limits.edition statement n w)
-      ≡ heldBytes limits.edition statement n h v (k + 1) =
-      next-held limits.edition statement n h k v fits shallow few in
-      let put : placed n leaf (outAfter limits.edition statement n m leaf k out) w (labelOf limits.edition statement n w)
-      ≡ outAfter limits.edition statement n m leaf (k + 1) out =
-      out-step limits.edition statement n m leaf k out w few refl in
+      let label : nextLabel edition statement h v (front n m leaf store) (heldBytes edition statement n h v k) k
+      ≡ labelOf edition statement n w =
+      rw (front-labels edition statement n m leaf store holds inside le) (next-label edition statement n h k v fits shallow few) in
+      let held : heldWith h v (heldBytes edition statement n h v k) w (labelOf edition statement n w)
+      ≡ heldBytes edition statement n h v (k + 1) =
+      next-held edition statement n h k v fits shallow few in
+      let put : placed n leaf (outAfter edition statement n m leaf k out) w (labelOf edition statement n w)
+      ≡ outAfter edition statement n m leaf (k + 1) out =
+      out-step edition statement n m leaf k out w few refl in
       rw (label, held, put)
 
   -- the opening after k labels
   pub opening-reached :
       (k : ℕ) → k ≤ nodesAnew n m
-      → steps store k (newOpen statement n m leaf store out)
-      ≡ openAfter limits.edition statement n m leaf k out
+      → steps store k (newOpen edition statement n m leaf store out)
+      ≡ openAfter edition statement n m leaf k out
   unfolding openingMachine
   opening-reached =
-      steps-reach (openingMachine store) (λ k. openAfter limits.edition statement n m leaf k out) (nodesAnew n m)
-      (newOpen statement n m leaf store out)
-      (opening-start limits.edition statement n m leaf store holds inside out le) opening-step
+      steps-reach (openingMachine store) (λ k. openAfter edition statement n m leaf k out) (nodesAnew n m)
+      (newOpen edition statement n m leaf store out)
+      (opening-start edition statement n m leaf store holds inside out le) opening-step
 
 -- ---- the output
 tree-at-place :

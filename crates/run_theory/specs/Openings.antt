@@ -5,21 +5,22 @@ use mathlib.Core.List.{List, [], _∷_, _++_}
 use lib.Dec.{eqb}
 use lib.ListN.{take}
 use Rattle.base.specs.Choice.{pick}
-use Rattle.base.specs.Limits.{IsDepth, IsMemory}
+use Rattle.base.specs.Limits.{IsEdition, IsDepth, IsMemory}
 use Rattle.tree.specs.Nodes.{Node, node, InTree, orderBelow}
 use Rattle.tree.specs.Openings.{sibling, openingSize}
 use Rattle.tree.specs.Store.{storeSize}
 use Rattle.opening.specs.declared.Opening.{Opening}
 use Rattle.opening_places.specs.Places.{labelIn, ancestor, beside, placed, copiedAll}
-use Rattle.opening.specs.Steps.{newOpening, Open}
+use Rattle.opening.specs.Steps.{openingOf, newOpening, Open}
 use Rattle.run_theory.specs.Reached.{labelOf, heldBytes}
 
 -- the store holds the label of each node of levels 0 to m in its slot, as a finished run left it
 abbrev pub HoldsLabels : ℕ → List ℕ → ℕ → ℕ → List ℕ → Type 0
 HoldsLabels edition statement n m store = (u : Node) → InTree m u → labelIn store u ≡ labelOf edition statement n u
 
--- the five conditions of a start, over the lengths of store and output
-pub record Openable (n m leaf store out : ℕ) : Type 0 where
+-- the six conditions of a start, over the lengths of store and output
+pub record Openable (edition n m leaf store out : ℕ) : Type 0 where
+  pub exists : IsEdition edition
   pub depth : IsDepth n
   pub memory : IsMemory n m
   pub storeFits : storeSize m ≤ store
@@ -54,21 +55,14 @@ unfoldable pub outAfter : ℕ → List ℕ → ℕ → ℕ → ℕ → ℕ → L
 outAfter edition statement n m leaf k out = outWith edition statement n leaf (copiedNodes n m leaf ++ anewNodes n m leaf k) out
 
 -- a new opening with its output
-abbrev pub newOpen : List ℕ → ℕ → ℕ → ℕ → List ℕ → List ℕ → Open
-newOpen statement n m leaf store out =
-    record { opening = newOpening statement n m leaf; out = copiedAll n m leaf store out }
+abbrev pub newOpen : ℕ → List ℕ → ℕ → ℕ → ℕ → List ℕ → List ℕ → Open
+newOpen edition statement n m leaf store out =
+    record { opening = newOpening edition statement n m leaf; out = copiedAll n m leaf store out }
 
 -- the opening after k labels
 abbrev pub openingAfter : ℕ → List ℕ → ℕ → ℕ → ℕ → ℕ → Opening
 openingAfter edition statement n m leaf k =
-    record {
-      statement = statement;
-      depth = n;
-      memory = m;
-      leaf = leaf;
-      made = k;
-      held = heldBytes edition statement n (n - m) (ancestor n leaf m) k;
-    }
+    openingOf edition statement n m leaf k (heldBytes edition statement n (n - m) (ancestor n leaf m) k)
 
 abbrev pub openAfter : ℕ → List ℕ → ℕ → ℕ → ℕ → ℕ → List ℕ → Open
 openAfter edition statement n m leaf k out =

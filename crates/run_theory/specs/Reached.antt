@@ -9,7 +9,7 @@ use Rattle.tree.specs.Labels.{Label, label}
 use Rattle.tree.specs.Held.{heldBelow}
 use Rattle.labelling.specs.Rule.{stampRule}
 use Rattle.run.specs.declared.Run.{Run}
-use Rattle.run.specs.Steps.{stored}
+use Rattle.run.specs.Steps.{runOf, stored}
 
 -- the label of a node of an edition's tree of depth n for a statement
 abbrev pub labelOf : ℕ → List ℕ → ℕ → Node → Label
@@ -37,4 +37,4 @@ storeAfter edition statement n m k store = storeWith edition statement n m (take
 -- the run after k labels
 abbrev pub runAfter : ℕ → List ℕ → ℕ → ℕ → ℕ → Run
 runAfter edition statement n m k =
-    record { statement = statement; depth = n; memory = m; made = k; held = heldBytes edition statement n n root k }
+    runOf edition statement n m k (heldBytes edition statement n n root k)

@@ -1,14 +1,15 @@
 -- A run that is not refused at its start, the state that k labels give, and calls with budgets.
 use Prim.Native.Nat.{ℕ, _≤_}
 use mathlib.Core.List.{List}
-use Rattle.base.specs.Limits.{maxDepth, IsMemory}
+use Rattle.base.specs.Limits.{maxDepth, IsEdition, IsMemory}
 use Rattle.machine.specs.Calls.{afterCalls, labelsOver}
 use Rattle.tree.specs.Store.{storeSize}
 use Rattle.run.specs.Steps.{newRun, Stamped, labelsIn, advanced}
 use Rattle.run_theory.specs.Reached.{runAfter, storeAfter}
 
--- n from 1 to 40, m at most min(n, maxMemory), and a store of so many bytes long enough
-pub record Startable (n m size : ℕ) : Type 0 where
+-- an edition that exists, n from 1 to 40, m at most min(n, maxMemory), and a store of so many bytes long enough
+pub record Startable (edition n m size : ℕ) : Type 0 where
+  pub exists : IsEdition edition
   pub positive : 1 ≤ n
   pub shallow : n ≤ maxDepth
   pub memory : IsMemory n m
@@ -20,9 +21,9 @@ pub record LevelsFit (n m size : ℕ) : Type 0 where
   pub below : m ≤ n
   pub enough : storeSize m ≤ size
 
--- a new run with its store, and what they are to be after k labels
-unfoldable pub atStart : List ℕ → ℕ → ℕ → List ℕ → Stamped
-atStart statement n m store = record { run = newRun statement n m; store = store }
+-- a new run of an edition with its store, and what they are to be after k labels
+unfoldable pub atStart : ℕ → List ℕ → ℕ → ℕ → List ℕ → Stamped
+atStart edition statement n m store = record { run = newRun edition statement n m; store = store }
 
 abbrev pub reachedAt : ℕ → List ℕ → ℕ → ℕ → List ℕ → ℕ → Stamped
 reachedAt edition statement n m store k = record { run = runAfter edition statement n m k; store = storeAfter edition statement n m k store }

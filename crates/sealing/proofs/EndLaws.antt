@@ -8,7 +8,7 @@ use borrow.Author.Tests.{ltb-false}
 use lib.ListN.{length, take, drop, take-append-drop}
 use lib.Seq.{drop-at, drop-drop}
 use Rattle.base.specs.Bytes.{joined, written}
-use Rattle.base.specs.Limits.{edition, maxDepth, IsDepth, IsCount}
+use Rattle.base.specs.Limits.{maxEdition, maxDepth, IsEdition, IsDepth, IsCount}
 use Rattle.base.proofs.Ranges.{range-of}
 use Rattle.base.proofs.WrittenLaws.{drop-written}
 use Rattle.machine.proofs.StepLaws.{steps-add}
@@ -53,11 +53,12 @@ module _ (run : Run) (store : List ℕ) (goes : continueRow run (length store) �
 
   -- its file can be written
   pub end-writable : (t file : ℕ) → IsCount t → fileSize (run .depth) t ≤ file
-      → Writable (finished .depth) (finished .memory) t (length here) file
+      → Writable (finished .edition) (finished .depth) (finished .memory) t (length here) file
   end-writable t file count fits =
-      let (d, o, l) = not-impossible (run .depth) (run .memory) (run .made) (nodesIn (run .depth)) (goes-possible run (length store) goes) in
-      rw (kept .depth, kept .memory, kept .room)
+      let (x, d, o, l) = not-impossible (run .edition) (run .depth) (run .memory) (run .made) (nodesIn (run .depth)) (goes-possible run (length store) goes) in
+      rw (kept .edition, kept .depth, kept .memory, kept .room)
       (record {
+        exists = range-of 1 maxEdition (run .edition) x;
         depth = range-of 1 maxDepth (run .depth) d;
         memory = ltb-false _ (run .memory) o;
         storeFits = may-go-on run (length store) goes .room;
@@ -67,12 +68,12 @@ module _ (run : Run) (store : List ℕ) (goes : continueRow run (length store) �
 
   module _ (way : OnTheWay run store) where
     fit : LevelsFit (run .depth) (run .memory) (length (way .first))
-    fit = levels-fit (run .depth) (run .memory) (length (way .first)) (way .startable)
+    fit = levels-fit (run .edition) (run .depth) (run .memory) (length (way .first)) (way .startable)
 
     -- it is the run that was started once, finished
-    whole : stamped finished here ≡ steps (nodesIn (run .depth)) (atStart (run .statement) (run .depth) (run .memory) (way .first))
+    whole : stamped finished here ≡ steps (nodesIn (run .depth)) (atStart (run .edition) (run .statement) (run .depth) (run .memory) (way .first))
     whole =
-        let start : Stamped = atStart (run .statement) (run .depth) (run .memory) (way .first) in
+        let start : Stamped = atStart (run .edition) (run .statement) (run .depth) (run .memory) (way .first) in
         let left : ℕ = remainingOf (stamped run store) in
         let all : run .made + left ≡ nodesIn (run .depth) = omega (arith, way .few) in
         ends
@@ -80,64 +81,65 @@ module _ (run : Run) (store : List ℕ) (goes : continueRow run (length store) �
         ∙ steps-add runMachine left (run .made) start
         ∙ ap (λ (k : ℕ). steps k start) all
 
-    pub the-root : (root : List ℕ) → root ≡ take 32 (drop 0 (finished .held)) → root ≡ rootOf edition (run .statement) (run .depth)
+    pub the-root : (root : List ℕ) → root ≡ take 32 (drop 0 (finished .held)) → root ≡ rootOf (run .edition) (run .statement) (run .depth)
     the-root root e =
         e
         ∙ ap (λ (s : Stamped). take 32 (s .run .held)) whole
-        ∙ finished-root (run .statement) (run .depth) (run .memory) (way .first) fit
+        ∙ finished-root (run .edition) (run .statement) (run .depth) (run .memory) (way .first) fit
 
-    pub holds-labels : HoldsLabels edition (run .statement) (run .depth) (run .memory) here
+    pub holds-labels : HoldsLabels (run .edition) (run .statement) (run .depth) (run .memory) here
     holds-labels =
-        subst (HoldsLabels edition (run .statement) (run .depth) (run .memory)) (sym (ap (λ (s : Stamped). s .store) whole))
-        (finished-holds (run .statement) (run .depth) (run .memory) (way .first) fit (run .memory) (omega arith))
+        subst (HoldsLabels (run .edition) (run .statement) (run .depth) (run .memory)) (sym (ap (λ (s : Stamped). s .store) whole))
+        (finished-holds (run .edition) (run .statement) (run .depth) (run .memory) (way .first) fit (run .memory) (omega arith))
 
 -- ---- the head over the front of a file that has the first q openings
-module _ (run : Run) (t q : ℕ) (file : List ℕ) (size : length (run .statement) ≡ 32) (front : Front run t q file) where
-  abbrev n : ℕ
-  n = run .depth
+module _ (run : Run) (t q : ℕ) (file : List ℕ) (size : length (run .statement) ≡ 32) (exists : IsEdition (run .edition)) (front : Front run t q file)
+  where
+    abbrev n : ℕ
+    n = run .depth
 
-  abbrev openings : List ℕ
-  openings = joined (treeOpenings edition (run .statement) n q)
+    abbrev openings : List ℕ
+    openings = joined (treeOpenings (run .edition) (run .statement) n q)
 
-  behind : drop (headSize n t) file ≡ openings ++ drop (headSize n t + q * openingSize n) file
-  behind =
-      sym (take-append-drop (q * openingSize n) (drop (headSize n t) file))
-      ∙ rw (front, drop-drop (q * openingSize n) (headSize n t) file)
+    behind : drop (headSize n t) file ≡ openings ++ drop (headSize n t + q * openingSize n) file
+    behind =
+        sym (take-append-drop (q * openingSize n) (drop (headSize n t) file))
+        ∙ rw (front, drop-drop (q * openingSize n) (headSize n t) file)
 
-  head-laid : written file 0 (head edition (run .statement) (rootOf edition (run .statement) n) n t)
-      ≡ laid edition (run .statement) n t q ++ drop (laidSize n t q) file
-  unfolding laid laidSize treeOpenings joined
-  head-laid =
-      let e : headSize n t + 0 * openingSize n ≡ headSize n t = omega (arith, zero-mul (openingSize n)) in
-      laid-head edition (run .statement) n t file (omega arith) size
-      ∙ rw (append-nil, e, behind)
-      (sym (append-assoc (head edition (run .statement) (rootOf edition (run .statement) n) n t) openings _))
+    head-laid : written file 0 (head (run .edition) (run .statement) (rootOf (run .edition) (run .statement) n) n t)
+        ≡ laid (run .edition) (run .statement) n t q ++ drop (laidSize n t q) file
+    unfolding laid laidSize treeOpenings joined
+    head-laid =
+        let e : headSize n t + 0 * openingSize n ≡ headSize n t = omega (arith, zero-mul (openingSize n)) in
+        laid-head (run .edition) (run .statement) n t file (omega arith) size
+        ∙ rw (append-nil, e, behind)
+        (sym (append-assoc (head (run .edition) (run .statement) (rootOf (run .edition) (run .statement) n) n t) openings _))
 
-  module _ (root next : List ℕ) (is-root : root ≡ rootOf edition (run .statement) n)
-      (put : next ≡ headWritten edition (run .statement) root n t file) (depth : IsDepth n) (count : IsCount t)
-      (fits : fileSize n t ≤ length file) where
-    laid-over : next ≡ laid edition (run .statement) n t q ++ drop (laidSize n t q) file
-    unfolding headWritten
-    laid-over = put ∙ rw (head-done n t (length file) depth count fits, is-root) head-laid
+    module _ (root next : List ℕ) (is-root : root ≡ rootOf (run .edition) (run .statement) n)
+        (put : next ≡ headWritten (run .edition) (run .statement) root n t file) (depth : IsDepth n) (count : IsCount t)
+        (fits : fileSize n t ≤ length file) where
+      laid-over : next ≡ laid (run .edition) (run .statement) n t q ++ drop (laidSize n t q) file
+      unfolding headWritten
+      laid-over = put ∙ rw (head-done (run .edition) n t (length file) exists depth count fits, is-root) head-laid
 
-    pub laid-begun : next ≡ laid edition (run .statement) n t q ++ drop (laidSize n t q) next
-    laid-begun =
-        laid-over
-        ∙ ap (λ (l : List ℕ). laid edition (run .statement) n t q ++ l)
-        (sym (ap (drop (laidSize n t q)) laid-over
-        ∙ drop-at (laid edition (run .statement) n t q) _ (laidSize n t q) (laid-length edition (run .statement) n t q (omega arith) size)))
+      pub laid-begun : next ≡ laid (run .edition) (run .statement) n t q ++ drop (laidSize n t q) next
+      laid-begun =
+          laid-over
+          ∙ ap (λ (l : List ℕ). laid (run .edition) (run .statement) n t q ++ l)
+          (sym (ap (drop (laidSize n t q)) laid-over
+          ∙ drop-at (laid (run .edition) (run .statement) n t q) _ (laidSize n t q) (laid-length (run .edition) (run .statement) n t q (omega arith) size)))
 
-    head-size : length (head edition (run .statement) root n t) ≡ headSize n t
-    head-size =
-        rw is-root
-        (length-head edition (run .statement) (rootOf edition (run .statement) n) n t size (label-size edition (run .statement) n _) (omega arith))
+      head-size : length (head (run .edition) (run .statement) root n t) ≡ headSize n t
+      head-size =
+          rw is-root
+          (length-head (run .edition) (run .statement) (rootOf (run .edition) (run .statement) n) n t size (label-size (run .edition) (run .statement) n _) (omega arith))
 
-    pub behind-file : drop (fileSize n t) next ≡ drop (fileSize n t) file
-    unfolding headWritten fileSize
-    behind-file =
-        ap (drop (fileSize n t)) put
-        ∙ rw (head-done n t (length file) depth count fits)
-        (drop-written file (head edition (run .statement) root n t) 0 (fileSize n t) (omega (arith, head-size)) (omega (arith, head-size)))
+      pub behind-file : drop (fileSize n t) next ≡ drop (fileSize n t) file
+      unfolding headWritten fileSize
+      behind-file =
+          ap (drop (fileSize n t)) put
+          ∙ rw (head-done (run .edition) n t (length file) exists depth count fits)
+          (drop-written file (head (run .edition) (run .statement) root n t) 0 (fileSize n t) (omega (arith, head-size)) (omega (arith, head-size)))
 
 -- ---- all of it: what the openings give over the finished run's store is the tree's file
 module _ (run : Run) (store : List ℕ) (goes : continueRow run (length store) ≡ 0) (finished : Run) (here : List ℕ)
@@ -146,19 +148,19 @@ module _ (run : Run) (store : List ℕ) (goes : continueRow run (length store) �
     (size : length (run .statement) ≡ 32) (t q : ℕ) (count : IsCount t) (file root next after : List ℕ)
     (fits : fileSize (run .depth) t ≤ length file)
     (held : root ≡ take 32 (drop 0 (finished .held)))
-    (put : next ≡ headWritten edition (run .statement) root (run .depth) t file)
-    (opened : root ≡ rootOf edition (finished .statement) (finished .depth)
-    → HoldsLabels edition (finished .statement) (finished .depth) (finished .memory) here
-    → next ≡ laid edition (finished .statement) (finished .depth) t q ++ drop (laidSize (finished .depth) t q) next
-    → after ≡ treeFile edition (finished .statement) (finished .depth) t ++ drop (fileSize (finished .depth) t) next) where
+    (put : next ≡ headWritten (run .edition) (run .statement) root (run .depth) t file)
+    (opened : root ≡ rootOf (finished .edition) (finished .statement) (finished .depth)
+    → HoldsLabels (finished .edition) (finished .statement) (finished .depth) (finished .memory) here
+    → next ≡ laid (finished .edition) (finished .statement) (finished .depth) t q ++ drop (laidSize (finished .depth) t q) next
+    → after ≡ treeFile (finished .edition) (finished .statement) (finished .depth) t ++ drop (fileSize (finished .depth) t) next) where
   pub sealed : Seals run store t q file root after
   sealed way front =
       let k = kept run store goes finished here is-run is-store in
       let is-root = the-root run store goes finished here is-run is-store way root held in
       let depth : IsDepth (run .depth) = (way .startable .positive, way .startable .shallow) in
-      let all = rw (k .statement, k .depth, k .memory) at opened in (
+      let all = rw (k .edition, k .statement, k .depth, k .memory) at opened in (
         is-root,
         all is-root (holds-labels run store goes finished here is-run is-store way)
-            (laid-begun run t q file size front root next is-root put depth count fits)
-            ∙ rw (behind-file run t q file size front root next is-root put depth count fits),
+            (laid-begun run t q file size (way .startable .exists) front root next is-root put depth count fits)
+            ∙ rw (behind-file run t q file size (way .startable .exists) front root next is-root put depth count fits),
       )

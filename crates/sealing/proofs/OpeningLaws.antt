@@ -4,7 +4,6 @@ use Prim.Native.Nat.{ℕ, _-_, _≤_}
 use native.Mathlib.Omega.{arith}
 use mathlib.Core.List.{List, _++_}
 use lib.ListN.{length, drop}
-use Rattle.base.specs.Limits.{edition}
 use Rattle.machine.specs.Machines.{Goes}
 use Rattle.tree.specs.Openings.{openingSize}
 use Rattle.opening.specs.declared.Opening.{Opening}
@@ -15,7 +14,7 @@ use Rattle.run_theory.specs.Openings.{HoldsLabels, Openable, newOpen}
 use Rattle.run_theory.proofs.OpeningCalls.{reopen-fits, started-fits, startedOut-fits}
 use Rattle.run_theory.proofs.OpeningRun.{opening-reached, opening-done}
 use Rattle.check_theory.specs.TreeFile.{openingOf}
-use Rattle.writing.proofs.OpenLaws.{depth-kept, memory-kept, leaf-kept, made-after, steps-length}
+use Rattle.writing.proofs.OpenLaws.{edition-kept, depth-kept, memory-kept, leaf-kept, made-after, steps-length}
 use Rattle.sealing.proofs.Spending.{spent-none, spent-all, spend}
 
 -- the labels that remain of an opening
@@ -24,13 +23,14 @@ remainingIn s = nodesAnew (s .opening .depth) (s .opening .memory) - s .opening 
 
 -- an opening that a call does not refuse goes on to its end
 module _ (store : List ℕ) (s : Open)
-    (fits : Openable (s .opening .depth) (s .opening .memory) (s .opening .leaf) (length store) (length (s .out)))
+    (fits : Openable (s .opening .edition) (s .opening .depth) (s .opening .memory) (s .opening .leaf) (length store) (length (s .out)))
     (few : s .opening .made ≤ nodesAnew (s .opening .depth) (s .opening .memory)) where
   still-fits : (k : ℕ) → k ≤ remainingIn s
-      → Openable (steps store k s .opening .depth) (steps store k s .opening .memory) (steps store k s .opening .leaf) (length store)
+      → Openable (steps store k s .opening .edition) (steps store k s .opening .depth) (steps store k s .opening .memory) (steps store k s .opening .leaf) (length store)
       (length (steps store k s .out))
   still-fits k enough =
       rw (
+        edition-kept store s k,
         depth-kept store s k,
         memory-kept store s k,
         leaf-kept store s k,
@@ -50,14 +50,14 @@ module _ (store : List ℕ) (s : Open)
       }
 
 -- an opening begun for a leaf over the front of an output
-module _ (statement : List ℕ) (n m leaf : ℕ) (store out : List ℕ) (fits : Openable n m leaf (length store) (length out))
-    (first : Opening) (begun : List ℕ) (start : first ≡ started statement n m leaf (length store) (length out))
-    (start-out : begun ≡ startedOut n m leaf store out) where
-  is-new : first ≡ newOpening statement n m leaf
-  is-new = start ∙ started-fits statement n m leaf (length store) (length out) fits
+module _ (edition : ℕ) (statement : List ℕ) (n m leaf : ℕ) (store out : List ℕ) (fits : Openable edition n m leaf (length store) (length out))
+    (first : Opening) (begun : List ℕ) (start : first ≡ started edition statement n m leaf (length store) (length out))
+    (start-out : begun ≡ startedOut edition n m leaf store out) where
+  is-new : first ≡ newOpening edition statement n m leaf
+  is-new = start ∙ started-fits edition statement n m leaf (length store) (length out) fits
 
-  begins : openOf first begun ≡ newOpen statement n m leaf store out
-  begins = rw (is-new, start-out, startedOut-fits n m leaf store out fits)
+  begins : openOf first begun ≡ newOpen edition statement n m leaf store out
+  begins = rw (is-new, start-out, startedOut-fits edition n m leaf store out fits)
 
   abbrev s : Open
   s = openOf first begun
@@ -98,5 +98,5 @@ module _ (statement : List ℕ) (n m leaf : ℕ) (store out : List ℕ) (fits : 
           ∙ ap (λ (t : Open). t .out) (spent-all (openingMachine store) s (nodesAnew n m) left none)
           ∙ ap (λ (t : Open). steps store (nodesAnew n m) t .out) begins
           ∙ ap (λ (t : Open). t .out)
-          (opening-reached statement n m leaf store out holds (fits .depth .1) low (fits .position) (nodesAnew n m) (omega arith))
+          (opening-reached edition statement n m leaf store out holds (fits .depth .1) low (fits .position) (nodesAnew n m) (omega arith))
           ∙ opening-done edition statement n m leaf out (fits .depth .0) low (fits .outFits)

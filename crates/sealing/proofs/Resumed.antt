@@ -12,7 +12,7 @@ use lib.ListN.{length, take, drop}
 use lib.Seq.{take-at}
 use Rattle.base.specs.Bytes.{joined, written}
 use Rattle.base.specs.Choice.{pick}
-use Rattle.base.specs.Limits.{edition, maxDepth, maxChallenges}
+use Rattle.base.specs.Limits.{maxDepth, maxChallenges}
 use Rattle.base.specs.Row.{outside, either}
 use Rattle.base.proofs.Copying.{length-written}
 use Rattle.base.proofs.WrittenLaws.{drop-written, written-here}
@@ -34,40 +34,40 @@ use Rattle.sealing.specs.Resumed.{Left, Resumable}
 use Rattle.sealing.specs.TakenUp.{openingsDone, fileTaken}
 
 -- no opening is taken of bytes that are shorter than one
-module _ (statement root : List ℕ) (n : ℕ) (cut : List ℕ) (short : length cut < openingSize n) where
-  none-right : (t : ℕ) → rightAfter statement root n cut 0 t ≡ 0
+module _ (edition : ℕ) (statement root : List ℕ) (n : ℕ) (cut : List ℕ) (short : length cut < openingSize n) where
+  none-right : (t : ℕ) → rightAfter edition statement root n cut 0 t ≡ 0
   unfolding rightAfter
   none-right zero = refl
   none-right (suc t) = rw (lt-leb ((0 + 1) * openingSize n) (length cut) (omega arith))
 
-  none-by : (t : ℕ) (b : Bool) → pick b 0 (rightAfter statement root n cut 0 t) ≡ 0
+  none-by : (t : ℕ) (b : Bool) → pick b 0 (rightAfter edition statement root n cut 0 t) ≡ 0
   none-by t true = refl
   none-by t false = none-right t
 
-  none-taken : (t : ℕ) → openingsTaken statement root n t cut ≡ 0
+  none-taken : (t : ℕ) → openingsTaken edition statement root n t cut ≡ 0
   unfolding openingsTaken
   none-taken t = none-by t (either (outside 1 maxDepth n) (outside 1 maxChallenges t))
 
 module _ (run : Run) (store : List ℕ) (t q : ℕ) (bytes : List ℕ) (left : Left run store t q bytes) where
   abbrev openings : List ℕ
-  openings = joined (treeOpenings edition (run .statement) (run .depth) q)
+  openings = joined (treeOpenings (run .edition) (run .statement) (run .depth) q)
 
   back : Back bytes run t store (length (checkpointOf run t store)) (openings ++ left .cut)
   back =
       rw (left .disk ∙ append-assoc (checkpointOf run t store) openings (left .cut))
       (resumed-on-the-way run store (left .way) t (left .count) (openings ++ left .cut))
 
-  taken : openingsTaken (run .statement) (take 32 (run .held)) (run .depth) t (openings ++ left .cut) ≡ q
+  taken : openingsTaken (run .edition) (run .statement) (take 32 (run .held)) (run .depth) t (openings ++ left .cut) ≡ q
   unfolding treeOpenings joined
   taken =
       ⊎-elim
-      (λ (none : q ≡ 0). rw none (none-taken (run .statement) (take 32 (run .held)) (run .depth) (left .cut) (left .short) t))
+      (λ (none : q ≡ 0). rw none (none-taken (run .edition) (run .statement) (take 32 (run .held)) (run .depth) (left .cut) (left .short) t))
       (λ (all : run .made ≡ nodesIn (run .depth)).
       openings-back run store (left .way) all t q (left .count) (left .few) (left .cut) (left .short))
       (left .labelsFirst)
 
   by-labels : (b : Bool) → eqb (run .made) (nodesIn (run .depth)) ≡ b
-      → pick b (openingsTaken (run .statement) (take 32 (run .held)) (run .depth) t (openings ++ left .cut)) 0 ≡ q
+      → pick b (openingsTaken (run .edition) (run .statement) (take 32 (run .held)) (run .depth) t (openings ++ left .cut)) 0 ≡ q
   by-labels true e = taken
   by-labels false e = ⊎-elim (λ (none : q ≡ 0). sym none) (λ all. absurd (eqb-false (run .made) (nodesIn (run .depth)) e all)) (left .labelsFirst)
 
@@ -77,7 +77,7 @@ module _ (run : Run) (store : List ℕ) (t q : ℕ) (bytes : List ℕ) (left : L
 
   their-bytes : take (q * openingSize (run .depth)) (drop (sizeFound bytes) bytes) ≡ openings
   their-bytes =
-      rw (back .moreBack) (take-at openings (left .cut) (q * openingSize (run .depth)) (openings-length edition (run .statement) (run .depth) q))
+      rw (back .moreBack) (take-at openings (left .cut) (q * openingSize (run .depth)) (openings-length (run .edition) (run .statement) (run .depth) q))
 
   -- any file that is long enough has room for them
   module _ (file : List ℕ) (fits : fileSize (run .depth) t ≤ length file) where
@@ -87,7 +87,7 @@ module _ (run : Run) (store : List ℕ) (t q : ℕ) (bytes : List ℕ) (left : L
     inside : (at + length openings ≤ fileSize (run .depth) t) × (at + length openings ≤ length file)
     unfolding fileSize
     inside =
-        let size : length openings ≡ q * openingSize (run .depth) = openings-length edition (run .statement) (run .depth) q in
+        let size : length openings ≡ q * openingSize (run .depth) = openings-length (run .edition) (run .statement) (run .depth) q in
         let few : q * openingSize (run .depth) ≤ t * openingSize (run .depth) =
         mul-le-mul-right {m = q} {n = t} (openingSize (run .depth)) (left .few) in
         (omega arith, omega arith)
@@ -101,11 +101,11 @@ module _ (run : Run) (store : List ℕ) (t q : ℕ) (bytes : List ℕ) (left : L
 
     front-there : Front run t q (written file at openings)
     front-there =
-        written-here file openings at (inside .1) (q * openingSize (run .depth)) (openings-length edition (run .statement) (run .depth) q)
+        written-here file openings at (inside .1) (q * openingSize (run .depth)) (openings-length (run .edition) (run .statement) (run .depth) q)
 
     tree-sealed : (root sealedFile : List ℕ) → Seals run store t q (written file at openings) root sealedFile
-        → (root ≡ rootOf edition (run .statement) (run .depth))
-        × (sealedFile ≡ treeFile edition (run .statement) (run .depth) t ++ drop (fileSize (run .depth) t) file)
+        → (root ≡ rootOf (run .edition) (run .statement) (run .depth))
+        × (sealedFile ≡ treeFile (run .edition) (run .statement) (run .depth) t ++ drop (fileSize (run .depth) t) file)
     tree-sealed root sealedFile gives =
         let (is-root, is-file) = gives (left .way) front-there in (
           is-root,

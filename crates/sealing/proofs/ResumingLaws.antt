@@ -40,48 +40,48 @@ some-or : (t : Bool) (some most : ℕ) → some ≤ most → pick t some 0 ≤ m
 some-or true some most few = few
 some-or false some most few = omega arith
 
-module _ (statement root : List ℕ) (n : ℕ) (bytes : List ℕ) where
-  after-few : (done left : ℕ) → rightAfter statement root n bytes done left ≤ left
+module _ (edition : ℕ) (statement root : List ℕ) (n : ℕ) (bytes : List ℕ) where
+  after-few : (done left : ℕ) → rightAfter edition statement root n bytes done left ≤ left
   unfolding rightAfter
   after-few done zero = omega arith
   after-few done (suc left) =
-      some-or (isRight statement root n bytes (done + 1)) (suc (rightAfter statement root n bytes (done + 1) left)) (suc left)
+      some-or (isRight edition statement root n bytes (done + 1)) (suc (rightAfter edition statement root n bytes (done + 1) left)) (suc left)
       (omega (arith, after-few (done + 1) left))
 
   -- no more than the order asks for
-  pub taken-few : (t : ℕ) → openingsTaken statement root n t bytes ≤ t
+  pub taken-few : (t : ℕ) → openingsTaken edition statement root n t bytes ≤ t
   unfolding openingsTaken
   taken-few t =
-      none-or (either (outside 1 maxDepth n) (outside 1 maxChallenges t)) (rightAfter statement root n bytes 0 t) t (after-few 0 t)
+      none-or (either (outside 1 maxDepth n) (outside 1 maxChallenges t)) (rightAfter edition statement root n bytes 0 t) t (after-few 0 t)
 
   -- all of them are there
-  taken-there : (t : ℕ) → openingsTaken statement root n t bytes * openingSize n ≤ length bytes
-  taken-there t = by (openingsTaken statement root n t bytes) refl
+  taken-there : (t : ℕ) → openingsTaken edition statement root n t bytes * openingSize n ≤ length bytes
+  taken-there t = by (openingsTaken edition statement root n t bytes) refl
     where
-      by : (k : ℕ) → openingsTaken statement root n t bytes ≡ k → k * openingSize n ≤ length bytes
+      by : (k : ℕ) → openingsTaken edition statement root n t bytes ≡ k → k * openingSize n ≤ length bytes
       by zero e = omega arith
       by (suc k) e =
           leb-true (suc k * openingSize n) (length bytes)
-          (both-first (leb (suc k * openingSize n) (length bytes)) _ (any-openings-right statement root n bytes t (suc k) (omega arith) (omega arith)))
+          (both-first (leb (suc k * openingSize n) (length bytes)) _ (any-openings-right edition statement root n bytes t (suc k) (omega arith) (omega arith)))
 
 -- ---- of a run: none before all labels are made
 abbrev doneOf : Run → ℕ → List ℕ → ℕ
 doneOf run t behind =
-    pick (eqb (run .made) (nodesIn (run .depth))) (openingsTaken (run .statement) (take 32 (run .held)) (run .depth) t behind) 0
+    pick (eqb (run .made) (nodesIn (run .depth))) (openingsTaken (run .edition) (run .statement) (take 32 (run .held)) (run .depth) t behind) 0
 
 module _ (run : Run) (t : ℕ) (behind : List ℕ) where
   pub not-yet : run .made < nodesIn (run .depth) → 0 ≡ doneOf run t behind
   not-yet less = rw (ne-eqb (run .made) (nodesIn (run .depth)) (omega arith))
 
   pub all-made : (root : List ℕ) (done : ℕ) → run .made ≡ nodesIn (run .depth) → root ≡ take 32 (run .held)
-      → done ≡ openingsTaken (run .statement) root (run .depth) t behind → done ≡ doneOf run t behind
+      → done ≡ openingsTaken (run .edition) (run .statement) root (run .depth) t behind → done ≡ doneOf run t behind
   all-made root done all is e = rw (eq-eqb (run .made) (nodesIn (run .depth)) all, ← is) e
 
   done-there : doneOf run t behind * openingSize (run .depth) ≤ length behind
   done-there = by (eqb (run .made) (nodesIn (run .depth)))
     where
-      by : (b : Bool) → pick b (openingsTaken (run .statement) (take 32 (run .held)) (run .depth) t behind) 0 * openingSize (run .depth) ≤ length behind
-      by true = taken-there (run .statement) (take 32 (run .held)) (run .depth) behind t
+      by : (b : Bool) → pick b (openingsTaken (run .edition) (run .statement) (take 32 (run .held)) (run .depth) t behind) 0 * openingSize (run .depth) ≤ length behind
+      by true = taken-there (run .edition) (run .statement) (take 32 (run .held)) (run .depth) behind t
       by false = omega arith
 
 pub done-few : (bytes : List ℕ) → openingsDone bytes ≤ countFound bytes
@@ -89,7 +89,7 @@ unfolding openingsDone
 done-few bytes =
     let run : Run = runFound bytes in
     some-or (both (isDone (faultOf bytes)) (eqb (run .made) (nodesIn (run .depth)))) _ _
-    (taken-few (run .statement) (take 32 (run .held)) (run .depth) (drop (sizeFound bytes) bytes) (countFound bytes))
+    (taken-few (run .edition) (run .statement) (take 32 (run .held)) (run .depth) (drop (sizeFound bytes) bytes) (countFound bytes))
 
 -- ---- beside a fault nothing is taken
 module _ (bytes : List ℕ) (fault : isDone (faultOf bytes) ≡ false) where
@@ -107,8 +107,8 @@ module _ (bytes : List ℕ) (fault : isDone (faultOf bytes) ≡ false) where
 
 -- ---- of a whole checkpoint: its store, with at least a SHA-256 behind it
 module _ (bytes : List ℕ) (whole : faultOf bytes ≡ 0) where
-  pub can-be : let run = runFound bytes in Possible (run .depth) (run .memory) (run .made)
-  can-be = let run = runFound bytes in possible (run .depth) (run .memory) (run .made) (found-possible bytes whole)
+  pub can-be : let run = runFound bytes in Possible (run .edition) (run .depth) (run .memory) (run .made)
+  can-be = let run = runFound bytes in possible (run .edition) (run .depth) (run .memory) (run .made) (found-possible bytes whole)
 
   module _ (m nodes : ℕ) (level : m ≡ runFound bytes .memory) (all : nodes ≡ nodesIn m) where
     pub store-there : checkpoint.headSize + 32 * nodes + 32 ≤ length bytes
@@ -130,7 +130,7 @@ pub record IsFound (bytes : List ℕ) (from : ℕ) (run : Run) (t : ℕ) : Type 
   pub count : t ≡ countFound bytes
 
 pub record Bounded (bytes : List ℕ) (from : ℕ) (run : Run) (t : ℕ) : Type 0 where
-  pub possible : Possible (run .depth) (run .memory) (run .made)
+  pub possible : Possible (run .edition) (run .depth) (run .memory) (run .made)
   pub few : t ≤ maxChallenges
   pub inside : from ≤ length bytes
 

@@ -4,7 +4,7 @@ use mathlib.Core.Logic.{_⊎_}
 use Prim.Native.Nat.{ℕ, _≤_, _<_}
 use mathlib.Core.List.{List, _++_}
 use lib.ListN.{length, drop}
-use Rattle.base.specs.Limits.{edition, IsCount}
+use Rattle.base.specs.Limits.{IsCount}
 use Rattle.tree.specs.Openings.{openingSize}
 use Rattle.tree.specs.Walk.{nodesIn}
 use Rattle.run.specs.declared.Run.{Run}
@@ -47,8 +47,8 @@ pub record Resumable (run : Run) (store : List ℕ) (t q : ℕ) (bytes : List �
   -- the openings stand behind the head's place of that file
   pub front : (file : List ℕ) → fileSize (run .depth) t ≤ length file
       → Front (runFound bytes) (countFound bytes) (openingsDone bytes) (fileTaken bytes file)
-  -- so what `seal_on` ensures is the root and the file of the tree whose seal was stopped
+  -- so what `seal_on` ensures is the root and the file of the tree whose seal was stopped, in its own edition
   pub treeSealed : (file root sealedFile : List ℕ) → fileSize (run .depth) t ≤ length file
       → Seals (runFound bytes) (storeIn bytes) (countFound bytes) (openingsDone bytes) (fileTaken bytes file) root sealedFile
-      → (root ≡ rootOf edition (run .statement) (run .depth))
-      × (sealedFile ≡ treeFile edition (run .statement) (run .depth) t ++ drop (fileSize (run .depth) t) file)
+      → (root ≡ rootOf (run .edition) (run .statement) (run .depth))
+      × (sealedFile ≡ treeFile (run .edition) (run .statement) (run .depth) t ++ drop (fileSize (run .depth) t) file)

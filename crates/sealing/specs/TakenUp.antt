@@ -18,7 +18,7 @@ unfoldable pub openingsDone : List ℕ → ℕ
 openingsDone bytes =
     let run : Run = runFound bytes in
     pick (both (isDone (faultOf bytes)) (eqb (run .made) (nodesIn (run .depth))))
-    (openingsTaken (run .statement) (take 32 (run .held)) (run .depth) (countFound bytes) (drop (sizeFound bytes) bytes))
+    (openingsTaken (run .edition) (run .statement) (take 32 (run .held)) (run .depth) (countFound bytes) (drop (sizeFound bytes) bytes))
     0
 
 -- the store over the front of one; nothing beside a fault

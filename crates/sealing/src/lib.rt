@@ -33,7 +33,7 @@ pub struct Made {
 }
 
 // A seal from wherever it is to its end: the labels that the run has yet to make, then the openings after the first `done`, which stand in the
-// file. What is on the way of a start gives the tree's file, whatever the pauses were.
+// file. What is on the way of a start gives the tree's file in the run's edition, whatever the pauses were.
 pub fn seal_on(
     run: Run,
     done: u64,
@@ -52,7 +52,7 @@ pub fn seal_on(
     let held = finished.held;
     let root = label_at(&held, 0);
     let statement = run.statement;
-    write_head(statement, root, run.depth, count, file);
+    write_head(run.edition, statement, root, run.depth, count, file);
     let opening = save_after_labels(current, finished, count, done, store, file, proof);
     let ended = open_rest(finished, root, count, done, store, file, proof, opening);
     Made {

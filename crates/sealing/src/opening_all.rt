@@ -4,7 +4,6 @@ ghost use mathlib.Core.List.{_++_};
 ghost use Prim.Native.Nat.{_≤_};
 ghost use lib.ListN.{length, drop};
 ghost use Rattle.base.specs.Bytes.{written};
-ghost use Rattle.base.specs.Limits.{edition};
 ghost use Rattle.tree.specs.Openings.{openingSize};
 ghost use Rattle.tree.specs.Walk.{nodesIn};
 ghost use Rattle.file_head.specs.Challenge.{challengeLeaf};
@@ -25,6 +24,7 @@ use run::Run;
 
 // The opening of a leaf over the front of `part`, a portion a call.
 fn open_leaf(
+    edition: u64,
     statement: [u8; 32],
     depth: u64,
     memory: u64,
@@ -33,11 +33,11 @@ fn open_leaf(
     part: &mut [u8],
     progress: Progress,
 ) -> Progress
-    requires { ⌜ Openable depth memory leaf (length (now store)) (length (now part)) ⌝ }
+    requires { ⌜ Openable edition depth memory leaf (length (now store)) (length (now part)) ⌝ }
     ensures { λ _. ⌜ (HoldsLabels edition statement depth memory (now (store .entry))
         → now (part .exit) ≡ openingOf edition statement depth leaf ++ drop (openingSize depth) (now (part .entry))) ⌝ }
 {
-    let started = Opening::start(statement, depth, memory, leaf, store, part);
+    let started = Opening::start(edition, statement, depth, memory, leaf, store, part);
     let mut state = started.opening;
     let mut current = progress;
     let mut left = opening::nodes_anew(depth, memory);
@@ -55,6 +55,7 @@ fn open_leaf(
 
 // Opening i in its part of the file.
 fn open_in_file(
+    edition: u64,
     statement: [u8; 32],
     root: [u8; 32],
     depth: u64,
@@ -65,16 +66,17 @@ fn open_in_file(
     file: &mut [u8],
     progress: Progress,
 ) -> Progress
-    requires { ⌜ Room depth memory count i (length (now store)) (length (now file)) ⌝ }
+    requires { ⌜ Room edition depth memory count i (length (now store)) (length (now file)) ⌝ }
     ensures { λ _. ⌜ (HoldsLabels edition statement depth memory (now (store .entry))
         → now (file .exit) ≡ written (now (file .entry)) (openingFrom depth (headSize depth count) i)
         (openingOf edition statement depth (challengeLeaf edition depth statement root i))) ⌝ }
 {
-    let picked = challenge(depth, statement, root, i);
+    let picked = challenge(edition, depth, statement, root, i);
     let size = (32 * (depth + 1)) as usize;
     let from = file_size(depth, count) - ((count + 1 - i) as usize) * size;
     let end = from + size;
     open_leaf(
+        edition,
         statement,
         depth,
         memory,
@@ -96,12 +98,12 @@ pub fn open_rest(
     proof: &[u8],
     progress: Progress,
 ) -> Progress
-    requires { ⌜ Writable (run .depth) (run .memory) count (length (now store)) (length (now file)) × (done ≤ count)
+    requires { ⌜ Writable (run .edition) (run .depth) (run .memory) count (length (now store)) (length (now file)) × (done ≤ count)
         × (run .made ≡ nodesIn (run .depth)) ⌝ }
-    ensures { λ _. ⌜ (root ≡ rootOf edition (run .statement) (run .depth)
-        → HoldsLabels edition (run .statement) (run .depth) (run .memory) (now (store .entry))
-        → now (file .entry) ≡ laid edition (run .statement) (run .depth) count done ++ drop (laidSize (run .depth) count done) (now (file .entry))
-        → now (file .exit) ≡ treeFile edition (run .statement) (run .depth) count ++ drop (fileSize (run .depth) count) (now (file .entry))) ⌝ }
+    ensures { λ _. ⌜ (root ≡ rootOf (run .edition) (run .statement) (run .depth)
+        → HoldsLabels (run .edition) (run .statement) (run .depth) (run .memory) (now (store .entry))
+        → now (file .entry) ≡ laid (run .edition) (run .statement) (run .depth) count done ++ drop (laidSize (run .depth) count done) (now (file .entry))
+        → now (file .exit) ≡ treeFile (run .edition) (run .statement) (run .depth) count ++ drop (fileSize (run .depth) count) (now (file .entry))) ⌝ }
 {
     let statement = run.statement;
     let mut current = progress;
@@ -109,6 +111,7 @@ pub fn open_rest(
     while i < count {
         i += 1;
         let opened = open_in_file(
+            run.edition,
             statement,
             root,
             run.depth,

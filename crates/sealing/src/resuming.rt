@@ -31,7 +31,7 @@ pub struct TakenUp {
 fn openings_done(run: Run, count: u64, behind: &[u8]) -> u64
     requires { ⌜ (run .depth ≤ maxDepth) × (run .made ≤ nodesIn (run .depth)) ⌝ }
     ensures { λ r. ⌜ r ≡ pick (eqb (run .made) (nodesIn (run .depth)))
-        (openingsTaken (run .statement) (take 32 (run .held)) (run .depth) count (now (behind .entry))) 0 ⌝ }
+        (openingsTaken (run .edition) (run .statement) (take 32 (run .held)) (run .depth) count (now (behind .entry))) 0 ⌝ }
 {
     let all = nodes(run.depth);
     if run.made < all {
@@ -40,7 +40,7 @@ fn openings_done(run: Run, count: u64, behind: &[u8]) -> u64
     let held = run.held;
     let root = label_at(&held, 0);
     let statement = run.statement;
-    right_openings(statement, root, run.depth, count, behind)
+    right_openings(run.edition, statement, root, run.depth, count, behind)
 }
 
 // The store of a whole checkpoint goes over the front of `store`.

@@ -7,6 +7,7 @@ pub mod Labelling
 pub mod Ordered
 pub mod Cut
 pub mod DocumentRule
+pub mod Inputs
 pub mod InputLengths
 pub mod OpeningLaws
 pub mod Clash

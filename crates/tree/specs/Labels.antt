@@ -2,7 +2,8 @@
 -- input is a parameter; document 01's layout is one instance.
 use mathlib.Core.Path.{_≡_}
 use Prim.Native.Nat.{ℕ, zero, suc, _+_, _-_, _*_, _/_}
-use mathlib.Core.List.{List, [], _∷_, _++_, map}
+use mathlib.Core.List.{List, [], _∷_, _++_, map, reverse}
+use lib.Dec.{eqb}
 use lib.ListN.{length, take, drop}
 use Rattle.base.specs.Choice.{pick, odd}
 use Rattle.base.specs.Bytes.{bigEndian, joined}
@@ -20,10 +21,10 @@ pub record Rule : Type 0 where
 abbrev pub labelBy : Rule → Node → List Label → Label
 labelBy r v labels = r .hash (r .input v labels)
 
--- The labels of a node's parents in the order in which they are hashed, by the edition: 'left child before right, and for a
--- leaf smallest level first', which is the order of `parents`.
+-- The labels of a node's parents in the order in which they are hashed, by the edition. In edition 1 'left child before right, and
+-- for a leaf smallest level first', which is the order of `parents`; from edition 2 on 'the label made last comes first' (W-206).
 unfoldable pub ordered {ℓ} : {A : Type ℓ} → ℕ → List A → List A
-ordered edition xs = xs
+ordered edition xs = pick (eqb edition 1) xs (reverse xs)
 
 -- the byte after the statement, by the edition and the depth n: 'level (1 byte)'
 unfoldable pub tag : ℕ → ℕ → ℕ → ℕ

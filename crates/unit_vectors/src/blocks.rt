@@ -1,5 +1,5 @@
-// W-207: the blocks of messages, and of calls on runs and openings, one after another. The stored output has the lines of the shared
-// vectors but that of 2^61 − 1 bytes, whose end digests.rt has.
+// W-207: the blocks of messages, and of calls on runs and openings of edition 2, one after another; the order hashed changes no length. The
+// stored output has the lines of the shared vectors but that of 2^61 − 1 bytes, whose end digests.rt has.
 use opening::Opening;
 use run::Run;
 use sha256::digest;
@@ -75,7 +75,7 @@ fn opening_head(depth: u64, memory: u64, leaf: u64) {
 fn opening_calls(depth: u64, memory: u64, leaf: u64, budgets: &[u64]) {
     let store = [0u8; 992];
     let mut out = [0u8; 288];
-    let start = Opening::start([9u8; 32], depth, memory, leaf, &store, &mut out);
+    let start = Opening::start(2, [9u8; 32], depth, memory, leaf, &store, &mut out);
     let mut opening = start.opening;
     let mut i: usize = 0;
     while i < budgets.len() {

@@ -9,6 +9,7 @@ mod runs; // runs.rt: runs to their end
 use blocks::blocks;
 use checked::checked;
 use digests::digests;
+use openings::opening_edges;
 use openings::openings;
 use run_edges::run_edges;
 use runs::runs;
@@ -17,7 +18,10 @@ fn main() {
     digests();
     runs();
     run_edges();
-    openings();
-    checked();
+    openings(1);
+    openings(2);
+    opening_edges();
+    checked(1, 2);
+    checked(2, 1);
     blocks();
 }

@@ -27,12 +27,13 @@ fn with_places(state: Hash, held: [u8; 1312]) -> Hash {
     step.hash
 }
 
-// The digest of a whole run: statement, depth, memory level, labels made, and places.
+// The digest of a whole run: statement, edition, depth, memory level, labels made, and places.
 fn run_digest(run: Run) -> [u8; 32] {
     let statement = run.statement;
     let held = run.held;
     let first = Hash::new().update(&statement);
-    let depth = with_number(first.hash, run.depth);
+    let edition = with_number(first.hash, run.edition);
+    let depth = with_number(edition, run.depth);
     let memory = with_number(depth, run.memory);
     let made = with_number(memory, run.made);
     let end = with_places(made, held).finish();
@@ -76,11 +77,12 @@ fn answered(before: Run, step: Advanced) {
 }
 
 // The same of continuing by one label, with whether the run is changed.
-fn continues(depth: u64, memory: u64, made: u64, store: &mut [u8]) {
+fn continues(edition: u64, depth: u64, memory: u64, made: u64, store: &mut [u8]) {
     let before = hash(store);
     let held = [9u8; 1312];
     let run = Run {
         statement: [7u8; 32],
+        edition,
         depth,
         memory,
         made,
@@ -91,22 +93,23 @@ fn continues(depth: u64, memory: u64, made: u64, store: &mut [u8]) {
     store_line(before, store);
 }
 
-// Starting and continuing with these numbers and a store of this length.
-fn edge(depth: u64, memory: u64, made: u64, store: &mut [u8]) {
-    named(b"n ", depth);
+// Starting, which takes no edition, and continuing with these numbers and a store of this length.
+fn edge(edition: u64, depth: u64, memory: u64, made: u64, store: &mut [u8]) {
+    named(b"edition ", edition);
+    named(b" n ", depth);
     named(b" m ", memory);
     named(b" made ", made);
     named(b" store ", store.len() as u64);
     starts(depth, memory, store);
-    continues(depth, memory, made, store);
+    continues(edition, depth, memory, made, store);
     vector_helpers::end();
 }
 
 // The same with a store of this length.
-fn edge_at(depth: u64, memory: u64, made: u64, len: usize) {
+fn edge_at(edition: u64, depth: u64, memory: u64, made: u64, len: usize) {
     if len <= 1048544 {
         let mut space = dirty_store();
-        edge(depth, memory, made, &mut space[..len]);
+        edge(edition, depth, memory, made, &mut space[..len]);
     }
 }
 
@@ -115,27 +118,44 @@ fn level_edges() {
     let mut i: usize = 0;
     while i < LEVEL_EDGES {
         let at = level_edge(i);
-        edge_at(at.depth, at.memory, 0, at.store);
+        edge_at(2, at.depth, at.memory, 0, at.store);
         i += 1;
     }
 }
 
+// Editions that exist or not, with other numbers that are right, with a store that is short, and with more labels made than there are.
+fn edition_edges(edition: u64) {
+    edge_at(edition, 3, 1, 14, 96);
+    edge_at(edition, 3, 1, 14, 95);
+    edge_at(edition, 3, 1, 16, 95);
+}
+
+fn editions() {
+    edition_edges(0);
+    edition_edges(1);
+    edition_edges(2);
+    edition_edges(3);
+    edition_edges(4294967298);
+    edition_edges(18446744073709551615);
+}
+
 pub fn run_edges() {
-    edge_at(0, 0, 0, 32);
-    edge_at(1, 0, 0, 32);
-    edge_at(40, 0, 0, 32);
-    edge_at(41, 0, 0, 32);
-    edge_at(18446744073709551615, 0, 0, 32);
-    edge_at(3, 3, 0, 480);
-    edge_at(3, 4, 0, 992);
-    edge_at(3, 1, 0, 96);
-    edge_at(3, 1, 0, 95);
-    edge_at(3, 1, 14, 96);
-    edge_at(3, 1, 15, 96);
-    edge_at(3, 1, 15, 95);
-    edge_at(3, 1, 16, 96);
-    edge_at(3, 1, 16, 95);
-    edge_at(3, 1, 18446744073709551615, 96);
-    edge_at(41, 42, 18446744073709551615, 0);
+    edge_at(2, 0, 0, 0, 32);
+    edge_at(2, 1, 0, 0, 32);
+    edge_at(2, 40, 0, 0, 32);
+    edge_at(2, 41, 0, 0, 32);
+    edge_at(2, 18446744073709551615, 0, 0, 32);
+    edge_at(2, 3, 3, 0, 480);
+    edge_at(2, 3, 4, 0, 992);
+    edge_at(2, 3, 1, 0, 96);
+    edge_at(2, 3, 1, 0, 95);
+    edge_at(2, 3, 1, 14, 96);
+    edge_at(2, 3, 1, 15, 96);
+    edge_at(2, 3, 1, 15, 95);
+    edge_at(2, 3, 1, 16, 96);
+    edge_at(2, 3, 1, 16, 95);
+    edge_at(2, 3, 1, 18446744073709551615, 96);
+    edge_at(2, 41, 42, 18446744073709551615, 0);
     level_edges();
+    editions();
 }

@@ -6,7 +6,7 @@ use native.Mathlib.Numerals.{add-one}
 use native.Mathlib.Omega.{arith}
 use lib.ListN.{length, getD, take, drop, set, drop-of-length-le}
 use lib.Seq.{take-suc-set, take-all, drop-cons}
-use Rattle.base.specs.Limits.{edition, maxChallenges}
+use Rattle.base.specs.Limits.{maxChallenges}
 use Rattle.base.specs.Bytes.{bigEndian}
 use Rattle.sha256.specs.declared.Hash.{Hash}
 use Rattle.sha256.specs.Portions.{updateState, updatedAll}
@@ -18,38 +18,38 @@ use Rattle.writing.specs.Possible.{writtenOf}
 use Rattle.writing.specs.Steps as writings
 use Rattle.vector_helpers.specs.Whole.{wholeRun, wholeFile, leavesTo}
 
-pub run-whole : (statement : List ℕ) (n m : ℕ) (store after : List ℕ) (run : Run) → run ≡ runs.started statement n m (length store)
-    → after ≡ runs.advanced (runs.stamped run store) 18446744073709551615 .store → after ≡ wholeRun statement n m store
+pub run-whole : (edition : ℕ) (statement : List ℕ) (n m : ℕ) (store after : List ℕ) (run : Run) → run ≡ runs.newRun edition statement n m
+    → after ≡ runs.advanced (runs.stamped run store) 18446744073709551615 .store → after ≡ wholeRun edition statement n m store
 unfolding wholeRun
-run-whole statement n m store after run e f = f ∙ ap (λ (r : Run). runs.advanced (runs.stamped r store) 18446744073709551615 .store) e
+run-whole edition statement n m store after run e f = f ∙ ap (λ (r : Run). runs.advanced (runs.stamped r store) 18446744073709551615 .store) e
 
-module _ (statement root : List ℕ) (n m t : ℕ) (store file begun after : List ℕ) (writing : Writing) where
+module _ (edition : ℕ) (statement root : List ℕ) (n m t : ℕ) (store file begun after : List ℕ) (writing : Writing) where
   pub file-whole :
-      writing ≡ writings.started statement root n m t store file .writing
-      → begun ≡ writings.started statement root n m t store file .file
-      → after ≡ writings.advanced store (writtenOf writing begun) 18446744073709551615 .file → after ≡ wholeFile statement root n m t store file
+      writing ≡ writings.started edition statement root n m t store file .writing
+      → begun ≡ writings.started edition statement root n m t store file .file
+      → after ≡ writings.advanced store (writtenOf writing begun) 18446744073709551615 .file → after ≡ wholeFile edition statement root n m t store file
   unfolding wholeFile
   file-whole e f g =
       g ∙ ap₂ (λ (w : Writing) (x : List ℕ). writings.advanced store (writtenOf w x) 18446744073709551615 .file) e f
 
-pub leaves-none : (n : ℕ) (statement root : List ℕ) → [] ≡ leavesTo n statement root 0
+pub leaves-none : (edition n : ℕ) (statement root : List ℕ) → [] ≡ leavesTo edition n statement root 0
 unfolding leavesTo
-leaves-none n statement root = refl
+leaves-none edition n statement root = refl
 
-pub leaves-more : (n : ℕ) (statement root leaves : List ℕ) (i leaf : ℕ) → i < length leaves → take i leaves ≡ leavesTo n statement root i
-    → leaf ≡ challenged edition n statement root (i + 1) → take (i + 1) (set leaves i leaf) ≡ leavesTo n statement root (i + 1)
+pub leaves-more : (edition n : ℕ) (statement root leaves : List ℕ) (i leaf : ℕ) → i < length leaves → take i leaves ≡ leavesTo edition n statement root i
+    → leaf ≡ challenged edition n statement root (i + 1) → take (i + 1) (set leaves i leaf) ≡ leavesTo edition n statement root (i + 1)
 unfolding leavesTo
-leaves-more n statement root leaves i leaf h e f =
+leaves-more edition n statement root leaves i leaf h e f =
     ap (λ (k : ℕ). take k (set leaves i leaf)) (add-one i)
     ∙ take-suc-set leaves i leaf h
-    ∙ rw (e, f) (sym (ap (λ (k : ℕ). leavesTo n statement root k) (add-one i)))
+    ∙ rw (e, f) (sym (ap (λ (k : ℕ). leavesTo edition n statement root k) (add-one i)))
 
 pub leaves-all :
-    (n : ℕ) (statement root leaves : List ℕ) (i : ℕ) → i ≡ maxChallenges → length leaves ≡ maxChallenges
-    → take i leaves ≡ leavesTo n statement root i
-    → leaves ≡ leavesTo n statement root maxChallenges
-leaves-all n statement root leaves i all size e =
-    sym (take-all i leaves (omega arith)) ∙ e ∙ ap (λ (k : ℕ). leavesTo n statement root k) all
+    (edition n : ℕ) (statement root leaves : List ℕ) (i : ℕ) → i ≡ maxChallenges → length leaves ≡ maxChallenges
+    → take i leaves ≡ leavesTo edition n statement root i
+    → leaves ≡ leavesTo edition n statement root maxChallenges
+leaves-all edition n statement root leaves i all size e =
+    sym (take-all i leaves (omega arith)) ∙ e ∙ ap (λ (k : ℕ). leavesTo edition n statement root k) all
 
 -- one place more
 pub hashed-more : (list : List ℕ) (i : ℕ) (state next : Hash) (bytes : List ℕ) → i < length list → bytes ≡ bigEndian 8 (getD list i 0)

@@ -5,11 +5,12 @@ ghost use lib.ListN.{replicate};
 ghost use Rattle.base.specs.Bytes.{zeros};
 ghost use Rattle.machine.specs.Calls.{afterCalls, labelsOver};
 ghost use Rattle.sha256.specs.Portions.{digestAnswer};
-ghost use Rattle.run.specs.Steps.{stamped, started, advanced};
+ghost use Rattle.run.specs.Steps.{stamped, newRun, advanced};
 ghost use Rattle.opening.specs.Steps as opens;
 ghost use Rattle.opening.specs.Names.{openOf};
 use opening::Opening;
 use run::Run;
+use run::new_run;
 use sha256::digest;
 
 // The digest; 32 zero bytes if there are too many bytes to hash.
@@ -54,13 +55,12 @@ pub fn run_to_end(run: Run, calls: u64, budget: u64, store: &mut [u8]) -> Run
     state
 }
 
-// The store of a run after 1,000 labels, with room for memory level 6.
-pub fn finished(statement: [u8; 32], depth: u64, memory: u64) -> [u8; 4064]
-    ensures { λ r. ⌜ r ≡ advanced (stamped (started statement depth memory 4064) (zeros 4064)) 1000 .store ⌝ }
+// The store of an edition's run after 1,000 labels, with room for memory level 6.
+pub fn finished(edition: u64, statement: [u8; 32], depth: u64, memory: u64) -> [u8; 4064]
+    ensures { λ r. ⌜ r ≡ advanced (stamped (newRun edition statement depth memory) (zeros 4064)) 1000 .store ⌝ }
 {
     let mut store = [0u8; 4064];
-    let start = Run::start(statement, depth, memory, &store);
-    let run = start.run;
+    let run = new_run(edition, statement, depth, memory);
     run.advance(1000, &mut store);
     store
 }

@@ -1,4 +1,4 @@
-// A proof file made from its statement: a run to its end, then the file written whole; its leaves; and digests of chains. For the
+// A proof file of an edition made from its statement: a run to its end, then the file written whole; its leaves; and digests of chains. For the
 // programs of the gate.
 ghost use mathlib.Core.Path.{_≡_};
 ghost use mathlib.Core.List.{map};
@@ -12,7 +12,7 @@ use base::MAX_LEAVES;
 use base::big_endian;
 use base::label_at;
 use file_head::challenge;
-use run::Run;
+use run::new_run;
 use sha256::Hash;
 use writing::Writing;
 
@@ -31,16 +31,16 @@ fn store_space() -> [u8; 262112]
 }
 
 // The store of a finished run.
-fn run_whole(statement: [u8; 32], depth: u64, memory: u64, store: &mut [u8])
-    ensures { λ _. ⌜ now (store .exit) ≡ wholeRun statement depth memory (now (store .entry)) ⌝ }
+fn run_whole(edition: u64, statement: [u8; 32], depth: u64, memory: u64, store: &mut [u8])
+    ensures { λ _. ⌜ now (store .exit) ≡ wholeRun edition statement depth memory (now (store .entry)) ⌝ }
 {
-    let start = Run::start(statement, depth, memory, store);
-    let run = start.run;
+    let run = new_run(edition, statement, depth, memory);
     run.advance(18446744073709551615, store);
 }
 
 // Writes the file whole.
 fn write_whole(
+    edition: u64,
     statement: [u8; 32],
     root: [u8; 32],
     depth: u64,
@@ -49,39 +49,46 @@ fn write_whole(
     store: &[u8],
     file: &mut [u8],
 )
-    ensures { λ _. ⌜ now (file .exit) ≡ wholeFile statement root depth memory count (now (store .entry)) (now (file .entry)) ⌝ }
+    ensures { λ _. ⌜ now (file .exit) ≡ wholeFile edition statement root depth memory count (now (store .entry)) (now (file .entry)) ⌝ }
 {
-    let start = Writing::start(statement, root, depth, memory, count, store, file);
+    let start = Writing::start(edition, statement, root, depth, memory, count, store, file);
     let writing = start.writing;
     writing.advance(18446744073709551615, store, file);
 }
 
 // Runs and writes the file at a memory level of at most 12. The root.
 pub fn write_file(
+    edition: u64,
     statement: [u8; 32],
     depth: u64,
     memory: u64,
     count: u64,
     file: &mut [u8],
 ) -> [u8; 32]
-    ensures { λ r. ⌜ r ≡ take 32 (wholeRun statement depth memory (zeros 262112)) ⌝ }
-    ensures { λ r. ⌜ now (file .exit) ≡ wholeFile statement r depth memory count (wholeRun statement depth memory (zeros 262112)) (now (file .entry)) ⌝ }
+    ensures { λ r. ⌜ r ≡ take 32 (wholeRun edition statement depth memory (zeros 262112)) ⌝ }
+    ensures { λ r. ⌜ now (file .exit)
+        ≡ wholeFile edition statement r depth memory count (wholeRun edition statement depth memory (zeros 262112)) (now (file .entry)) ⌝ }
 {
     let mut store = store_space();
-    run_whole(statement, depth, memory, &mut store);
+    run_whole(edition, statement, depth, memory, &mut store);
     let root = label_at(&store, 0);
-    write_whole(statement, root, depth, memory, count, &store, file);
+    write_whole(edition, statement, root, depth, memory, count, &store, file);
     root
 }
 
 // The leaves of challenges 1 to 200.
-pub fn challenged(depth: u64, statement: [u8; 32], root: [u8; 32]) -> [u64; MAX_LEAVES]
-    ensures { λ r. ⌜ r ≡ leavesTo depth statement root maxChallenges ⌝ }
+pub fn challenged(
+    edition: u64,
+    depth: u64,
+    statement: [u8; 32],
+    root: [u8; 32],
+) -> [u64; MAX_LEAVES]
+    ensures { λ r. ⌜ r ≡ leavesTo edition depth statement root maxChallenges ⌝ }
 {
     let mut leaves = [0u64; MAX_LEAVES];
     let mut i: usize = 0;
     while i < 200 {
-        let picked = challenge(depth, statement, root, i as u64 + 1);
+        let picked = challenge(edition, depth, statement, root, i as u64 + 1);
         leaves[i] = picked.leaf;
         i += 1;
     }

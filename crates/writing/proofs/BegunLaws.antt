@@ -4,7 +4,7 @@ use mathlib.Core.List.{List, _++_}
 use Prim.Native.Nat.{ℕ, _+_, _-_, _^_, _≤_, _<_}
 use native.Mathlib.Omega.{arith}
 use lib.ListN.{length, take, drop}
-use Rattle.base.specs.Limits.{edition}
+use Rattle.base.specs.Limits.{IsEdition}
 use Rattle.base.specs.Bytes.{written}
 use Rattle.base.proofs.Parts.{part-size, part-length}
 use Rattle.tree.specs.Openings.{openingSize}
@@ -26,10 +26,11 @@ use Rattle.writing.proofs.OpenLaws.{labels-all, advanced-all, blocks-al
 
 -- an opening over its part can be started and continued
 part-openable :
-    (n m t i : ℕ) (store file : List ℕ) (leaf : ℕ) → Room n m t i (length store) (length file) → leaf < 2 ^ n
-    → Openable n m leaf (length store) (length (take (openingSize n) (drop (openingFrom n (headSize n t) i) file)))
-part-openable n m t i store file leaf room inside =
+    (edition n m t i : ℕ) (store file : List ℕ) (leaf : ℕ) → Room edition n m t i (length store) (length file) → leaf < 2 ^ n
+    → Openable edition n m leaf (length store) (length (take (openingSize n) (drop (openingFrom n (headSize n t) i) file)))
+part-openable edition n m t i store file leaf room inside =
     record {
+      exists = room .exists;
       depth = room .depth;
       memory = room .memory;
       storeFits = room .storeFits;
@@ -43,48 +44,48 @@ part-openable n m t i store file leaf room inside =
     }
 
 -- the challenge of an opening that can be written is not refused
-module _ (statement root : List ℕ) (n m t i store file : ℕ) (room : Room n m t i store file) where
+module _ (edition : ℕ) (statement root : List ℕ) (n m t i store file : ℕ) (room : Room edition n m t i store file) where
   leaf-picked : challenged edition n statement root i ≡ challengeLeaf edition n statement root i
   unfolding challenged
-  leaf-picked = rw (challenge-done n i (room .depth) (omega (arith, room .number, room .count)))
+  leaf-picked = rw (challenge-done edition n i (room .exists) (room .depth) (omega (arith, room .number, room .count)))
 
   leaf-inside : challengeLeaf edition n statement root i < 2 ^ n
   leaf-inside = challengeLeaf-small edition n statement root i (omega (arith, room .depth))
 
   -- what is begun can be continued
-  pub begun-ready : (bytes out : List ℕ) → Ready (begun statement root n m t bytes i out .writing) store file
+  pub begun-ready : (bytes out : List ℕ) → Ready (begun edition statement root n m t bytes i out .writing) store file
   unfolding begun
   begun-ready bytes out = record { room = room; position = leaf-inside; few = omega arith }
 
 module _
-    (statement root : List ℕ) (n m t i : ℕ) (store file : List ℕ) (room : Room n m t i (length store) (length file))
+    (edition : ℕ) (statement root : List ℕ) (n m t i : ℕ) (store file : List ℕ) (room : Room edition n m t i (length store) (length file))
     (leaf from : ℕ) (is : leaf ≡ challenged edition n statement root i) (at : from ≡ openingFrom n (headSize n t) i)
     (part : List ℕ) (lent : part ≡ take (from + openingSize n - from) (drop from file))
-    (o : Opening) (part′ : List ℕ) (made : o ≡ openings.started statement n m leaf (length store) (length part))
-    (put : part′ ≡ openings.startedOut n m leaf store part) (same : length part′ ≡ length part) where
+    (o : Opening) (part′ : List ℕ) (made : o ≡ openings.started edition statement n m leaf (length store) (length part))
+    (put : part′ ≡ openings.startedOut edition n m leaf store part) (same : length part′ ≡ length part) where
   there : part ≡ take (openingSize n) (drop (openingFrom n (headSize n t) i) file)
   there = lent ∙ part-size file from (openingSize n) ∙ rw at
 
   picked : leaf ≡ challengeLeaf edition n statement root i
-  picked = is ∙ leaf-picked statement root n m t i (length store) (length file) room
+  picked = is ∙ leaf-picked edition statement root n m t i (length store) (length file) room
 
-  openable : Openable n m leaf (length store) (length part)
+  openable : Openable edition n m leaf (length store) (length part)
   openable =
-      rw there (part-openable n m t i store file leaf room (rw picked (leaf-inside statement root n m t i (length store) (length file) room)))
+      rw there (part-openable edition n m t i store file leaf room (rw picked (leaf-inside edition statement root n m t i (length store) (length file) room)))
 
-  pub begun-opening : o ≡ begun statement root n m t store i file .writing .opening
+  pub begun-opening : o ≡ begun edition statement root n m t store i file .writing .opening
   unfolding begun
-  begun-opening = made ∙ started-fits statement n m leaf (length store) (length part) openable ∙ rw picked
+  begun-opening = made ∙ started-fits edition statement n m leaf (length store) (length part) openable ∙ rw picked
 
   pub begun-file :
-      take from file ++ (part′ ++ drop (from + openingSize n - from) (drop from file)) ≡ begun statement root n m t store i file .file
+      take from file ++ (part′ ++ drop (from + openingSize n - from) (drop from file)) ≡ begun edition statement root n m t store i file .file
   unfolding begun
   begun-file =
       let size : from + openingSize n - from ≡ openingSize n = omega arith in
       let whole : length part′ ≡ openingSize n =
       same ∙ ap length there ∙ part-length file (openingFrom n (headSize n t) i) (openingSize n)
       (part-fits n t i (room .number .0) (room .number .1) (length file) (room .fileFits)) in
-      rw (size, part-back file part′ from (openingSize n) whole, put, startedOut-fits n m leaf store part openable, there, picked, at)
+      rw (size, part-back file part′ from (openingSize n) whole, put, startedOut-fits edition n m leaf store part openable, there, picked, at)
 
 module _
     (w : Writing) (store file : List ℕ) (ready : Ready w (length store) (length file)) (k from : ℕ)
@@ -99,10 +100,10 @@ module _
   under-there : part ≡ take (openingSize n) (drop (openingFrom n (headSize n (w .count)) (w .number)) file)
   under-there = lent ∙ part-size file from (openingSize n) ∙ rw at
 
-  under-openable : Openable n (w .opening .memory) (w .opening .leaf) (length store) (length part)
+  under-openable : Openable (w .opening .edition) n (w .opening .memory) (w .opening .leaf) (length store) (length part)
   under-openable =
       rw under-there
-      (part-openable n (w .opening .memory) (w .count) (w .number) store file (w .opening .leaf) (ready .room) (ready .position))
+      (part-openable (w .opening .edition) n (w .opening .memory) (w .count) (w .number) store file (w .opening .leaf) (ready .room) (ready .position))
 
   all-made : openings.advanced store (openOf (w .opening) part) k ≡ openings.steps store k (openOf (w .opening) part)
   all-made = advanced-all store (w .opening) part k under-openable few
@@ -131,10 +132,11 @@ module _
 
 -- a new writing: head, first opening, and what follows it
 module _
-    (statement root : List ℕ) (n m t : ℕ) (store file file₁ : List ℕ) (room : Room n m t 1 (length store) (length file))
+    (edition : ℕ) (statement root : List ℕ) (n m t : ℕ) (store file file₁ : List ℕ)
+    (room : Room edition n m t 1 (length store) (length file))
     (e₁ : file₁ ≡ headWritten edition statement root n t file) (o : Opening) (file₂ : List ℕ)
-    (e₂ : o ≡ begun statement root n m t store 1 file₁ .writing .opening) (f₂ : file₂ ≡ begun statement root n m t store 1 file₁ .file) where
-  first-begun : writtenOf (writingOf root t 1 o) file₂ ≡ begun statement root n m t store 1 file₁
+    (e₂ : o ≡ begun edition statement root n m t store 1 file₁ .writing .opening) (f₂ : file₂ ≡ begun edition statement root n m t store 1 file₁ .file) where
+  first-begun : writtenOf (writingOf root t 1 o) file₂ ≡ begun edition statement root n m t store 1 file₁
   unfolding begun
   first-begun = rw (e₂, f₂)
 
@@ -142,18 +144,18 @@ module _
   first-ready size =
       rw size
       (subst (λ (s : Written). Ready (s .writing) (length store) (length file)) (sym first-begun)
-      (begun-ready statement root n m t 1 (length store) (length file) room store file₁))
+      (begun-ready edition statement root n m t 1 (length store) (length file) room store file₁))
 
   head-there : file₁ ≡ written file 0 (head edition statement root n t)
   unfolding headWritten
-  head-there = rw (head-done n t (length file) (room .depth) (omega (arith, room .number, room .count)) (room .fileFits)) at e₁
+  head-there = rw (head-done edition n t (length file) (room .exists) (room .depth) (omega (arith, room .number, room .count)) (room .fileFits)) at e₁
 
-  all-begun : followed store t (writtenOf (writingOf root t 1 o) file₂) ≡ newWriting statement root n m t store file
+  all-begun : followed store t (writtenOf (writingOf root t 1 o) file₂) ≡ newWriting edition statement root n m t store file
   unfolding newWriting
   all-begun = rw (first-begun, head-there)
 
   pub new-written :
       (w : Writing) (file₃ : List ℕ) → w ≡ followed store t (writtenOf (writingOf root t 1 o) file₂) .writing
       → file₃ ≡ followed store t (writtenOf (writingOf root t 1 o) file₂) .file
-      → (w ≡ newWriting statement root n m t store file .writing) × (file₃ ≡ newWriting statement root n m t store file .file)
+      → (w ≡ newWriting edition statement root n m t store file .writing) × (file₃ ≡ newWriting edition statement root n m t store file .file)
   new-written w file₃ e f = (e ∙ ap (λ (s : Written). s .writing) all-begun, f ∙ ap (λ (s : Written). s .file) all-begun)

@@ -25,6 +25,7 @@ use Rattle.writing.proofs.StepLaws.{followed-stays, under-left, steps-l
 pub record Following (store file₀ : List ℕ) (w₀ : Writing) (file : List ℕ) (w : Writing) : Type 0 where
   pub root : w .root ≡ w₀ .root
   pub count : w .count ≡ w₀ .count
+  pub edition : w .opening .edition ≡ w₀ .opening .edition
   pub statement : w .opening .statement ≡ w₀ .opening .statement
   pub depth : w .opening .depth ≡ w₀ .opening .depth
   pub memory : w .opening .memory ≡ w₀ .opening .memory
@@ -39,6 +40,7 @@ following-none store file w ready =
     record {
       root = refl;
       count = refl;
+      edition = refl;
       statement = refl;
       depth = refl;
       memory = refl;
@@ -83,12 +85,13 @@ module _
 
   -- it is one of the same writing, and has room
   abbrev next : Written
-  next = begun (w₀ .opening .statement) (w₀ .root) (w₀ .opening .depth) (w₀ .opening .memory) (w₀ .count) store (w .number + 1) file
+  next = begun (w₀ .opening .edition) (w₀ .opening .statement) (w₀ .root) (w₀ .opening .depth) (w₀ .opening .memory) (w₀ .count) store (w .number + 1) file
 
-  room-now : Room (w .opening .depth) (w .opening .memory) (w .count) (w .number + 1) (length store) (length file₀)
+  room-now : Room (w .opening .edition) (w .opening .depth) (w .opening .memory) (w .count) (w .number + 1) (length store) (length file₀)
   room-now =
-      let r : Room (w .opening .depth) (w .opening .memory) (w .count) (w .number) (length store) (length file₀) = so-far .ready .room in
+      let r : Room (w .opening .edition) (w .opening .depth) (w .opening .memory) (w .count) (w .number) (length store) (length file₀) = so-far .ready .room in
       record {
+        exists = r .exists;
         depth = r .depth;
         memory = r .memory;
         storeFits = r .storeFits;
@@ -97,20 +100,20 @@ module _
         fileFits = r .fileFits;
       }
 
-  next-room : Room (w₀ .opening .depth) (w₀ .opening .memory) (w₀ .count) (w .number + 1) (length store) (length file₀)
-  next-room = rw (so-far .depth, so-far .memory, so-far .count) at room-now
+  next-room : Room (w₀ .opening .edition) (w₀ .opening .depth) (w₀ .opening .memory) (w₀ .count) (w .number + 1) (length store) (length file₀)
+  next-room = rw (so-far .edition, so-far .depth, so-far .memory, so-far .count) at room-now
 
-  pub begin-room : Room (w₀ .opening .depth) (w₀ .opening .memory) (w₀ .count) (w .number + 1) (length store) (length file)
+  pub begin-room : Room (w₀ .opening .edition) (w₀ .opening .depth) (w₀ .opening .memory) (w₀ .count) (w .number + 1) (length store) (length file)
   begin-room = rw size next-room
 
   followed-next :
       (left : ℕ) → followed store (suc left) (writtenOf w file) ≡ followed store left next
   unfolding followed
-  followed-next left = rw (test, so-far .statement, so-far .root, so-far .depth, so-far .memory, so-far .count)
+  followed-next left = rw (test, so-far .edition, so-far .statement, so-far .root, so-far .depth, so-far .memory, so-far .count)
 
   next-ready : Ready (next .writing) (length store) (length file₀)
   next-ready =
-      begun-ready (w₀ .opening .statement) (w₀ .root) (w₀ .opening .depth) (w₀ .opening .memory) (w₀ .count) (w .number + 1)
+      begun-ready (w₀ .opening .edition) (w₀ .opening .statement) (w₀ .root) (w₀ .opening .depth) (w₀ .opening .memory) (w₀ .count) (w .number + 1)
       (length store) (length file₀) next-room store file
 
   next-remaining : remaining (next .writing) ≡ remaining w₀
@@ -133,6 +136,7 @@ module _
       record {
         root = refl;
         count = refl;
+        edition = refl;
         statement = refl;
         depth = refl;
         memory = refl;

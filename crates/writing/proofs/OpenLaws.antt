@@ -6,7 +6,6 @@ use Prim.Native.Nat.{ℕ, zero, suc, _+_, _-_, _*_, _≤_, _<_}
 use native.Mathlib.Nat.{add-zero}
 use native.Mathlib.Omega.{arith}
 use lib.ListN.{length}
-use Rattle.base.specs.Limits.{edition}
 use Rattle.base.specs.Choice.{pick}
 use Rattle.base.specs.Bytes.{written}
 use Rattle.base.proofs.Copying.{length-written}
@@ -18,12 +17,13 @@ use Rattle.labelling.specs.Step.{nextNode, nextLabel}
 use Rattle.sha256.proofs.Digests.{digest-length}
 use Rattle.opening.specs.declared.Opening.{Opening}
 use Rattle.opening.specs.Rows.{nodesAnew}
-use Rattle.opening.specs.Names.{openingOf, openOf}
+use Rattle.opening.specs.Names.{openOf}
 use Rattle.opening_places.specs.Places.{ancestor, beside, placed, front}
-use Rattle.opening.specs.Steps.{Open, stepped, openingMachine, steps, labelsIn, blocksOver, blocksIn, advanced}
+use Rattle.opening.specs.Steps.{Open, openingOf, stepped, openingMachine, steps, labelsIn, blocksOver, blocksIn, advanced}
 use Rattle.opening.proofs.StepLaws.{anew-few, next-below}
 use Rattle.run_theory.specs.Openings.{Openable}
 use Rattle.run_theory.proofs.OpeningCalls.{reopen-fits}
+use Rattle.run_theory.proofs.Editions.{opening-steps-keep-edition}
 
 -- a label put in its place
 placed-length :
@@ -48,6 +48,9 @@ module _ (store : List ℕ) (s : Open) where
   unfolding machines.steps openingMachine stepped
   statement-kept zero = refl
   statement-kept (suc k) = statement-kept k
+
+  pub edition-kept : (k : ℕ) → steps store k s .opening .edition ≡ s .opening .edition
+  edition-kept k = opening-steps-keep-edition store k s
 
   pub depth-kept : (k : ℕ) → steps store k s .opening .depth ≡ s .opening .depth
   unfolding machines.steps openingMachine stepped
@@ -79,10 +82,11 @@ module _ (store : List ℕ) (s : Open) where
   pub opening-after :
       (k : ℕ)
       → steps store k s .opening
-      ≡ openingOf (s .opening .statement) (s .opening .depth) (s .opening .memory) (s .opening .leaf) (s .opening .made + k)
+      ≡ openingOf (s .opening .edition) (s .opening .statement) (s .opening .depth) (s .opening .memory) (s .opening .leaf) (s .opening .made + k)
       (steps store k s .opening .held)
   opening-after k =
-      λ i. openingOf (statement-kept k i) (depth-kept k i) (memory-kept k i) (leaf-kept k i) (made-after k i) (steps store k s .opening .held)
+      λ i. openingOf (edition-kept k i) (statement-kept k i) (depth-kept k i) (memory-kept k i) (leaf-kept k i) (made-after k i)
+      (steps store k s .opening .held)
 
 -- one step of an opening that has a node left
 stepped-length :
@@ -94,7 +98,7 @@ stepped-length store s few deep fits =
     let h : ℕ = o .depth - o .memory in
     let v : Node = ancestor (o .depth) (o .leaf) (o .memory) in
     placed-length (o .depth) (o .leaf) (s .out) (nextNode h v (o .made))
-    (nextLabel edition (o .statement) h v (front (o .depth) (o .memory) (o .leaf) store) (o .held) (o .made)) deep fits
+    (nextLabel (o .edition) (o .statement) h v (front (o .depth) (o .memory) (o .leaf) store) (o .held) (o .made)) deep fits
     (omega (arith, next-below h (o .made) v (nextNode h v (o .made)) (anew-few (o .depth) (o .memory) (o .made) few) refl))
     (digest-length _)
 
@@ -113,7 +117,7 @@ steps-length store s (suc k) few deep fits =
 
 -- a call whose budget is left makes as many labels
 module _
-    (store : List ℕ) (o : Opening) (out : List ℕ) (k : ℕ) (fits : Openable (o .depth) (o .memory) (o .leaf) (length store) (length out))
+    (store : List ℕ) (o : Opening) (out : List ℕ) (k : ℕ) (fits : Openable (o .edition) (o .depth) (o .memory) (o .leaf) (length store) (length out))
     (few : o .made + k ≤ nodesAnew (o .depth) (o .memory)) where
   pub labels-all : labelsIn store (openOf o out) k ≡ k
   unfolding openingMachine

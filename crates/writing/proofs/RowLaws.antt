@@ -1,13 +1,13 @@
 -- What is known of a writing that may be started or continued, and what a call gives by its answer.
 use mathlib.Core.Path.{_≡_, refl, sym}
 use mathlib.Core.Bool.{Bool, true, false}
-use mathlib.Core.List.{List, _++_}
+use mathlib.Core.List.{List, _∷_, _++_}
 use Prim.Native.Nat.{ℕ, _^_, _≤_, _<_, min}
 use borrow.Author.Tests.{ltb-false, leb-false}
 use lib.Dec.{leb}
 use lib.ListN.{length}
-use Rattle.base.specs.Limits.{maxDepth, maxMemory, maxChallenges, IsDepth, IsCount}
-use Rattle.base.specs.Row.{outside, either, isDone}
+use Rattle.base.specs.Limits.{maxEdition, maxDepth, maxMemory, maxChallenges, IsEdition, IsDepth, IsCount}
+use Rattle.base.specs.Row.{outside, noEdition, either, isDone}
 use Rattle.base.proofs.RowLaws.{NoneHolds, none-holds}
 use Rattle.run.specs.Rows.{startChecks, startRow, impossible}
 use Rattle.run.proofs.RowLaws.{not-impossible}
@@ -25,15 +25,18 @@ use Rattle.writing.specs.Steps.{mayFollow, newWriting, noWriting, starte
 use Rattle.writing.specs.Steps.{stepBlocks, blocksOver, blocksIn}
 
 -- a start's row is that of a run's start and that of the head
-pub both-done : (n m t store file : ℕ) → writeRow n m t store file ≡ 0 → (startRow n m store ≡ 0) × (headRow n t file ≡ 0)
+pub both-done :
+    (edition n m t store file : ℕ) → writeRow edition n m t store file ≡ 0 → (startRow n m store ≡ 0) × (headRow edition n t file ≡ 0)
 unfolding writeRow startRow headRow
-both-done n m t store file e =
-    let row : List (Bool × ℕ) = startChecks n m store ++ fileChecks n t file in
+both-done edition n m t store file e =
+    let row : List (Bool × ℕ) = (noEdition edition, 12) ∷ startChecks n m store ++ fileChecks n t file in
     let none : NoneHolds row = none-holds row refl e in
-    (rw (none .0, none .1 .0, none .1 .1 .0), rw (none .0, none .1 .1 .1 .0, none .1 .1 .1 .1 .0))
+    let rest = none .1 in
+    (rw (rest .0, rest .1 .0, rest .1 .1 .0), rw (none .0, rest .0, rest .1 .1 .1 .0, rest .1 .1 .1 .1 .0))
 
 -- what the first condition of continuing leaves
 pub record Bounded (w : Writing) : Type 0 where
+  pub exists : IsEdition (w .opening .edition)
   pub depth : IsDepth (w .opening .depth)
   pub memory : w .opening .memory ≤ min (w .opening .depth) maxMemory
   pub few : w .opening .made ≤ nodesAnew (w .opening .depth) (w .opening .memory)
@@ -48,12 +51,13 @@ state-bounds w e =
     let n : ℕ = o .depth in
     let m : ℕ = o .memory in
     let anew : ℕ = nodesAnew n m in
-    let (a, b) = neither (impossible n m (o .made) anew) _ e in
-    let (d, l, k) = not-impossible n m (o .made) anew a in
+    let (a, b) = neither (impossible (o .edition) n m (o .made) anew) _ e in
+    let (x, d, l, k) = not-impossible (o .edition) n m (o .made) anew a in
     let (p, q) = neither (leb (2 ^ n) (o .leaf)) _ b in
     let (t, r) = neither (outside 1 maxChallenges (w .count)) _ q in
     let (i, u) = neither (outside 1 (w .count) (w .number)) (mayFollow w) r in
     record {
+      exists = range-of 1 maxEdition (o .edition) x;
       depth = range-of 1 maxDepth n d;
       memory = ltb-false (min n maxMemory) m l;
       few = ltb-false anew (o .made) k;
@@ -64,16 +68,16 @@ state-bounds w e =
     }
 
 -- ---- what a start and a call give, by their answers
-module _ (statement root : List ℕ) (n m t : ℕ) (store file : List ℕ) where
+module _ (edition : ℕ) (statement root : List ℕ) (n m t : ℕ) (store file : List ℕ) where
   pub start-done :
-      writeRow n m t (length store) (length file) ≡ 0
-      → newWriting statement root n m t store file ≡ started statement root n m t store file
+      writeRow edition n m t (length store) (length file) ≡ 0
+      → newWriting edition statement root n m t store file ≡ started edition statement root n m t store file
   unfolding started
   start-done e = rw e
 
   pub start-refused :
-      isDone (writeRow n m t (length store) (length file)) ≡ false
-      → (noWriting ≡ started statement root n m t store file .writing) × (file ≡ started statement root n m t store file .file)
+      isDone (writeRow edition n m t (length store) (length file)) ≡ false
+      → (noWriting ≡ started edition statement root n m t store file .writing) × (file ≡ started edition statement root n m t store file .file)
   unfolding started
   start-refused e = (rw e, rw e)
 

@@ -23,7 +23,7 @@ use Rattle.writing.specs.declared.Writing.{Writing}
 use Rattle.writing.specs.Possible.{Ready, writtenOf, labelled}
 use Rattle.writing.specs.Steps.{Written, partOf, mayFollow, followed, stepped, remaining, writingMachine, steps}
 use Rattle.writing.proofs.PartLaws.{part-fits, written-same, written-again}
-use Rattle.writing.proofs.OpenLaws.{open-more, depth-kept, memory-kept, leaf-kept, made-after, anew-kept, steps-length}
+use Rattle.writing.proofs.OpenLaws.{open-more, edition-kept, depth-kept, memory-kept, leaf-kept, made-after, anew-kept, steps-length}
 
 -- nothing follows an opening that is not done, or is the last
 pub followed-stays : (store : List ℕ) (left : ℕ) (s : Written) → mayFollow (s .writing) ≡ false → followed store left s ≡ s
@@ -104,7 +104,7 @@ module _ (store file : List ℕ) (w : Writing) (ready : Ready w (length store) (
   unfolding labelled
   labelled-ready k few =
       record {
-        room = rw (depth-kept store start k, memory-kept store start k) (ready .room);
+        room = rw (edition-kept store start k, depth-kept store start k, memory-kept store start k) (ready .room);
         position = rw (depth-kept store start k, leaf-kept store start k) (ready .position);
         few = omega (arith, made-after store start k, anew-kept store start k);
       }

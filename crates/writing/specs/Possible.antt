@@ -4,7 +4,7 @@ use Prim.Native.Nat.{ℕ, _+_, _^_, _≤_, _<_}
 use mathlib.Core.Bool.{Bool, false}
 use mathlib.Core.List.{List}
 use lib.Dec.{leb}
-use Rattle.base.specs.Limits.{maxChallenges, IsDepth, IsMemory}
+use Rattle.base.specs.Limits.{maxChallenges, IsEdition, IsDepth, IsMemory}
 use Rattle.base.specs.Row.{outside, either}
 use Rattle.tree.specs.Store.{storeSize}
 use Rattle.run.specs.Rows.{impossible}
@@ -27,12 +27,13 @@ abbrev pub stateOutside : Writing → Bool
 stateOutside w =
     let o : Opening = w .opening in
     either
-    (impossible (o .depth) (o .memory) (o .made) (nodesAnew (o .depth) (o .memory)))
+    (impossible (o .edition) (o .depth) (o .memory) (o .made) (nodesAnew (o .depth) (o .memory)))
     (either (leb (2 ^ (o .depth)) (o .leaf))
     (either (outside 1 maxChallenges (w .count)) (either (outside 1 (w .count) (w .number)) (mayFollow w))))
 
--- opening i of t at depth n can be written: over the lengths of store and file
-pub record Room (n m t i store file : ℕ) : Type 0 where
+-- opening i of t of an edition's file at depth n can be written: over the lengths of store and file
+pub record Room (edition n m t i store file : ℕ) : Type 0 where
+  pub exists : IsEdition edition
   pub depth : IsDepth n
   pub memory : IsMemory n m
   pub storeFits : storeSize m ≤ store
@@ -42,7 +43,7 @@ pub record Room (n m t i store file : ℕ) : Type 0 where
 
 -- a writing that can be, with a store and a file that are long enough
 pub record Ready (w : Writing) (store file : ℕ) : Type 0 where
-  pub room : Room (w .opening .depth) (w .opening .memory) (w .count) (w .number) store file
+  pub room : Room (w .opening .edition) (w .opening .depth) (w .opening .memory) (w .count) (w .number) store file
   pub position : w .opening .leaf < 2 ^ (w .opening .depth)
   pub few : w .opening .made ≤ nodesAnew (w .opening .depth) (w .opening .memory)
 

@@ -5,7 +5,6 @@ use mathlib.Core.Bool.{Bool}
 use mathlib.Core.List.{List}
 use lib.Dec.{ltb, eqb}
 use lib.ListN.{length, take, drop}
-use Rattle.base.specs.Limits.{edition}
 use Rattle.base.specs.Choice.{pick, both}
 use Rattle.base.specs.Bytes.{zeros, written}
 use Rattle.base.specs.Row.{isDone}
@@ -34,11 +33,11 @@ abbrev pub withPart : ℕ → ℕ → ℕ → List ℕ → List ℕ → List ℕ
 withPart n t i file part = written file (openingFrom n (headSize n t) i) part
 
 -- opening i begun: its leaf is challenge i's, and what the store holds of it is copied to its part
-unfoldable pub begun : List ℕ → List ℕ → ℕ → ℕ → ℕ → List ℕ → ℕ → List ℕ → Written
-begun statement root n m t store i file =
+unfoldable pub begun : ℕ → List ℕ → List ℕ → ℕ → ℕ → ℕ → List ℕ → ℕ → List ℕ → Written
+begun edition statement root n m t store i file =
     let leaf : ℕ = challengeLeaf edition n statement root i in
     record {
-      writing = record { root = root; count = t; number = i; opening = openings.newOpening statement n m leaf };
+      writing = record { root = root; count = t; number = i; opening = openings.newOpening edition statement n m leaf };
       file = withPart n t i file (copiedAll n m leaf store (partOf n t i file));
     }
 
@@ -47,29 +46,29 @@ abbrev pub mayFollow : Writing → Bool
 mayFollow w =
     both (eqb (w .opening .made) (nodesAnew (w .opening .depth) (w .opening .memory))) (ltb (w .number) (w .count))
 
--- the next openings begun while the one under way is done, `left` of them at most
+-- the next openings begun, of the same edition, while the one under way is done, `left` of them at most
 unfoldable pub followed : List ℕ → ℕ → Written → Written
 followed store zero s = s
 followed store (suc left) s =
     let w : Writing = s .writing in
     let o : Opening = w .opening in
     pick (mayFollow w)
-    (followed store left (begun (o .statement) (w .root) (o .depth) (o .memory) (w .count) store (w .number + 1) (s .file)))
+    (followed store left (begun (o .edition) (o .statement) (w .root) (o .depth) (o .memory) (w .count) store (w .number + 1) (s .file)))
     s
 
 -- a new writing: the head, and the first opening that has labels to make
-unfoldable pub newWriting : List ℕ → List ℕ → ℕ → ℕ → ℕ → List ℕ → List ℕ → Written
-newWriting statement root n m t store file =
-    followed store t (begun statement root n m t store 1 (written file 0 (head edition statement root n t)))
+unfoldable pub newWriting : ℕ → List ℕ → List ℕ → ℕ → ℕ → ℕ → List ℕ → List ℕ → Written
+newWriting edition statement root n m t store file =
+    followed store t (begun edition statement root n m t store 1 (written file 0 (head edition statement root n t)))
 
 -- what stands beside a refused start
 abbrev pub noWriting : Writing
 noWriting = record { root = zeros 32; count = 0; number = 0; opening = openings.noOpening }
 
-unfoldable pub started : List ℕ → List ℕ → ℕ → ℕ → ℕ → List ℕ → List ℕ → Written
-started statement root n m t store file =
-    pick (isDone (writeRow n m t (length store) (length file)))
-    (newWriting statement root n m t store file)
+unfoldable pub started : ℕ → List ℕ → List ℕ → ℕ → ℕ → ℕ → List ℕ → List ℕ → Written
+started edition statement root n m t store file =
+    pick (isDone (writeRow edition n m t (length store) (length file)))
+    (newWriting edition statement root n m t store file)
     (record { writing = noWriting; file = file })
 
 -- one label of the opening under way

@@ -6,6 +6,7 @@ ghost use Rattle.writing.specs.Possible.{stateOutside};
 use crate::Writing;
 use crate::labels::may_follow;
 use base::MAX_CHALLENGES;
+use base::MAX_EDITION;
 use base::Outcome;
 use base::Refusal;
 use base::beyond;
@@ -15,13 +16,23 @@ use opening::nodes_anew;
 use opening::not_possible;
 use run::store_short;
 
-pub fn may_start(depth: u64, memory: u64, count: u64, store: usize, file: usize) -> Outcome
-    ensures { λ r. ⌜ outcomeNumber r ≡ writeRow depth memory count store file ⌝ }
+pub fn may_start(
+    edition: u64,
+    depth: u64,
+    memory: u64,
+    count: u64,
+    store: usize,
+    file: usize,
+) -> Outcome
+    ensures { λ r. ⌜ outcomeNumber r ≡ writeRow edition depth memory count store file ⌝ }
 {
+    if beyond(MAX_EDITION, edition) {
+        return Outcome::Refused(Refusal::Edition);
+    }
     let checked = run::may_start(depth, memory, store);
     match checked {
         Outcome::Refused(why) => Outcome::Refused(why),
-        Outcome::Done => may_write(depth, count, file),
+        Outcome::Done => may_write(edition, depth, count, file),
     }
 }
 
@@ -30,7 +41,13 @@ fn state_outside(writing: Writing) -> bool
     ensures { λ r. ⌜ r ≡ stateOutside writing ⌝ }
 {
     let opening = writing.opening;
-    if not_possible(opening.depth, opening.memory, opening.made, opening.leaf) {
+    if not_possible(
+        opening.edition,
+        opening.depth,
+        opening.memory,
+        opening.made,
+        opening.leaf,
+    ) {
         return true;
     }
     if beyond(MAX_CHALLENGES, writing.count) {

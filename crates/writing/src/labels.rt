@@ -39,13 +39,24 @@ pub fn follow(writing: Writing, store: &[u8], file: &mut [u8]) -> Writing
     let count = writing.count;
     let mut number = writing.number;
     let mut opening = writing.opening;
+    let edition = opening.edition;
     let statement = opening.statement;
     let depth = opening.depth;
     let memory = opening.memory;
     let anew = nodes_anew(depth, memory);
     while may_follow(opening.made, anew, number, count) {
         number += 1;
-        let next = begin(statement, root, depth, memory, count, number, store, file);
+        let next = begin(
+            edition,
+            statement,
+            root,
+            depth,
+            memory,
+            count,
+            number,
+            store,
+            file,
+        );
         opening = next;
     }
     Writing {
@@ -58,6 +69,7 @@ pub fn follow(writing: Writing, store: &[u8], file: &mut [u8]) -> Writing
 
 // A new writing: the head, and the first opening that has labels to make.
 pub fn write_first(
+    edition: u64,
     statement: [u8; 32],
     root: [u8; 32],
     depth: u64,
@@ -66,13 +78,23 @@ pub fn write_first(
     store: &[u8],
     file: &mut [u8],
 ) -> Writing
-    requires { ⌜ Room depth memory count 1 (length (now store)) (length (now file)) ⌝ }
-    ensures { λ r. ⌜ r ≡ newWriting statement root depth memory count (now (store .entry)) (now (file .entry)) .writing ⌝ }
-    ensures { λ _. ⌜ now (file .exit) ≡ newWriting statement root depth memory count (now (store .entry)) (now (file .entry)) .file ⌝ }
+    requires { ⌜ Room edition depth memory count 1 (length (now store)) (length (now file)) ⌝ }
+    ensures { λ r. ⌜ r ≡ newWriting edition statement root depth memory count (now (store .entry)) (now (file .entry)) .writing ⌝ }
+    ensures { λ _. ⌜ now (file .exit) ≡ newWriting edition statement root depth memory count (now (store .entry)) (now (file .entry)) .file ⌝ }
 {
-    write_head(statement, root, depth, count, file);
+    write_head(edition, statement, root, depth, count, file);
     let number = 1;
-    let opening = begin(statement, root, depth, memory, count, number, store, file);
+    let opening = begin(
+        edition,
+        statement,
+        root,
+        depth,
+        memory,
+        count,
+        number,
+        store,
+        file,
+    );
     let first = Writing {
         root,
         count,

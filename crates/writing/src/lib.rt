@@ -52,6 +52,7 @@ fn no_writing() -> Writing
     let held = [0u8; HELD_SIZE];
     let opening = Opening {
         statement,
+        edition: 0,
         depth: 0,
         memory: 0,
         leaf: 0,
@@ -69,6 +70,7 @@ fn no_writing() -> Writing
 impl Writing {
     // Writes the head, and copies what the store holds of each opening that is begun.
     pub fn start(
+        edition: u64,
         statement: [u8; 32],
         root: [u8; 32],
         depth: u64,
@@ -77,14 +79,23 @@ impl Writing {
         store: &[u8],
         file: &mut [u8],
     ) -> Started
-        ensures { λ r. ⌜ outcomeNumber (r .outcome) ≡ writeRow depth memory count (length (now (store .entry))) (length (now (file .entry))) ⌝ }
-        ensures { λ r. ⌜ r .writing ≡ started statement root depth memory count (now (store .entry)) (now (file .entry)) .writing ⌝ }
-        ensures { λ _. ⌜ now (file .exit) ≡ started statement root depth memory count (now (store .entry)) (now (file .entry)) .file ⌝ }
+        ensures { λ r. ⌜ outcomeNumber (r .outcome) ≡ writeRow edition depth memory count (length (now (store .entry))) (length (now (file .entry))) ⌝ }
+        ensures { λ r. ⌜ r .writing ≡ started edition statement root depth memory count (now (store .entry)) (now (file .entry)) .writing ⌝ }
+        ensures { λ _. ⌜ now (file .exit) ≡ started edition statement root depth memory count (now (store .entry)) (now (file .entry)) .file ⌝ }
     {
-        let outcome = may_start(depth, memory, count, store.len(), file.len());
+        let outcome = may_start(edition, depth, memory, count, store.len(), file.len());
         match outcome {
             Outcome::Done => {
-                let writing = write_first(statement, root, depth, memory, count, store, file);
+                let writing = write_first(
+                    edition,
+                    statement,
+                    root,
+                    depth,
+                    memory,
+                    count,
+                    store,
+                    file,
+                );
                 Started { outcome, writing }
             }
             Outcome::Refused(_) => {

@@ -25,6 +25,7 @@ fn part_start(n: u64, t: u64, i: u64) -> usize
 
 // Begins opening `number` at the leaf of its challenge.
 pub fn begin(
+    edition: u64,
     statement: [u8; 32],
     root: [u8; 32],
     depth: u64,
@@ -34,14 +35,15 @@ pub fn begin(
     store: &[u8],
     file: &mut [u8],
 ) -> Opening
-    requires { ⌜ Room depth memory count number (length (now store)) (length (now file)) ⌝ }
-    ensures { λ r. ⌜ r ≡ begun statement root depth memory count (now (store .entry)) number (now (file .entry)) .writing .opening ⌝ }
-    ensures { λ _. ⌜ now (file .exit) ≡ begun statement root depth memory count (now (store .entry)) number (now (file .entry)) .file ⌝ }
+    requires { ⌜ Room edition depth memory count number (length (now store)) (length (now file)) ⌝ }
+    ensures { λ r. ⌜ r ≡ begun edition statement root depth memory count (now (store .entry)) number (now (file .entry)) .writing .opening ⌝ }
+    ensures { λ _. ⌜ now (file .exit) ≡ begun edition statement root depth memory count (now (store .entry)) number (now (file .entry)) .file ⌝ }
 {
-    let picked = challenge(depth, statement, root, number);
+    let picked = challenge(edition, depth, statement, root, number);
     let from = part_start(depth, count, number);
     let end = from + (32 * (depth + 1)) as usize;
     let started = Opening::start(
+        edition,
         statement,
         depth,
         memory,

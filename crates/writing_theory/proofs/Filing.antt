@@ -11,7 +11,6 @@ use lib.Dec.{eqb}
 use lib.ListN.{length, take, drop, drop-of-length-le}
 use lib.Seq.{take-at, drop-at}
 use borrow.Author.Tests.{eq-eqb, ne-eqb, lt-ltb, le-ltb}
-use Rattle.base.specs.Limits.{edition}
 use Rattle.base.proofs.ChoiceLaws.{both-false}
 use Rattle.base.proofs.WrittenLaws.{written-over}
 use Rattle.base.proofs.ChoiceLaws.{lt-or-le}
@@ -38,15 +37,15 @@ part-there : (a b c : List ℕ) (at size : ℕ) → length a ≡ at → length b
 part-there a b c at size e f = rw (drop-at a (b ++ c) at e) (take-at b c size f)
 
 module _
-    (statement : List ℕ) (n m t : ℕ) (store file : List ℕ) (size : length statement ≡ 32)
-    (holds : HoldsLabels edition statement n m store) (fits : Writable n m t (length store) (length file)) where
+    (edition : ℕ) (statement : List ℕ) (n m t : ℕ) (store file : List ℕ) (size : length statement ≡ 32)
+    (holds : HoldsLabels edition statement n m store) (fits : Writable edition n m t (length store) (length file)) where
   memory-le : m ≤ n
   memory-le = omega arith
 
   -- over any bytes for the part and behind it
   module _ (q : ℕ) (b c : List ℕ) (part : length b ≡ openingSize n) where
     part-begun :
-        begun statement (rootOf edition statement n) n m t store (q + 1) (laid edition statement n t q ++ (b ++ c))
+        begun edition statement (rootOf edition statement n) n m t store (q + 1) (laid edition statement n t q ++ (b ++ c))
         ≡ underWay (rootOf edition statement n) t q (laid edition statement n t q)
         (openAfter edition statement n m (leafAfter edition statement n q) 0 b) c
     unfolding begun underWay
@@ -54,7 +53,7 @@ module _
         let leaf : ℕ = leafAfter edition statement n q in
         let a : List ℕ = laid edition statement n t q in
         let long : length a ≡ laidSize n t q = laid-length edition statement n t q (omega arith) size in
-        let start : newOpen statement n m leaf store b ≡ openAfter edition statement n m leaf 0 b =
+        let start : newOpen edition statement n m leaf store b ≡ openAfter edition statement n m leaf 0 b =
         opening-start edition statement n m leaf store holds (leaf-inside edition statement n q (fits .depth .1)) b memory-le in
         let same : length b ≡ length (copiedAll n m leaf store b) =
         sym
@@ -86,7 +85,7 @@ module _
         rw (
           size-from n t q,
           part-there a (outAfter edition statement n m leaf r b) c (laidSize n t q) (openingSize n) long now,
-          opening-step statement n m leaf store b holds (fits .depth .1) memory-le (leaf-inside edition statement n q (fits .depth .1)) r few,
+          opening-step edition statement n m leaf store b holds (fits .depth .1) memory-le (leaf-inside edition statement n q (fits .depth .1)) r few,
           written-over a (outAfter edition statement n m leaf r b) c (outAfter edition statement n m leaf (r + 1) b)
               (laidSize n t q) long (now ∙ sym then),
         )
@@ -94,11 +93,11 @@ module _
   -- ---- in the file
   opening-begun :
       (q : ℕ) → q < t
-      → begun statement (rootOf edition statement n) n m t store (q + 1) (laid edition statement n t q ++ drop (laidSize n t q) file)
+      → begun edition statement (rootOf edition statement n) n m t store (q + 1) (laid edition statement n t q ++ drop (laidSize n t q) file)
       ≡ writtenAt edition statement n m t file q 0
   unfolding writtenAt
   opening-begun q few =
-      ap (λ (l : List ℕ). begun statement (rootOf edition statement n) n m t store (q + 1) (laid edition statement n t q ++ l))
+      ap (λ (l : List ℕ). begun edition statement (rootOf edition statement n) n m t store (q + 1) (laid edition statement n t q ++ l))
       (part-split n t file q)
       ∙ part-begun q _ _ (part-size n t file q few (fits .fileFits))
 
@@ -169,7 +168,7 @@ module _
   follows-one zero q r one some done few = absurd (omega arith)
   follows-one (suc left) q r one some done few = follows-next left q r done few ∙ follows-none left (q + 1) 0 (omega arith)
 
-  new-begun : newFile statement n m t store file ≡ followed store t (writtenAt edition statement n m t file 0 0)
+  new-begun : newFile edition statement n m t store file ≡ followed store t (writtenAt edition statement n m t file 0 0)
   unfolding newWriting
   new-begun =
       rw (laid-head edition statement n t file (omega arith) size)
@@ -179,29 +178,29 @@ module _
   -- within an opening
   one-more :
       (q r : ℕ) → q < t → suc r < nodesAnew n m + (q + 2 - t)
-      → steps store (q * nodesAnew n m + r) (newFile statement n m t store file) ≡ writtenAt edition statement n m t file q r
-      → steps store (q * nodesAnew n m + suc r) (newFile statement n m t store file) ≡ writtenAt edition statement n m t file q (suc r)
+      → steps store (q * nodesAnew n m + r) (newFile edition statement n m t store file) ≡ writtenAt edition statement n m t file q r
+      → steps store (q * nodesAnew n m + suc r) (newFile edition statement n m t store file) ≡ writtenAt edition statement n m t file q (suc r)
   unfolding machines.steps writingMachine
   one-more q r few small e =
       rw (add-suc (q * nodesAnew n m) r, e) (opening-stepped q r few (omega arith) ∙ follows-none t q (r + 1) (omega arith) ∙ rw (add-one r))
 
   within-opening :
       (q r : ℕ) → q < t → r < nodesAnew n m + (q + 2 - t)
-      → steps store (q * nodesAnew n m) (newFile statement n m t store file) ≡ writtenAt edition statement n m t file q 0
-      → steps store (q * nodesAnew n m + r) (newFile statement n m t store file) ≡ writtenAt edition statement n m t file q r
+      → steps store (q * nodesAnew n m) (newFile edition statement n m t store file) ≡ writtenAt edition statement n m t file q 0
+      → steps store (q * nodesAnew n m + r) (newFile edition statement n m t store file) ≡ writtenAt edition statement n m t file q r
   within-opening q zero few small e = rw (add-zero (q * nodesAnew n m)) e
   within-opening q (suc r) few small e = one-more q r few small (within-opening q r few (omega arith) e)
 
   -- from opening to opening
   first-begun :
-      0 < nodesAnew n m → steps store (0 * nodesAnew n m) (newFile statement n m t store file) ≡ writtenAt edition statement n m t file 0 0
+      0 < nodesAnew n m → steps store (0 * nodesAnew n m) (newFile edition statement n m t store file) ≡ writtenAt edition statement n m t file 0 0
   unfolding machines.steps writingMachine
   first-begun some = rw (zero-mul (nodesAnew n m)) (new-begun ∙ follows-none t 0 0 (omega arith))
 
   next-begun :
       (q : ℕ) → 0 < nodesAnew n m → suc q < t
-      → steps store (q * nodesAnew n m) (newFile statement n m t store file) ≡ writtenAt edition statement n m t file q 0
-      → steps store (suc q * nodesAnew n m) (newFile statement n m t store file) ≡ writtenAt edition statement n m t file (suc q) 0
+      → steps store (q * nodesAnew n m) (newFile edition statement n m t store file) ≡ writtenAt edition statement n m t file q 0
+      → steps store (suc q * nodesAnew n m) (newFile edition statement n m t store file) ≡ writtenAt edition statement n m t file (suc q) 0
   unfolding machines.steps writingMachine
   next-begun q some few e =
       let last : ℕ = nodesAnew n m - 1 in
@@ -213,13 +212,13 @@ module _
 
   begins :
       (q : ℕ) → 0 < nodesAnew n m → q < t
-      → steps store (q * nodesAnew n m) (newFile statement n m t store file) ≡ writtenAt edition statement n m t file q 0
+      → steps store (q * nodesAnew n m) (newFile edition statement n m t store file) ≡ writtenAt edition statement n m t file q 0
   begins zero some few = first-begun some
   begins (suc q) some few = next-begun q some few (begins q some (omega arith))
 
   begins-any :
       (q : ℕ) → q < t → 0 < nodesAnew n m + (q + 2 - t)
-      → steps store (q * nodesAnew n m) (newFile statement n m t store file) ≡ writtenAt edition statement n m t file q 0
+      → steps store (q * nodesAnew n m) (newFile edition statement n m t store file) ≡ writtenAt edition statement n m t file q 0
   unfolding machines.steps writingMachine
   begins-any q few some =
       ⊎-elim
@@ -234,37 +233,37 @@ module _
   -- the state with q openings done and r labels of the next made: fewer than all of them, unless it is the last
   pub reached-at :
       (q r : ℕ) → q < t → r < nodesAnew n m + (q + 2 - t)
-      → steps store (q * nodesAnew n m + r) (newFile statement n m t store file) ≡ writtenAt edition statement n m t file q r
+      → steps store (q * nodesAnew n m + r) (newFile edition statement n m t store file) ≡ writtenAt edition statement n m t file q r
   reached-at q r few small = within-opening q r few small (begins-any q few (omega arith))
 
   -- the two cases: an opening with labels left, and the last one done
   pub file-under-way :
       (q r : ℕ) → q < t → r < nodesAnew n m
-      → steps store (q * nodesAnew n m + r) (newFile statement n m t store file) ≡ writtenAt edition statement n m t file q r
+      → steps store (q * nodesAnew n m + r) (newFile edition statement n m t store file) ≡ writtenAt edition statement n m t file q r
   file-under-way q r few small = reached-at q r few (omega arith)
 
   pub file-ended :
-      steps store (labelsAnew n m t) (newFile statement n m t store file) ≡ writtenAt edition statement n m t file (t - 1) (nodesAnew n m)
+      steps store (labelsAnew n m t) (newFile edition statement n m t store file) ≡ writtenAt edition statement n m t file (t - 1) (nodesAnew n m)
   file-ended = rw (last-size n m t (fits .count .0)) (reached-at (t - 1) (nodesAnew n m) (omega arith) (omega arith))
 
   -- the file at the end is the tree's, and behind it as it was
   pub file-written :
-      steps store (labelsAnew n m t) (newFile statement n m t store file) .file
+      steps store (labelsAnew n m t) (newFile edition statement n m t store file) .file
       ≡ treeFile edition statement n t ++ drop (fileSize n t) file
   file-written =
       let last : t - 1 + 1 ≡ t = omega arith in
       rw file-ended (opening-ended (t - 1) (omega arith) ∙ rw (last, laid-all edition statement n t, size-all n t))
 
   pub file-accepted :
-      fileCheck (take (fileSize n t) (steps store (labelsAnew n m t) (newFile statement n m t store file) .file)) statement n t ≡ 0
-  file-accepted = rw file-written (front-accepted statement n t (drop (fileSize n t) file) size (fits .depth) (fits .count))
+      fileCheck (take (fileSize n t) (steps store (labelsAnew n m t) (newFile edition statement n m t store file) .file)) statement n t ≡ 0
+  file-accepted = rw file-written (front-accepted edition statement n t (drop (fileSize n t) file) (fits .exists) size (fits .depth) (fits .count))
 
 -- with all levels in the store the start alone gives the file
 pub file-copied :
-    (statement : List ℕ) (n t : ℕ) (store file : List ℕ) → length statement ≡ 32 → HoldsLabels edition statement n n store
-    → Writable n n t (length store) (length file)
-    → newFile statement n n t store file .file ≡ treeFile edition statement n t ++ drop (fileSize n t) file
+    (edition : ℕ) (statement : List ℕ) (n t : ℕ) (store file : List ℕ) → length statement ≡ 32 → HoldsLabels edition statement n n store
+    → Writable edition n n t (length store) (length file)
+    → newFile edition statement n n t store file .file ≡ treeFile edition statement n t ++ drop (fileSize n t) file
 unfolding machines.steps writingMachine
-file-copied statement n t store file size holds fits =
+file-copied edition statement n t store file size holds fits =
     let none : labelsAnew n n t ≡ 0 = rw (none-anew n) (mul-zero t) in
-    rw none at (file-written statement n n t store file size holds fits)
+    rw none at (file-written edition statement n n t store file size holds fits)

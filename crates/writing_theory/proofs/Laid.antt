@@ -7,8 +7,7 @@ use native.Mathlib.Omega.{arith}
 use mathlib.Core.List.{List, _++_, append-assoc, append-nil}
 use lib.ListN.{length, take, drop, length-append, length-drop, take-append-drop}
 use lib.Seq.{take-at, length-take-le, drop-drop}
-use Rattle.base.specs.Limits as limits
-use Rattle.base.specs.Limits.{maxDepth, IsDepth, IsCount}
+use Rattle.base.specs.Limits.{maxDepth, IsEdition, IsDepth, IsCount}
 use Rattle.base.specs.Bytes.{joined, written}
 use Rattle.tree.specs.Nodes.{root}
 use Rattle.tree.specs.Openings.{openingSize}
@@ -83,10 +82,10 @@ module _ (edition : ℕ) (statement : List ℕ) (n t : ℕ) where
       let e : 0 + headSize n t ≡ laidSize n t 0 = omega (arith, zero-mul (openingSize n)) in
       rw (append-nil, head-size small size, e)
 
--- the tree's file of the edition that is checked is accepted, whatever lies behind it
+-- the tree's file of an edition that exists is accepted, whatever lies behind it
 pub front-accepted :
-    (statement : List ℕ) (n t : ℕ) (rest : List ℕ) → length statement ≡ 32 → IsDepth n → IsCount t
-    → fileCheck (take (fileSize n t) (treeFile limits.edition statement n t ++ rest)) statement n t ≡ 0
-front-accepted statement n t rest size depth count =
-    rw (take-at (treeFile limits.edition statement n t) rest (fileSize n t) (length-treeFile limits.edition statement n t (omega arith) size))
-    (tree-accepted statement n t size depth count)
+    (edition : ℕ) (statement : List ℕ) (n t : ℕ) (rest : List ℕ) → IsEdition edition → length statement ≡ 32 → IsDepth n → IsCount t
+    → fileCheck (take (fileSize n t) (treeFile edition statement n t ++ rest)) statement n t ≡ 0
+front-accepted edition statement n t rest exists size depth count =
+    rw (take-at (treeFile edition statement n t) rest (fileSize n t) (length-treeFile edition statement n t (omega arith) size))
+    (tree-accepted edition statement n t exists size depth count)

@@ -5,3 +5,4 @@ pub mod Rows
 pub mod Calls
 pub mod Finished
 pub mod Idle
+pub mod Editions

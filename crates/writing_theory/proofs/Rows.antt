@@ -1,11 +1,11 @@
--- The rows of writing a file: a start is done just when its five conditions hold, and a call just when it can be continued.
+-- The rows of writing a file: a start is done just when its six conditions hold, and a call just when it can be continued.
 use mathlib.Core.Path.{_≡_}
 use Prim.Native.Nat.{ℕ, _^_, _≤_, _<_, min}
 use mathlib.Core.Bool.{false}
 use mathlib.Core.List.{List}
 use lib.ListN.{length}
 use borrow.Author.Tests.{le-ltb, lt-leb}
-use Rattle.base.specs.Limits.{maxDepth, maxMemory, maxChallenges, IsDepth, IsCount}
+use Rattle.base.specs.Limits.{maxEdition, maxDepth, maxMemory, maxChallenges, IsEdition, IsDepth, IsCount}
 use Rattle.tree.specs.Store.{storeSize}
 use Rattle.opening.specs.Rows.{nodesAnew}
 use Rattle.file_head.specs.Layout.{fileSize}
@@ -19,11 +19,12 @@ use Rattle.writing.proofs.RowLaws.{both-done}
 use Rattle.writing.specs.Steps.{mayFollow, newWriting, started}
 use Rattle.writing_theory.specs.Filed.{Writable}
 
-module _ (n m t store file : ℕ) where
-  pub write-done : Writable n m t store file → writeRow n m t store file ≡ 0
+module _ (edition n m t store file : ℕ) where
+  pub write-done : Writable edition n m t store file → writeRow edition n m t store file ≡ 0
   unfolding writeRow
   write-done fits =
       rw (
+        within 1 maxEdition edition (fits .exists),
         within 1 maxDepth n (fits .depth),
         le-ltb (min n maxMemory) m (fits .memory),
         le-ltb store (storeSize m) (fits .storeFits),
@@ -31,34 +32,36 @@ module _ (n m t store file : ℕ) where
         le-ltb file (fileSize n t) (fits .fileFits),
       )
 
-  pub done-write : writeRow n m t store file ≡ 0 → Writable n m t store file
+  pub done-write : writeRow edition n m t store file ≡ 0 → Writable edition n m t store file
   done-write e =
-      let (begun, headed) = both-done n m t store file e in
-      let run : Startable n m store = start-bounds n m store begun in
-      let head : IsDepth n × IsCount t × (fileSize n t ≤ file) = done-head n t file headed in
+      let (begun, headed) = both-done edition n m t store file e in
+      let head : IsEdition edition × IsDepth n × IsCount t × (fileSize n t ≤ file) = done-head edition n t file headed in
+      let run : Startable edition n m store = start-bounds edition n m store (head .0) begun in
       record {
-        depth = head .0;
+        exists = head .0;
+        depth = head .1;
         memory = run .memory;
         storeFits = run .enough;
-        count = head .1;
-        fileFits = head .2;
+        count = head .2;
+        fileFits = head .3;
       }
 
 pub started-done :
-    (statement root : List ℕ) (n m t : ℕ) (store file : List ℕ) → Writable n m t (length store) (length file)
-    → started statement root n m t store file ≡ newWriting statement root n m t store file
+    (edition : ℕ) (statement root : List ℕ) (n m t : ℕ) (store file : List ℕ) → Writable edition n m t (length store) (length file)
+    → started edition statement root n m t store file ≡ newWriting edition statement root n m t store file
 unfolding started
-started-done statement root n m t store file fits = rw (write-done n m t (length store) (length file) fits)
+started-done edition statement root n m t store file fits = rw (write-done edition n m t (length store) (length file) fits)
 
 -- a continuation over lengths as at the start
 pub rewrite-done :
-    (w : Writing) (store file : ℕ) → Writable (w .opening .depth) (w .opening .memory) (w .count) store file
+    (w : Writing) (store file : ℕ) → Writable (w .opening .edition) (w .opening .depth) (w .opening .memory) (w .count) store file
     → w .opening .made ≤ nodesAnew (w .opening .depth) (w .opening .memory) → w .opening .leaf < 2 ^ (w .opening .depth)
     → (1 ≤ w .number) × (w .number ≤ w .count) → mayFollow w ≡ false
     → rewriteRow w store file ≡ 0
 unfolding rewriteRow
 rewrite-done w store file fits few inside number under =
     rw (
+      within 1 maxEdition (w .opening .edition) (fits .exists),
       within 1 maxDepth (w .opening .depth) (fits .depth),
       le-ltb (min (w .opening .depth) maxMemory) (w .opening .memory) (fits .memory),
       le-ltb (nodesAnew (w .opening .depth) (w .opening .memory)) (w .opening .made) few,

@@ -5,8 +5,7 @@ use lib.Dec.{eqb}
 use lib.ListN.{take, drop}
 use Rattle.base.specs.Choice.{pick}
 use Rattle.base.specs.Bytes.{joined}
-use Rattle.base.specs.Limits as limits
-use Rattle.base.specs.Limits.{IsDepth, IsMemory, IsCount}
+use Rattle.base.specs.Limits.{IsEdition, IsDepth, IsMemory, IsCount}
 use Rattle.machine.specs.Calls.{afterCalls}
 use Rattle.tree.specs.Store.{storeSize}
 use Rattle.tree.specs.Openings.{openingSize}
@@ -19,26 +18,27 @@ use Rattle.run_theory.specs.Openings.{openAfter}
 use Rattle.check_theory.specs.TreeFile.{rootOf, treeOpenings}
 use Rattle.writing.specs.Steps.{Written, newWriting, started, advanced}
 
--- the five conditions of a start, over the lengths of store and file
-pub record Writable (n m t store file : ℕ) : Type 0 where
+-- the six conditions of a start, over the lengths of store and file
+pub record Writable (edition n m t store file : ℕ) : Type 0 where
+  pub exists : IsEdition edition
   pub depth : IsDepth n
   pub memory : IsMemory n m
   pub storeFits : storeSize m ≤ store
   pub count : IsCount t
   pub fileFits : fileSize n t ≤ file
 
--- a new writing of the tree's file
-abbrev pub newFile : List ℕ → ℕ → ℕ → ℕ → List ℕ → List ℕ → Written
-newFile statement n m t store file = newWriting statement (rootOf limits.edition statement n) n m t store file
+-- a new writing of an edition's file of the tree
+abbrev pub newFile : ℕ → List ℕ → ℕ → ℕ → ℕ → List ℕ → List ℕ → Written
+newFile edition statement n m t store file = newWriting edition statement (rootOf edition statement n) n m t store file
 
 -- all labels that a file of t openings takes
 abbrev pub labelsAnew : ℕ → ℕ → ℕ → ℕ
 labelsAnew n m t = t * nodesAnew n m
 
--- the file after calls with these budgets, started from a run with its store
+-- the file after calls with these budgets, started from a run with its store, and of the run's edition
 abbrev pub fileFrom : Stamped → List ℕ → ℕ → ℕ → ℕ → List ℕ → List ℕ → List ℕ
 fileFrom s statement n m t file budgets =
-    afterCalls (advanced (s .store)) (started statement (take 32 (s .run .held)) n m t (s .store) file) budgets .file
+    afterCalls (advanced (s .store)) (started (s .run .edition) statement (take 32 (s .run .held)) n m t (s .store) file) budgets .file
 
 -- the head and the first q openings of the tree's file, and their size
 unfoldable pub laid : ℕ → List ℕ → ℕ → ℕ → ℕ → List ℕ

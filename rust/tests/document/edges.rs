@@ -48,8 +48,8 @@ fn sizes() {
     }
     for (n, t, size) in [(1, 1, 131), (40, 200, 262468)] {
         assert_eq!(file_size(n, t), Some(size));
-        assert_eq!(write_head(&[0; 32], &[0; 32], n, t, &mut vec![0; size]), Ok(()));
-        assert_eq!(write_head(&[0; 32], &[0; 32], n, t, &mut vec![0; size - 1]), Err(Refusal::ShortOutput));
+        assert_eq!(write_head(2, &[0; 32], &[0; 32], n, t, &mut vec![0; size]), Ok(()));
+        assert_eq!(write_head(2, &[0; 32], &[0; 32], n, t, &mut vec![0; size - 1]), Err(Refusal::ShortOutput));
     }
 }
 
@@ -62,10 +62,10 @@ fn numbers() {
     assert_eq!((groups(128), groups(200)), (vec![0x80, 0x01], vec![0xc8, 0x01]));
     let mut file = vec![0; file_size(1, 200).unwrap()];
     for (t, bytes) in [(128, [0x80, 0x01]), (200, [0xc8, 0x01])] {
-        write_head(&[0; 32], &[0; 32], 1, t, &mut file).unwrap();
+        write_head(2, &[0; 32], &[0; 32], 1, t, &mut file).unwrap();
         assert_eq!(file[2..4], bytes);
     }
-    assert_eq!(check_file(&[1, 1, 0xc8, 0], &[0; 32], 1, 200), rejected(Refusal::NotShortest));
+    assert_eq!(check_file(&[2, 1, 0xc8, 0], &[0; 32], 1, 200), rejected(Refusal::NotShortest));
     assert_eq!(check_file(&[], &[0; 32], 1, 200), rejected(Refusal::BytesEnd));
     file.push(0);
     assert_eq!(check_file(&file, &[0; 32], 1, 200), rejected(Refusal::BytesLeft));
@@ -89,16 +89,16 @@ fn no_leaves() {
         assert_eq!(plan(n, &[], &mut []), Ok(0));
         let mut list = [7; 3];
         assert_eq!((plan(n, &[], &mut list), list), (Ok(0), [7; 3]));
-        assert_eq!(mastdock::compare(&[0; 32], n, &[], &[]), Err(Refusal::Count));
+        assert_eq!(mastdock::compare(2, &[0; 32], n, &[], &[]), Err(Refusal::Count));
     }
     assert_eq!((plan(0, &[], &mut []), plan(41, &[], &mut [])), (Err(Refusal::Depth), Err(Refusal::Depth)));
     let mut many = [0; 201];
     many[200] = 2;
     assert_eq!(plan(1, &many, &mut [0; 3]), Err(Refusal::Count));
     assert_eq!(plan(1, &many[1..], &mut [0; 3]), Err(Refusal::LeafPosition));
-    assert_eq!(Writing::start(&[0; 32], &[0; 32], 1, 0, 0, &[0; 32], &mut [0; 131]), Err(Refusal::Count));
+    assert_eq!(Writing::start(2, &[0; 32], &[0; 32], 1, 0, 0, &[0; 32], &mut [0; 131]), Err(Refusal::Count));
     let (mut file, mut list) = ([0; 131], [7; 3]);
-    write_head(&[0; 32], &[0; 32], 1, 1, &mut file).unwrap();
+    write_head(2, &[0; 32], &[0; 32], 1, 1, &mut file).unwrap();
     assert_eq!(file[2], 1);
     file[2] = 0;
     assert_eq!(check_file(&file, &[0; 32], 1, 0), rejected(Refusal::Count));
@@ -112,18 +112,18 @@ fn limits() {
     let store = [7; 480];
     for (n, refused) in [(0, true), (41, true), (1, false), (40, false)] {
         assert_eq!(Run::start(&[0; 32], n, 0, &store) == Err(Refusal::Depth), refused);
-        assert_eq!(Opening::start(&[0; 32], n, 0, 0, &store, &mut [0; 1312]) == Err(Refusal::Depth), refused);
-        assert_eq!(challenge(&[0; 32], &[0; 32], n, 1) == Err(Refusal::Depth), refused);
+        assert_eq!(Opening::start(2, &[0; 32], n, 0, 0, &store, &mut [0; 1312]) == Err(Refusal::Depth), refused);
+        assert_eq!(challenge(2, &[0; 32], &[0; 32], n, 1) == Err(Refusal::Depth), refused);
         assert_eq!(plan(n, &[0], &mut [0; 41]) == Err(Refusal::Depth), refused);
     }
     let mut out = [0; 128];
-    let mut opening = Opening::start(&[0; 32], 3, 3, 5, &store, &mut out).unwrap();
+    let mut opening = Opening::start(2, &[0; 32], 3, 3, 5, &store, &mut out).unwrap();
     assert_eq!(out, [7; 128]);
     assert_eq!(opening.advance(1, &store, &mut out), Ok(Made::default()));
-    assert_eq!(Opening::start(&[0; 32], 3, 4, 5, &store, &mut out), Err(Refusal::MemoryLevel));
+    assert_eq!(Opening::start(2, &[0; 32], 3, 4, 5, &store, &mut out), Err(Refusal::MemoryLevel));
     for (t, refused) in [(0, true), (201, true), (1, false), (200, false)] {
-        assert_eq!(challenge(&[0; 32], &[0; 32], 1, t) == Err(Refusal::Count), refused);
-        assert_eq!(write_head(&[0; 32], &[0; 32], 1, t, &mut [0; 13000]) == Err(Refusal::Count), refused);
+        assert_eq!(challenge(2, &[0; 32], &[0; 32], 1, t) == Err(Refusal::Count), refused);
+        assert_eq!(write_head(2, &[0; 32], &[0; 32], 1, t, &mut [0; 13000]) == Err(Refusal::Count), refused);
         assert_eq!(plan(1, &vec![0; t as usize], &mut [0; 3]) == Err(Refusal::Count), t == 201);
     }
 }
@@ -150,24 +150,29 @@ fn starts(n: u64, m: u64, store: &[u8]) -> [Option<Refusal>; 3] {
     let (mut out, mut file) = ([0; 1312], [0; 1379]);
     [
         Run::start(&[0; 32], n, m, store).err(),
-        Opening::start(&[0; 32], n, m, 0, store, &mut out).err(),
-        Writing::start(&[0; 32], &[0; 32], n, m, 1, store, &mut file).err(),
+        Opening::start(2, &[0; 32], n, m, 0, store, &mut out).err(),
+        Writing::start(2, &[0; 32], &[0; 32], n, m, 1, store, &mut file).err(),
     ]
 }
 
 /// The same of continuing each of them by a label, as it would be after a start.
 fn continues(n: u64, m: u64, store: &[u8]) -> [Option<Refusal>; 3] {
     let (mut lent, mut out, mut file) = (store.to_vec(), [0; 1312], [0; 1379]);
-    let mut run = Run { statement: [0; 32], depth: n, memory: m, made: 0, held: [0; 1312] };
-    let mut opening = Opening { statement: [0; 32], depth: n, memory: m, leaf: 0, made: 0, held: [0; 1312] };
+    let mut run = Run { statement: [0; 32], edition: 2, depth: n, memory: m, made: 0, held: [0; 1312] };
+    let mut opening =
+        Opening { statement: [0; 32], edition: 2, depth: n, memory: m, leaf: 0, made: 0, held: [0; 1312] };
     let mut writing = Writing { root: [0; 32], count: 1, number: 1, opening: opening.clone() };
-    [run.advance(1, &mut lent).err(), opening.advance(1, store, &mut out).err(), writing.advance(1, store, &mut file).err()]
+    [
+        run.advance(1, &mut lent).err(),
+        opening.advance(1, store, &mut out).err(),
+        writing.advance(1, store, &mut file).err(),
+    ]
 }
 
 /// docs/DECISIONS.md, 'The file': only the last opening may be done; 'with m = n the start alone writes the whole file'.
 fn writings() {
     let (store, mut file) = ([7; 224], [0; 300]);
-    let anew = Writing::start(&[0; 32], &[0; 32], 2, 0, 2, &store, &mut file).unwrap();
+    let anew = Writing::start(2, &[0; 32], &[0; 32], 2, 0, 2, &store, &mut file).unwrap();
     assert_eq!((anew.number, anew.opening.made), (1, 0));
     for (number, answer) in [(1, Err(Refusal::State)), (2, Ok(Made::default()))] {
         let mut done = Writing { number, ..anew.clone() };
@@ -175,7 +180,7 @@ fn writings() {
         let (before, bytes) = (done.clone(), file);
         assert_eq!((done.advance(1, &store, &mut file), done, file), (answer, before, bytes));
     }
-    let mut whole = Writing::start(&[0; 32], &[0; 32], 2, 2, 2, &store, &mut file).unwrap();
+    let mut whole = Writing::start(2, &[0; 32], &[0; 32], 2, 2, 2, &store, &mut file).unwrap();
     assert_eq!((whole.number, whole.advance(1, &store, &mut file)), (2, Ok(Made::default())));
     assert_eq!(file[67..259], [7; 192]);
     whole.number = 1;
@@ -200,7 +205,8 @@ fn message_blocks() {
 fn label_blocks() {
     let nodes = [(Node::at(40, 0), 1), (Node::at(39, 0), 2), (ROOT, 2), (Node::at(40, (1 << 40) - 1), 21)];
     for (v, blocks) in nodes {
-        let mut run = Run { statement: [0; 32], depth: 40, memory: 0, made: place_in_order(40, v), held: [0; 1312] };
+        let mut run =
+            Run { statement: [0; 32], edition: 2, depth: 40, memory: 0, made: place_in_order(40, v), held: [0; 1312] };
         assert_eq!(run.advance(1, &mut [0; 32]), Ok(Made { labels: 1, blocks }));
         assert_eq!(cost(40, v), blocks);
     }
@@ -216,36 +222,39 @@ fn label_blocks() {
 fn no_blocks() {
     let (mut store, mut out) = ([0; 96], [0; 128]);
     for (made, budget) in [(0, 0), (7, 0), (15, 0), (15, 1), (15, u64::MAX)] {
-        let mut run = Run { statement: [0; 32], depth: 3, memory: 1, made, held: [0; 1312] };
+        let mut run = Run { statement: [0; 32], edition: 2, depth: 3, memory: 1, made, held: [0; 1312] };
         assert_eq!(run.advance(budget, &mut store), Ok(Made::default()));
     }
     for (made, budget) in [(0, 0), (3, 0), (6, 0), (6, 1), (6, u64::MAX)] {
-        let mut opening = Opening { statement: [0; 32], depth: 3, memory: 1, leaf: 7, made, held: [0; 1312] };
+        let mut opening =
+            Opening { statement: [0; 32], edition: 2, depth: 3, memory: 1, leaf: 7, made, held: [0; 1312] };
         assert_eq!(opening.advance(budget, &store, &mut out), Ok(Made::default()));
     }
 }
 
-/// Openings of leaves 0, 1 and 0 at depth 2 by hand.
+/// Openings of leaves 0, 1 and 0 at depth 2 by hand, in both editions.
 fn clashes() {
     let statement = [9; 32];
     let [a, b, c, d] = [[1; 32], [2; 32], [3; 32], [4; 32]];
     let first = [a, b, c].concat();
     let none = [&first[..], &[b, a, c].concat(), &first].concat();
-    assert_eq!(compare(&statement, 2, &[0, 1, 0], &none), Ok(None));
     // The third gives another sibling of the leaf, so its computed label on level 1 differs as well: the root comes first.
     let third = [a, d, c].concat();
     let clash = [&first[..], &[b, a, c].concat(), &third].concat();
-    let expected = Clash {
-        i: 1,
-        j: 3,
-        level: 0,
-        first: inputs(&statement, 2, 0, &first)[2].clone(),
-        second: inputs(&statement, 2, 0, &third)[2].clone(),
-    };
-    assert_eq!(expected.first[73..], c);
-    assert_eq!(expected.first[41..73], sha256::digest(&input(&statement, Node::at(1, 0), &[a, b])));
-    assert_eq!(compare(&statement, 2, &[0, 1, 0], &clash), Ok(Some(expected)));
-    assert_eq!(mastdock::compare(&statement, 2, &[0, 1, 0], &none), Ok(None));
-    let found = mastdock::compare(&statement, 2, &[0, 1, 0], &clash).unwrap().unwrap();
-    assert_eq!((found.i, found.j, found.level, &found.first[73..]), (1, 3, 0, &c[..]));
+    for (edition, pair, [left, right]) in [(1, [a, b], [41, 73]), (2, [b, a], [73, 41])] {
+        assert_eq!(compare(edition, &statement, 2, &[0, 1, 0], &none), Ok(None));
+        let expected = Clash {
+            i: 1,
+            j: 3,
+            level: 0,
+            first: inputs(edition, &statement, 2, 0, &first)[2].clone(),
+            second: inputs(edition, &statement, 2, 0, &third)[2].clone(),
+        };
+        assert_eq!(expected.first[right..][..32], c);
+        assert_eq!(expected.first[left..][..32], sha256::digest(&input(&statement, Node::at(1, 0), &pair)));
+        assert_eq!(compare(edition, &statement, 2, &[0, 1, 0], &clash), Ok(Some(expected)));
+        assert_eq!(mastdock::compare(edition, &statement, 2, &[0, 1, 0], &none), Ok(None));
+        let found = mastdock::compare(edition, &statement, 2, &[0, 1, 0], &clash).unwrap().unwrap();
+        assert_eq!((found.i, found.j, found.level, &found.first[right..][..32]), (1, 3, 0, &c[..]));
+    }
 }

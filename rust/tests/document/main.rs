@@ -3,6 +3,7 @@
 //! other half's is taken from the clock, or from the variable MASTDOCK_SEED, and printed.
 mod cases;
 mod edges;
+mod editions;
 mod lent;
 mod model;
 mod pauses;
@@ -73,6 +74,7 @@ fn main() {
     let vectors = vectors::run();
     println!("{vectors:>8} shared vectors");
     edges::run();
+    editions::run();
     pauses::run();
     let calls = run_all(&seeds);
     for (part, count) in PARTS.iter().zip(&calls) {

@@ -69,6 +69,12 @@ impl Random {
         self.pick(&edges)
     }
 
+    /// An edition: 1 or 2, or one that does not exist now and then.
+    pub fn edition(&mut self) -> u64 {
+        let wanted = self.between(1, 2);
+        self.or_edge(wanted, 2)
+    }
+
     /// A length near one that is wanted.
     pub fn near(&mut self, wanted: usize) -> usize {
         match self.below(12) {

@@ -1,8 +1,8 @@
 //! The shared vectors, each through the library and through the model.
-use crate::cases::proof_file;
+use crate::cases::{new_run, proof_file};
 use crate::model::chain::{draw, leaves_opened, plan, Drawn};
 use crate::model::file::{check, code};
-use crate::model::tree::{held, Labels, ROOT};
+use crate::model::tree::{held, size, Labels, ROOT};
 use crate::model::{opening, record, run, sha256, writing};
 use mastdock::{check_file, digest, digest_blocks, file_size, labels, labels_anew, opening_size, store_size};
 use mastdock::{Drawing, Hash, Made, Opening, Rejected, Run, Writing, MAX_CHAIN, MAX_RECORD};
@@ -30,8 +30,28 @@ fn number(word: &str) -> u64 {
 
 /// Runs all of them. Gives their number.
 pub fn run() -> usize {
-    let before = digests() + blocks() + roots() + records() + deep_records();
-    before + files() + old_files() + checks() + chains() + plans()
+    let labelled = digests() + blocks() + roots() + records() + deep_records();
+    labelled + files() + old_files() + checks() + chains() + plans()
+}
+
+/// Files of vectors of both editions: of edition 1 those that stood before W-206.
+const ROOTS: [(u64, &str); 2] =
+    [(1, include_str!("../vectors/roots.txt")), (2, include_str!("../vectors/roots-2.txt"))];
+const RECORDS: [(u64, &str); 2] =
+    [(1, include_str!("../vectors/records.txt")), (2, include_str!("../vectors/records-2.txt"))];
+const FILES: [(u64, &str); 2] =
+    [(1, include_str!("../vectors/files.txt")), (2, include_str!("../vectors/files-2.txt"))];
+/// Those of checks-number.txt are the three of checks.txt whose answer W-206 changed, and others with another edition's number: the answers
+/// are those of tests/model.
+const CHECKS: [&str; 3] = [
+    include_str!("../vectors/checks.txt"),
+    include_str!("../vectors/checks-2.txt"),
+    include_str!("../vectors/checks-number.txt"),
+];
+
+/// The lines of both editions, each with its edition.
+fn of_editions(files: [(u64, &'static str); 2]) -> impl Iterator<Item = (u64, Vec<&'static str>)> {
+    files.into_iter().flat_map(|(edition, text)| lines(text).map(move |words| (edition, words)))
 }
 
 /// `length L, SHA-256 of the L bytes whose i-th, from 0, is (7 i + L) mod 256`
@@ -58,11 +78,12 @@ fn message_blocks(len: u64, blocks: u64) {
     }
 }
 
-/// A call on a run that has made so many labels, at the smallest and the greatest memory level.
+/// A call on a run that has made so many labels, at the smallest and the greatest memory level, in both editions: the order changes no
+/// length.
 fn run_blocks(n: u64, made: u64, budget: u64, expected: Made) {
-    for m in [0, n] {
+    for (edition, m) in [(1, 0), (1, n), (2, 0), (2, n)] {
         let mut store = vec![0; store_size(m).unwrap()];
-        let mut run = Run::start(&[9; 32], n, m, &store).unwrap();
+        let mut run = new_run(edition, &[9; 32], n, m, &store);
         assert_eq!(run.advance(made, &mut store).map(|made| made.labels), Ok(made));
         let (mut model, mut model_store) = (run.clone(), store.clone());
         assert_eq!(run.advance(budget, &mut store), Ok(expected));
@@ -72,12 +93,14 @@ fn run_blocks(n: u64, made: u64, budget: u64, expected: Made) {
 
 /// A call on an opening that has made so many labels. What a label costs does not depend on the store.
 fn opening_blocks(n: u64, m: u64, leaf: u64, made: u64, budget: u64, expected: Made) {
-    let (store, mut out) = (vec![0; store_size(m).unwrap()], vec![0; opening_size(n).unwrap()]);
-    let mut opening = Opening::start(&[9; 32], n, m, leaf, &store, &mut out).unwrap();
-    assert_eq!(opening.advance(made, &store, &mut out).map(|made| made.labels), Ok(made));
-    let mut model = opening.clone();
-    assert_eq!(opening.advance(budget, &store, &mut out), Ok(expected));
-    assert_eq!(opening::advance(&mut model, budget, &store, &mut out), Ok(expected));
+    for edition in [1, 2] {
+        let (store, mut out) = (vec![0; store_size(m).unwrap()], vec![0; opening_size(n).unwrap()]);
+        let mut opening = Opening::start(edition, &[9; 32], n, m, leaf, &store, &mut out).unwrap();
+        assert_eq!(opening.advance(made, &store, &mut out).map(|made| made.labels), Ok(made));
+        let mut model = opening.clone();
+        assert_eq!(opening.advance(budget, &store, &mut out), Ok(expected));
+        assert_eq!(opening::advance(&mut model, budget, &store, &mut out), Ok(expected));
+    }
 }
 
 /// W-207: `m, length of a message, blocks`; `r, a run's depth, labels made before the call, budget, labels made in it, blocks of these`;
@@ -110,9 +133,9 @@ fn by_budgets(mut left: u64, mut call: impl FnMut(u64) -> u64) {
 }
 
 /// A finished run and its store.
-fn stamp(statement: &[u8; 32], n: u64, m: u64) -> (Run, Vec<u8>) {
+fn stamp(edition: u64, statement: &[u8; 32], n: u64, m: u64) -> (Run, Vec<u8>) {
     let mut store = vec![0; store_size(m).unwrap()];
-    let mut run = Run::start(statement, n, m, &store).unwrap();
+    let mut run = new_run(edition, statement, n, m, &store);
     by_budgets(labels(n).unwrap(), |budget| run.advance(budget, &mut store).unwrap().labels);
     (run, store)
 }
@@ -120,13 +143,13 @@ fn stamp(statement: &[u8; 32], n: u64, m: u64) -> (Run, Vec<u8>) {
 /// `report in hex (- if empty), depth, root, memory level, SHA-256 of the whole store at that level`
 fn roots() -> usize {
     let mut count = 0;
-    for words in lines(include_str!("../vectors/roots.txt")) {
+    for (edition, words) in of_editions(ROOTS) {
         let (n, m, root) = (number(words[1]), number(words[3]), label(words[2]));
         let statement = digest(&hex(words[0])).unwrap();
-        let (run, store) = stamp(&statement, n, m);
+        let (run, store) = stamp(edition, &statement, n, m);
         assert_eq!((run.root(), digest(&store)), (Some(root), Ok(label(words[4]))));
         let mut model_store = vec![0; run::store_size(m)];
-        let mut model = run::start(&statement, n, m, &model_store).unwrap();
+        let mut model = Run { edition, ..run::start(&statement, n, m, &model_store).unwrap() };
         assert_eq!(run::advance(&mut model, u64::MAX, &mut model_store).map(|made| made.labels), Ok(run.made));
         assert!(model == run && model_store == store);
         count += 1;
@@ -146,7 +169,7 @@ fn recorded(run: &Run) -> Vec<u8> {
 /// that are no record, `-, 0, 0, 0, the refusal, the bytes (- if none)`
 fn records() -> usize {
     let mut count = 0;
-    for words in lines(include_str!("../vectors/records.txt")) {
+    for (edition, words) in of_editions(RECORDS) {
         let (n, m, made, refusal, bytes) =
             (number(words[1]), number(words[2]), number(words[3]), number(words[4]), hex(words[5]));
         count += 1;
@@ -156,7 +179,7 @@ fn records() -> usize {
             continue;
         }
         let mut store = vec![0; store_size(m).unwrap()];
-        let mut run = Run::start(&label(words[0]), n, m, &store).unwrap();
+        let mut run = new_run(edition, &label(words[0]), n, m, &store);
         assert_eq!(run.advance(made, &mut store).map(|made| made.labels), Ok(made));
         assert_eq!((recorded(&run), Run::resume(&bytes)), (bytes.clone(), Ok(run.clone())));
         assert_eq!((record::record_of(&run), record::read(&bytes)), (bytes, Ok(run)));
@@ -171,6 +194,7 @@ fn deep_records() -> usize {
         let (n, m, made, bytes) = (number(words[1]), number(words[2]), number(words[3]), hex(words[6]));
         let run = Run::resume(&bytes).unwrap();
         assert_eq!((run.statement, run.depth, run.memory, run.made), (label(words[0]), n, m, made));
+        assert_eq!(run.edition, 1);
         assert_eq!(digest(&run.held), Ok(label(words[5])));
         assert_eq!(held(n, ROOT, made).len() as u64, number(words[4]));
         assert_eq!((recorded(&run), record::record_of(&run)), (bytes.clone(), bytes.clone()));
@@ -181,16 +205,16 @@ fn deep_records() -> usize {
 }
 
 /// The proof file of a report, by the library.
-fn seal(report: &[u8], n: u64, m: u64, t: u64) -> Vec<u8> {
-    let statement = digest(report).unwrap();
-    let (run, store) = stamp(&statement, n, m);
-    file_over(&statement, &run.root().unwrap(), n, m, t, &store)
+fn seal(edition: u64, report: &[u8], n: u64, m: u64, t: u64) -> Vec<u8> {
+    let (run, store) = stamp(edition, &digest(report).unwrap(), n, m);
+    file_over(&run, m, t, &store)
 }
 
-/// The file that the library writes over a finished run's store.
-fn file_over(statement: &[u8; 32], root: &[u8; 32], n: u64, m: u64, t: u64, store: &[u8]) -> Vec<u8> {
+/// The file that the library writes over a finished run's store, at this memory level or a lower one.
+fn file_over(run: &Run, m: u64, t: u64, store: &[u8]) -> Vec<u8> {
+    let (edition, n, root) = (run.edition, run.depth, run.root().unwrap());
     let mut file = vec![0; file_size(n, t).unwrap()];
-    let mut writing = Writing::start(statement, root, n, m, t, store, &mut file).unwrap();
+    let mut writing = Writing::start(edition, &run.statement, &root, n, m, t, store, &mut file).unwrap();
     let anew = t * labels_anew(n, m).unwrap();
     by_budgets(anew, |budget| writing.advance(budget, store, &mut file).unwrap().labels);
     file
@@ -200,7 +224,8 @@ fn file_over(statement: &[u8; 32], root: &[u8; 32], n: u64, m: u64, t: u64, stor
 fn seal_by_model(labels: &Labels, m: u64, t: u64) -> Vec<u8> {
     let store = labels.store(m);
     let mut file = vec![0; file_size(labels.n, t).unwrap()];
-    let mut writing = writing::start(&labels.statement, &labels.root(), labels.n, m, t, &store, &mut file).unwrap();
+    let (edition, statement, root) = (labels.edition, labels.statement, labels.root());
+    let mut writing = writing::start(edition, &statement, &root, labels.n, m, t, &store, &mut file).unwrap();
     while writing::advance(&mut writing, 37, &store, &mut file).unwrap().labels != 0 {}
     file
 }
@@ -208,12 +233,12 @@ fn seal_by_model(labels: &Labels, m: u64, t: u64) -> Vec<u8> {
 /// `report in hex, depth, challenges, the whole proof file`
 fn files() -> usize {
     let mut count = 0;
-    for words in lines(include_str!("../vectors/files.txt")) {
+    for (edition, words) in of_editions(FILES) {
         let (report, n, t, expected) = (hex(words[0]), number(words[1]), number(words[2]), hex(words[3]));
-        let labels = Labels::of(sha256::digest(&report), n);
+        let labels = Labels::of(edition, sha256::digest(&report), n);
         assert_eq!(proof_file(&labels, t), expected);
         for m in 0..=n {
-            assert_eq!(seal(&report, n, m, t), expected);
+            assert_eq!(seal(edition, &report, n, m, t), expected);
             assert_eq!(seal_by_model(&labels, m, t), expected);
         }
         count += 1;
@@ -225,15 +250,20 @@ fn files() -> usize {
 /// model's, over roots.txt's root of that depth, and is accepted; over such a unit's store level 14 writes the same file.
 fn old_files() -> usize {
     let (n, t, old) = (16, 2, include_bytes!("../../../crates/program_scenarios/data/level16.proof"));
-    let labels = Labels::of(sha256::digest(&[]), n);
-    let root = lines(include_str!("../vectors/roots.txt")).find(|words| words[..2] == ["-", "16"]).map(|words| label(words[2]));
+    let labels = Labels::of(1, sha256::digest(&[]), n);
+    let root = lines(include_str!("../vectors/roots.txt"))
+        .find(|words| words[..2] == ["-", "16"])
+        .map(|words| label(words[2]));
     assert_eq!(root, Some(labels.root()));
     assert_eq!(proof_file(&labels, t), old);
     assert_eq!(check_file(old, &labels.statement, n, t), Ok(()));
     assert_eq!(check(old, &labels.statement, n, t), Ok(()));
     let store = labels.store(16);
+    let mut held = [0; 1312];
+    held[..32].copy_from_slice(&labels.root());
+    let run = Run { statement: labels.statement, edition: 1, depth: n, memory: 16, made: size(n), held };
     for lower in [14, 9, 0] {
-        assert!(file_over(&labels.statement, &labels.root(), n, lower, t, &store) == old);
+        assert!(file_over(&run, lower, t, &store) == old);
     }
     1
 }
@@ -241,7 +271,7 @@ fn old_files() -> usize {
 /// `proof file (- if empty), statement, depth and count wanted, answer as one number`
 fn checks() -> usize {
     let mut count = 0;
-    for words in lines(include_str!("../vectors/checks.txt")) {
+    for words in CHECKS.into_iter().flat_map(lines) {
         let (file, statement, n, t) = (hex(words[0]), label(words[1]), number(words[2]), number(words[3]));
         assert_eq!(check_file(&file, &statement, n, t).map_or_else(Rejected::code, |()| 0), number(words[4]));
         assert_eq!(code(check(&file, &statement, n, t)), number(words[4]));
@@ -251,12 +281,12 @@ fn checks() -> usize {
 }
 
 /// `report in hex, depth, challenges, length of the file, SHA-256 of the file, length of its chain, SHA-256 of the chain's nodes,
-/// each in 8 bytes, big-endian`
+/// each in 8 bytes, big-endian`, all of edition 1
 fn chains() -> usize {
     let mut count = 0;
     for words in lines(include_str!("../vectors/chains.txt")) {
         let (report, n, t) = (hex(words[0]), number(words[1]), number(words[2]));
-        let file = seal(&report, n, 8, t);
+        let file = seal(1, &report, n, 8, t);
         assert_eq!((file.len() as u64, digest(&file)), (number(words[3]), Ok(label(words[4]))));
         let mut planned = [0; MAX_CHAIN];
         let length = mastdock::plan(n, &leaves_opened(&file), &mut planned).unwrap();

@@ -4,7 +4,6 @@ use mathlib.Core.Path.{_≡_, ap, _∙_}
 use Prim.Native.Nat.{_+_, _-_, _*_, _^_, _<_, _≤_}
 use native.Mathlib.Omega.{arith}
 use borrow.Author.Needs.{needs}
-use Rattle.base.specs.Limits.{edition}
 use Rattle.block_theory.specs.Sums.{openingBlocks}
 use Rattle.block_counts.specs.Seal.{sealBlocks}
 use Rattle.block_counts.proofs.Laws.{no-opening, opening-more, challenge-possible}
@@ -12,23 +11,23 @@ use Rattle.block_counts.proofs.seal_blocks.Statement.{statement}
 use Rattle.block_counts.proofs.seal_blocks.Tie as tie
 
 abbrev Inv-loop : tie.InvT-loop
-Inv-loop statement root depth memory count blocks₀ i₀ blocks i =
+Inv-loop edition statement root depth memory count blocks₀ i₀ blocks i =
     (i ≤ count) × (blocks ≡ sealBlocks edition statement root depth memory i) × (blocks < (i + 1) * 2 ^ 46)
 
 abbrev μ-loop : tie.MeasureT-loop
-μ-loop statement root depth memory count blocks₀ i₀ blocks i = count - i
+μ-loop edition statement root depth memory count blocks₀ i₀ blocks i = count - i
 
 loop-holds : tie.Need-loop-holds Inv-loop μ-loop
 loop-holds c =
     let a = c .before .args in
     let run = c .tree-blocks .ensures in
-    (omega arith, run .0 ∙ no-opening edition (a .statement) (a .root) (a .depth) (a .memory), run .1)
+    (omega arith, run .0 ∙ no-opening (a .edition) (a .statement) (a .root) (a .depth) (a .memory), run .1)
 
 opening-blocks-requires : tie.Need-opening-blocks-requires Inv-loop μ-loop
 opening-blocks-requires c κs =
     let s = c .before .before .before .before in
     let a = s .args in
-    challenge-possible edition (a .statement) (a .root) (a .depth) (a .memory) _ _ (s .pre .0) (s .pre .1) (c .challenge-leaf .ensures)
+    challenge-possible (a .edition) (a .statement) (a .root) (a .depth) (a .memory) _ _ (s .pre .0) (s .pre .1) (c .challenge-leaf .ensures)
 
 add-blocks : tie.Need-add-blocks Inv-loop μ-loop
 add-blocks c =
@@ -40,7 +39,7 @@ loop-again c =
     let l = c .before .before .before .loop in
     let a = c .before .before .before .before .before .args in (
       omega arith,
-      opening-more edition (a .statement) (a .root) (a .depth) (a .memory) (l .i) (l .blocks) _ (l .inv .1)
+      opening-more (a .edition) (a .statement) (a .root) (a .depth) (a .memory) (l .i) (l .blocks) _ (l .inv .1)
           (c .opening-blocks .ensures .0 ∙ ap (openingBlocks (a .depth) (a .memory)) (c .before .challenge-leaf .ensures)),
       omega (arith, l .inv .2, c .opening-blocks .ensures .1),
     )

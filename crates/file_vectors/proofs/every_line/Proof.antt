@@ -5,10 +5,10 @@ use Rattle.file_vectors.proofs.every_line.Statement.{statement}
 use Rattle.file_vectors.proofs.every_line.Tie as tie
 
 abbrev Inv-loop : tie.InvT-loop
-Inv-loop task text at₀ at = at ≤ length text + 1
+Inv-loop task edition text at₀ at = at ≤ length text + 1
 
 abbrev μ-loop : tie.MeasureT-loop
-μ-loop task text at₀ at = length text + 1 - at
+μ-loop task edition text at₀ at = length text + 1 - at
 
 pub every-line-spec : {M : Type 1} → statement M
 every-line-spec =

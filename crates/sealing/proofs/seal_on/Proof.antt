@@ -8,12 +8,12 @@ use Rattle.sealing.proofs.EndLaws.{end-made, end-writable, sealed}
 use Rattle.sealing.proofs.seal_on.Statement.{statement}
 use Rattle.sealing.proofs.seal_on.Tie as tie
 
--- the sizes of two arrays
+-- the sizes of two arrays; the run that is handed back is named, since the search does not go so far
 statement-size : (a : tie.Start) → length (a .args .run .statement) ≡ 32
 statement-size a = search needs
 
 held-size : (c : tie.After-label-on) → length (c .label-on .result .run .held) ≡ heldSize
-held-size c = search needs
+held-size c = search (needs, c .label-on .ok .1 .1 .0 .1)
 
 slice-aggregate-label-at : tie.Need-slice-aggregate-label-at
 slice-aggregate-label-at c = sym (held-size (c .before .before .before .before .before .before))
@@ -40,7 +40,7 @@ open-rest-requires c κs =
     let label-on = labelled head in
     let a = start label-on in (
       end-writable (a .args .run) (a .args .store .now) (a .pre .0) _ _ (label-on .label-on .ensures .0) (label-on .label-on .ensures .1)
-          (a .args .count) _ (a .pre .1) (omega (arith, a .pre .3, head .write-head .kept .1 .1 .1 .1 .0)),
+          (a .args .count) _ (a .pre .1) (omega (arith, a .pre .3, head .write-head .kept .1 .1 .1 .1 .1 .0)),
       omega (arith, a .pre .2),
       end-made (a .args .run) (a .args .store .now) (a .pre .0) _ _ (label-on .label-on .ensures .0) (label-on .label-on .ensures .1),
     )
@@ -53,7 +53,7 @@ same-length-2 : tie.Need-same-length-2
 same-length-2 c =
     let open-rest = c .before .before in
     let head = open-rest .before .before .before .before .before .before .before .before in
-    open-rest .open-rest .kept .1 .1 .1 .1 .1 .0 ∙ head .write-head .kept .1 .1 .1 .1 .0
+    open-rest .open-rest .kept .1 .1 .1 .1 .1 .0 ∙ head .write-head .kept .1 .1 .1 .1 .1 .0
 
 returns : tie.Need-returns
 returns c =

@@ -4,6 +4,7 @@ use crate::lent::Lent;
 use crate::model::chain::{chain, compare, draw, leaves_opened, plan, Clash, Drawn};
 use crate::model::opening::opening_size;
 use crate::model::tree::Labels;
+use crate::model::Label;
 use crate::random::Random;
 use mastdock::{ffi, Drawing, Refusal, Rejected};
 
@@ -63,19 +64,13 @@ fn bytes_of<A>(answer: &A) -> &[u8] {
     unsafe { std::slice::from_raw_parts((answer as *const A).cast(), std::mem::size_of::<A>()) }
 }
 
-/// Openings of a tree, or of any bytes, with few leaves so that many ways are shared; some are changed.
-pub fn comparisons(random: &mut Random) -> u64 {
-    let any = random.once_in(4);
-    let depth = random.between(1, if any { 40 } else { 5 });
-    let mut leaves = leaves(random, depth);
-    leaves.truncate(random.pick(&[1, 4, 30, 200, 250]));
-    let mut statement = random.array();
-    let inside: Vec<u64> = leaves.iter().map(|leaf| leaf % (1 << depth)).collect();
+/// Openings of a tree, or of any bytes; some are changed.
+fn openings(random: &mut Random, any: bool, edition: u64, statement: Label, depth: u64, leaves: &[u64]) -> Vec<u8> {
     let mut bytes: Vec<u8> = if any {
         random.bytes(leaves.len() * opening_size(depth))
     } else {
-        let labels = Labels::of(statement, depth);
-        inside.iter().flat_map(|leaf| labels.opening(*leaf)).collect()
+        let labels = Labels::of(edition, statement, depth);
+        leaves.iter().flat_map(|leaf| labels.opening(leaf % (1 << depth))).collect()
     };
     if random.once_in(2) {
         random.damage(&mut bytes);
@@ -84,22 +79,41 @@ pub fn comparisons(random: &mut Random) -> u64 {
         let len = random.near(bytes.len());
         bytes.resize(len, 0);
     }
+    bytes
+}
+
+/// With few leaves, so that many ways are shared.
+pub fn comparisons(random: &mut Random) -> u64 {
+    let any = random.once_in(4);
+    let depth = random.between(1, if any { 40 } else { 5 });
+    let mut leaves = leaves(random, depth);
+    leaves.truncate(random.pick(&[1, 4, 30, 200, 250]));
+    let (mut statement, right) = (random.array(), random.between(1, 2));
+    let bytes = openings(random, any, right, statement, depth, &leaves);
     if random.once_in(10) {
         random.damage(&mut statement);
     }
+    // Openings need not be right: of the other edition now and then.
+    let edition = if random.once_in(4) { random.edition() } else { right };
     let n = random.or_edge(depth, 40);
     let (mut lent_leaves, mut lent_bytes) = (Lent::words(random, &leaves), Lent::bytes(random, &bytes));
-    let answer = mastdock::compare(&statement, n, lent_leaves.get(), lent_bytes.get()).map(|found| found.map(clash));
-    let expected = compare(&statement, n, &leaves, &bytes);
+    let answer = mastdock::compare(edition, &statement, n, lent_leaves.get(), lent_bytes.get());
+    let answer = answer.map(|found| found.map(clash));
+    let expected = compare(edition, &statement, n, &leaves, &bytes);
     if let Ok(found) = &expected {
         see("compare: clash", found.is_some().into());
+    }
+    if let Ok(Some(_)) = expected {
+        see("edition clashing", edition);
     }
     assert_eq!(numbered("compare", answer), expected);
     lent_leaves.is_now(&leaves);
     lent_bytes.is_now(&bytes);
     // SAFETY: pointers and lengths are those of a reference and slices.
-    let compared =
-        unsafe { ffi::mastdock_compare(&statement, n, leaves.as_ptr(), leaves.len(), bytes.as_ptr(), bytes.len()) };
+    let compared = unsafe {
+        let (leaves_len, bytes_len) = (leaves.len(), bytes.len());
+        ffi::mastdock_compare(edition, &statement, n, leaves.as_ptr(), leaves_len, bytes.as_ptr(), bytes_len)
+    };
     let (refusal, found) = expected.map_or_else(|refusal| (refusal, None), |found| (0, found));
     assert_eq!(bytes_of(&compared), bytes_of(&ffi::Compared { refusal, clash: all_of_clash(found) }));
     2
@@ -126,7 +140,7 @@ fn all_numbers(drawn: &Drawn) -> ffi::Drawn {
 }
 
 pub fn drawings(random: &mut Random) -> u64 {
-    let labels = Labels::of(random.array(), random.between(1, 6));
+    let labels = Labels::of(random.between(1, 2), random.array(), random.between(1, 6));
     let most = random.pick(&[1, 3, 10, 40, 200]);
     let t = random.between(1, most);
     let whole = proof_file(&labels, t);
@@ -148,6 +162,9 @@ pub fn drawings(random: &mut Random) -> u64 {
         };
         assert_eq!(bytes_of(&drawn), bytes_of(&all_numbers(&expected)));
         see("draw", drawn.code / 256);
+        if let Drawn::Chain(_) = expected {
+            see("edition drawn", bytes[0].into());
+        }
     }
     2 * CHANGES
 }

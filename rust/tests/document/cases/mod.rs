@@ -11,6 +11,7 @@ use crate::random::Random;
 pub use file::proof_file;
 use mastdock::{Made, Refusal};
 pub use record::{pause, resume_both};
+pub use run::new_run;
 use std::collections::BTreeMap;
 use std::sync::Mutex;
 
@@ -49,8 +50,9 @@ pub const PARTS: &[Part] = &[
     Part { name: "draw", cases: 500, run: chain::drawings },
 ];
 
-/// The numbers of each place of document 01's table and of the change requests, 0 for none. All of them are to be seen; only so many bytes that the digest in
-/// one call refuses them cannot be lent.
+/// The numbers of each place of document 01's table and of the change requests, 0 for none. All of them are to be seen; only so many
+/// bytes that the digest in one call refuses them cannot be lent. Of a file accepted, of one drawn and of openings that disagree the
+/// edition: each is to be seen in both (W-206).
 const ROWS: &[(&str, &[u64])] = &[
     ("hash update", &[0, 5]),
     ("hash finish", &[0, 5]),
@@ -59,19 +61,22 @@ const ROWS: &[(&str, &[u64])] = &[
     ("run advance", &[0, 4, 3]),
     ("run record", &[0, 4, 7]),
     ("run resume", &[0, 10, 11, 12, 4, 18]),
-    ("opening start", &[0, 1, 2, 3, 6, 7]),
+    ("opening start", &[0, 12, 1, 2, 3, 6, 7]),
     ("opening advance", &[0, 4, 3, 7]),
-    ("challenge", &[0, 1, 8]),
-    ("write head", &[0, 1, 8, 7]),
+    ("challenge", &[0, 12, 1, 8]),
+    ("write head", &[0, 12, 1, 8, 7]),
     ("read head", &[0, 10, 11, 12, 1, 8]),
-    ("check opening", &[0, 1, 6, 10, 13, 14, 15]),
+    ("check opening", &[0, 12, 1, 6, 10, 13, 14, 15]),
     ("check file", &[0, 10, 11, 12, 1, 8, 13, 9, 14, 15]),
-    ("writing start", &[0, 1, 2, 3, 8, 7]),
+    ("writing start", &[0, 12, 1, 2, 3, 8, 7]),
     ("writing advance", &[0, 4, 3, 7]),
     ("plan", &[0, 1, 8, 6, 16]),
     ("plan: no leaves", &[0, 1]),
-    ("compare", &[0, 1, 8, 6, 10, 13]),
+    ("compare", &[0, 12, 1, 8, 6, 10, 13]),
     ("compare: clash", &[0, 1]),
+    ("edition checked", &[1, 2]),
+    ("edition clashing", &[1, 2]),
+    ("edition drawn", &[1, 2]),
     ("draw", &[0, 10, 11, 12, 1, 8, 13, 9, 14, 15, 16]),
 ];
 

@@ -9,7 +9,8 @@ use crate::random::Random;
 use mastdock::{ffi, Opening};
 
 /// What stands beside a refused start.
-pub const NO_OPENING: Opening = Opening { statement: [0; 32], depth: 0, memory: 0, leaf: 0, made: 0, held: [0; 1312] };
+pub const NO_OPENING: Opening =
+    Opening { statement: [0; 32], edition: 0, depth: 0, memory: 0, leaf: 0, made: 0, held: [0; 1312] };
 
 /// A leaf of a depth, or one beyond now and then.
 pub fn leaf_of(random: &mut Random, n: u64) -> u64 {
@@ -29,22 +30,22 @@ fn output(random: &mut Random, n: u64) -> Vec<u8> {
 }
 
 pub fn starts(random: &mut Random) -> u64 {
-    let statement = random.array();
+    let (edition, statement) = (random.edition(), random.array());
     let (n, m, store) = level_and_store(random, 40, 6);
     let n = if random.once_in(3) && m >= 1 { m } else { n };
     let leaf = leaf_of(random, n);
     let mut out = output(random, n);
     let (mut lent_store, mut lent_out) = (Lent::bytes(random, &store), Lent::bytes(random, &out));
     let mut again = out.clone();
-    let expected = start(&statement, n, m, leaf, &store, &mut out);
-    let answer = Opening::start(&statement, n, m, leaf, lent_store.get(), lent_out.get());
+    let expected = start(edition, &statement, n, m, leaf, &store, &mut out);
+    let answer = Opening::start(edition, &statement, n, m, leaf, lent_store.get(), lent_out.get());
     assert_eq!(numbered("opening start", answer), expected);
     lent_store.is_now(&store);
     lent_out.is_now(&out);
     // SAFETY: pointers and lengths are those of references and slices; the output is borrowed alone.
     let started = unsafe {
-        let (store_len, out_len) = (store.len(), again.len());
-        ffi::mastdock_opening_start(&statement, n, m, leaf, store.as_ptr(), store_len, again.as_mut_ptr(), out_len)
+        let (from, from_len, to_len) = (store.as_ptr(), store.len(), again.len());
+        ffi::mastdock_opening_start(edition, &statement, n, m, leaf, from, from_len, again.as_mut_ptr(), to_len)
     };
     assert_eq!(started.opening, expected.unwrap_or(NO_OPENING));
     2
@@ -70,16 +71,16 @@ fn advance_both(random: &mut Random, opening: &mut Opening, budget: u64, store: 
 }
 
 pub fn whole(random: &mut Random) -> u64 {
-    let statement = random.array();
+    let (edition, statement) = (random.between(1, 2), random.array());
     let n = random.between(1, 7);
     let m = random.below(n + 1);
     let leaf = random.below(1 << n);
-    let labels = Labels::of(statement, n);
+    let labels = Labels::of(edition, statement, n);
     let store = labels.store(m);
     let beyond = random.below(40) as usize;
     let mut out = random.bytes(opening_size(n) + beyond);
     let old = out.clone();
-    let mut opening = Opening::start(&statement, n, m, leaf, &store, &mut out).unwrap();
+    let mut opening = Opening::start(edition, &statement, n, m, leaf, &store, &mut out).unwrap();
     let most = random.pick(&[3, 10, 100]);
     let mut calls = 0;
     while opening.made < nodes_anew(n, m) {
@@ -90,8 +91,9 @@ pub fn whole(random: &mut Random) -> u64 {
     advance_both(random, &mut opening, 7, &store, &mut out);
     assert_eq!(out, [labels.opening(leaf), old[opening_size(n)..].to_vec()].concat());
     let part = &out[..opening_size(n)];
-    assert_eq!(numbered("check opening", mastdock::check_opening(&statement, &labels.root(), n, leaf, part)), Ok(()));
-    assert_eq!(file::check_opening(&statement, n, leaf, &labels.root(), part), Ok(()));
+    let answer = mastdock::check_opening(edition, &statement, &labels.root(), n, leaf, part);
+    assert_eq!(numbered("check opening", answer), Ok(()));
+    assert_eq!(file::check_opening(edition, &statement, n, leaf, &labels.root(), part), Ok(()));
     calls + 3
 }
 
@@ -107,6 +109,7 @@ pub fn any_state(random: &mut Random) -> u64 {
     };
     let mut opening = Opening {
         statement: random.array(),
+        edition: random.edition(),
         depth: n,
         memory: m,
         leaf: leaf_of(random, n),

@@ -1,5 +1,5 @@
 use super::numbered;
-use super::run::{any_run, level_or_edge, NO_RUN};
+use super::run::{any_run, level_or_edge, new_run, NO_RUN};
 use crate::lent::Lent;
 use crate::model::file::groups;
 use crate::model::record::{read, record_of, tidy, write};
@@ -21,6 +21,7 @@ fn possible_run(random: &mut Random, deepest: u64, most: u64) -> Run {
     let n = random.between(1, deepest);
     let m = random.below(n.min(most) + 1);
     let mut run = any_run(random, n, m);
+    run.edition = random.between(1, 2);
     run.made = run.made.min(size(n));
     run
 }
@@ -69,7 +70,7 @@ pub fn pause(random: &mut Random, run: &Run) -> Run {
 pub fn written(random: &mut Random) -> u64 {
     let (n, m) = levels(random);
     let run = any_run(random, n, m);
-    let size = if impossible(n, m, run.made) { MAX_RECORD } else { record_of(&run).len() };
+    let size = if impossible(run.edition, n, m, run.made) { MAX_RECORD } else { record_of(&run).len() };
     let len = random.near(size);
     let mut out = random.bytes(len);
     match record_both(random, &run, &mut out) {
@@ -83,11 +84,11 @@ pub fn written(random: &mut Random) -> u64 {
 
 /// A record's numbers that are right, or not: an edge for one of them, one in a longer form, or any bytes.
 fn numbers(random: &mut Random, run: &Run) -> Vec<u8> {
-    let mut values = [1, run.depth, run.memory, run.made];
+    let mut values = [run.edition, run.depth, run.memory, run.made];
     let which = random.below(4) as usize;
     match random.below(4) {
         0 => {
-            let highest = [1, 40, 14, size(run.depth)][which];
+            let highest = [2, 40, 14, size(run.depth)][which];
             values[which] = random.or_edge(highest + 1, highest);
             values.map(groups).concat()
         }
@@ -101,7 +102,7 @@ fn numbers(random: &mut Random, run: &Run) -> Vec<u8> {
         }
         2 => {
             let len = random.below(14) as usize;
-            (0..len).map(|_| random.pick(&[0, 1, 1, 2, 5, 14, 15, 40, 41, 127, 128, 129, 200, 255])).collect()
+            (0..len).map(|_| random.pick(&[0, 1, 1, 2, 3, 5, 14, 15, 40, 41, 127, 128, 129, 200, 255])).collect()
         }
         _ => values.map(groups).concat(),
     }
@@ -113,7 +114,7 @@ const CHANGES: u64 = 7;
 /// A record changed in one of several ways.
 fn changed(random: &mut Random, run: &Run, change: u64) -> Vec<u8> {
     let mut bytes = record_of(run);
-    let rest = bytes.split_off([1, run.depth, run.memory, run.made].map(groups).concat().len());
+    let rest = bytes.split_off([run.edition, run.depth, run.memory, run.made].map(groups).concat().len());
     match change {
         0 => [bytes, rest].concat(),
         1 => {
@@ -135,7 +136,7 @@ fn changed(random: &mut Random, run: &Run, change: u64) -> Vec<u8> {
         5 => {
             // Numbers of another run of this depth before the labels of this one.
             let other = any_run(random, run.depth, run.memory);
-            [[1, run.depth, run.memory, other.made].map(groups).concat(), rest].concat()
+            [[run.edition, run.depth, run.memory, other.made].map(groups).concat(), rest].concat()
         }
         _ => {
             let len = random.pick(&[0, 1, 32, 64, 96, 1344, 1345]);
@@ -156,13 +157,13 @@ pub fn any_bytes(random: &mut Random) -> u64 {
 
 /// 'A run paused after any label and resumed must end with the same root and store as one never paused, given the same store.'
 pub fn whole(random: &mut Random) -> u64 {
-    let statement = random.array();
+    let (edition, statement) = (random.between(1, 2), random.array());
     let n = random.between(1, 8);
     let m = random.below(n + 1);
     let beyond = random.below(50) as usize;
     let mut store = random.bytes(store_size(m) + beyond);
     let mut never_paused = store.clone();
-    let mut run = Run::start(&statement, n, m, &store).unwrap();
+    let mut run = new_run(edition, &statement, n, m, &store);
     let mut end = run.clone();
     let all = end.advance(u64::MAX, &mut never_paused).unwrap();
     assert_eq!(all.labels, size(n));
@@ -175,7 +176,7 @@ pub fn whole(random: &mut Random) -> u64 {
         calls += 4;
     }
     assert_eq!(pause(random, &run), end);
-    assert_eq!(run.root(), Some(Labels::of(statement, n).root()));
+    assert_eq!(run.root(), Some(Labels::of(edition, statement, n).root()));
     assert!(store == never_paused);
     assert_eq!(blocks, all.blocks);
     calls + 4

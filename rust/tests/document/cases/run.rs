@@ -2,12 +2,12 @@ use super::{made_numbers, numbered};
 use crate::lent::Lent;
 use crate::model::run::{advance, start, store_size};
 use crate::model::tree::{place_in_order, size, Labels, Node};
-use crate::model::{depth_refused, memory_refused};
+use crate::model::{depth_refused, memory_refused, Label};
 use crate::random::Random;
 use mastdock::{ffi, Run};
 
 /// What stands beside a refused start, and a record refused.
-pub const NO_RUN: Run = Run { statement: [0; 32], depth: 0, memory: 0, made: 0, held: [0; 1312] };
+pub const NO_RUN: Run = Run { statement: [0; 32], edition: 0, depth: 0, memory: 0, made: 0, held: [0; 1312] };
 
 /// A depth and a memory level, refused now and then, and a store near the size for it.
 pub fn level_and_store(random: &mut Random, deepest: u64, most: u64) -> (u64, u64, Vec<u8>) {
@@ -56,14 +56,24 @@ fn advance_both(random: &mut Random, run: &mut Run, budget: u64, store: &mut [u8
     again.is_now(store);
 }
 
+/// A new run of an edition: of edition 2 by a start, of edition 1 by a record of it, since 'New runs write 2' (W-206).
+pub fn new_run(edition: u64, statement: &Label, n: u64, m: u64, store: &[u8]) -> Run {
+    let run = match edition {
+        1 => Run::resume(&[&[1, n as u8, m as u8, 0][..], statement].concat()).unwrap(),
+        _ => Run::start(statement, n, m, store).unwrap(),
+    };
+    assert_eq!((run.edition, run.made, run.held), (edition, 0, [0; 1312]));
+    run
+}
+
 pub fn whole(random: &mut Random) -> u64 {
-    let statement = random.array();
+    let (edition, statement) = (random.between(1, 2), random.array());
     let n = random.between(1, 8);
     let m = random.below(n + 1);
     let beyond = random.below(50) as usize;
     let mut store = random.bytes(store_size(m) + beyond);
     let old = store.clone();
-    let mut run = Run::start(&statement, n, m, &store).unwrap();
+    let mut run = new_run(edition, &statement, n, m, &store);
     let most = random.pick(&[2, 10, 100, 1000]);
     let mut calls = 0;
     while run.made < size(n) {
@@ -76,8 +86,8 @@ pub fn whole(random: &mut Random) -> u64 {
     let done = run.clone();
     advance_both(random, &mut run, 5, &mut store);
     assert_eq!(run, done);
-    let labels = Labels::of(statement, n);
-    assert_eq!(run.root(), Some(labels.root()));
+    let labels = Labels::of(edition, statement, n);
+    assert_eq!((run.edition, run.root()), (edition, Some(labels.root())));
     assert_eq!(store, [labels.store(m), old[store_size(m)..].to_vec()].concat());
     calls + 2
 }
@@ -95,7 +105,8 @@ fn made(random: &mut Random, n: u64, m: u64) -> u64 {
     }
 }
 
-/// A run of this depth and memory level in any state, with more labels made than there are now and then, and something in every place.
+/// A run of this depth and memory level in any state, with an edition that does not exist or more labels made than there are now and then,
+/// and something in every place.
 pub fn any_run(random: &mut Random, n: u64, m: u64) -> Run {
     let possible = !depth_refused(n) && !memory_refused(n, m);
     let made = match random.once_in(10) {
@@ -106,6 +117,7 @@ pub fn any_run(random: &mut Random, n: u64, m: u64) -> Run {
     let over = possible && random.once_in(10);
     Run {
         statement: random.array(),
+        edition: random.edition(),
         depth: n,
         memory: m,
         made: if over { size(n) + random.below(3) } else { made },
@@ -128,7 +140,7 @@ pub fn largest_store(random: &mut Random) -> u64 {
     let mut store = vec![0; 1048544];
     let short = store.len() - 1;
     assert_eq!(numbered("run start", Run::start(&statement, n, 14, &store[..short])), Err(3));
-    let mut run = Run::start(&statement, n, 14, &store).unwrap();
+    let mut run = new_run(random.between(1, 2), &statement, n, 14, &store);
     let position = random.below(1 << 14);
     run.made = place_in_order(n, Node::at(14, position));
     run.held = random.array();

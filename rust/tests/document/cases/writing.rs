@@ -24,21 +24,21 @@ fn count_and_file(random: &mut Random, n: u64) -> (u64, Vec<u8>) {
 }
 
 pub fn starts(random: &mut Random) -> u64 {
-    let (statement, root) = (random.array(), random.array());
+    let (edition, statement, root) = (random.edition(), random.array(), random.array());
     let (n, m, store) = level_and_store(random, 40, 5);
     let n = if random.once_in(3) && m >= 1 { m } else { n };
     let (t, mut file) = count_and_file(random, n);
     let (mut lent_store, mut lent_file) = (Lent::bytes(random, &store), Lent::bytes(random, &file));
     let mut again = file.clone();
-    let expected = start(&statement, &root, n, m, t, &store, &mut file);
-    let answer = Writing::start(&statement, &root, n, m, t, lent_store.get(), lent_file.get());
+    let expected = start(edition, &statement, &root, n, m, t, &store, &mut file);
+    let answer = Writing::start(edition, &statement, &root, n, m, t, lent_store.get(), lent_file.get());
     assert_eq!(numbered("writing start", answer), expected);
     lent_store.is_now(&store);
     lent_file.is_now(&file);
     // SAFETY: pointers and lengths are those of references and slices; the file is borrowed alone.
     let started = unsafe {
         let (from, len) = (store.as_ptr(), store.len());
-        ffi::mastdock_writing_start(&statement, &root, n, m, t, from, len, again.as_mut_ptr(), again.len())
+        ffi::mastdock_writing_start(edition, &statement, &root, n, m, t, from, len, again.as_mut_ptr(), again.len())
     };
     assert_eq!(started.writing, expected.unwrap_or(NO_WRITING));
     2
@@ -68,12 +68,13 @@ pub fn whole(random: &mut Random) -> u64 {
     let m = random.below(n + 1);
     let most = random.pick(&[1, 3, 10, 130]);
     let t = random.between(1, most);
-    let labels = Labels::of(random.array(), n);
+    let labels = Labels::of(random.between(1, 2), random.array(), n);
     let store = labels.store(m);
     let beyond = random.below(40) as usize;
     let mut file = random.bytes(file_size(n, t) + beyond);
     let old = file.clone();
-    let mut writing = Writing::start(&labels.statement, &labels.root(), n, m, t, &store, &mut file).unwrap();
+    let (edition, statement, root) = (labels.edition, labels.statement, labels.root());
+    let mut writing = Writing::start(edition, &statement, &root, n, m, t, &store, &mut file).unwrap();
     let most = random.pick(&[20, 100, 1000]);
     let mut left = t * nodes_anew(n, m);
     let mut calls = 0;
@@ -109,8 +110,9 @@ pub fn any_state(random: &mut Random) -> u64 {
         1..=5 => t,
         _ => random.between(1, t.clamp(1, 200)),
     };
-    let statement = random.array();
-    let opening = Opening { statement, depth: n, memory: m, leaf: leaf_of(random, n), made, held: random.array() };
+    let (statement, edition) = (random.array(), random.edition());
+    let leaf = leaf_of(random, n);
+    let opening = Opening { statement, edition, depth: n, memory: m, leaf, made, held: random.array() };
     let mut writing = Writing { root: random.array(), count: t, number, opening };
     let budget = random.below(6);
     advance_both(random, &mut writing, budget, &store, &mut file);

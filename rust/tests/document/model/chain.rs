@@ -1,8 +1,8 @@
 //! Document 01, 'Drawing the chain'.
-use super::file::{check, inputs, leaf, opening_place, read_head};
+use super::file::{check, inputs, leaf, opening_place, read_head, Head};
 use super::opening::opening_size;
 use super::tree::{Node, ROOT};
-use super::{count_refused, depth_refused, label_at, row, Label};
+use super::{count_refused, depth_refused, edition_refused, label_at, row, Label};
 
 /// 'the nodes on the opened leaves' ways to the root are written in labelling order, each once, as 2^l + p'.
 pub fn chain(n: u64, leaves: &[u64]) -> Vec<u64> {
@@ -28,11 +28,7 @@ fn visit(n: u64, v: Node, leaves: &[u64], codes: &mut Vec<u64>) {
 
 /// Row 'Planning a chain'. 'later places keep what they had.' W-203: 'Planning refuses with 8 only above 200 leaves'.
 pub fn plan(n: u64, leaves: &[u64], list: &mut [u64]) -> Result<u64, u64> {
-    row(&[
-        (1, &|| depth_refused(n)),
-        (8, &|| leaves.len() > 200),
-        (6, &|| leaves.iter().any(|leaf| *leaf >= 1 << n)),
-    ])?;
+    row(&[(1, &|| depth_refused(n)), (8, &|| leaves.len() > 200), (6, &|| leaves.iter().any(|leaf| *leaf >= 1 << n))])?;
     let codes = chain(n, leaves);
     row(&[(16, &|| list.len() < codes.len())])?;
     list[..codes.len()].copy_from_slice(&codes);
@@ -50,9 +46,10 @@ pub struct Clash {
 }
 
 /// 'Two openings disagree at a shared inner node if their two child labels there, computed or given, differ. If any pair does, the
-/// answer names the first pair i < j (by i, then j), the smallest such level, and both 105-byte inputs'.
-pub fn first_clash(statement: &Label, n: u64, openings: &[(u64, &[u8])]) -> Option<Clash> {
-    let given: Vec<Vec<Vec<u8>>> = openings.iter().map(|(leaf, bytes)| inputs(statement, n, *leaf, bytes)).collect();
+/// answer names the first pair i < j (by i, then j), the smallest such level, and both 105-byte inputs', which are an edition's.
+pub fn first_clash(edition: u64, statement: &Label, n: u64, openings: &[(u64, &[u8])]) -> Option<Clash> {
+    let given: Vec<Vec<Vec<u8>>> =
+        openings.iter().map(|(leaf, bytes)| inputs(edition, statement, n, *leaf, bytes)).collect();
     for i in 0..openings.len() {
         for j in i + 1..openings.len() {
             for level in 0..n {
@@ -73,11 +70,12 @@ pub fn first_clash(statement: &Label, n: u64, openings: &[(u64, &[u8])]) -> Opti
     None
 }
 
-/// The comparison by itself, of openings one after the other. Document 01 has no row for it: those of planning, but none to
+/// The comparison by itself, of openings one after the other. Document 01 has no row for it: 12 (W-206); those of planning, but none to
 /// compare is 8 too; then 10 and 13.
-pub fn compare(statement: &Label, n: u64, leaves: &[u64], bytes: &[u8]) -> Result<Option<Clash>, u64> {
+pub fn compare(edition: u64, statement: &Label, n: u64, leaves: &[u64], bytes: &[u8]) -> Result<Option<Clash>, u64> {
     let size = || leaves.len() * opening_size(n);
     row(&[
+        (12, &|| edition_refused(edition)),
         (1, &|| depth_refused(n)),
         (8, &|| count_refused(leaves.len() as u64)),
         (6, &|| leaves.iter().any(|leaf| *leaf >= 1 << n)),
@@ -85,7 +83,7 @@ pub fn compare(statement: &Label, n: u64, leaves: &[u64], bytes: &[u8]) -> Resul
         (13, &|| bytes.len() > size()),
     ])?;
     let openings: Vec<(u64, &[u8])> = leaves.iter().copied().zip(bytes.chunks_exact(opening_size(n))).collect();
-    Ok(first_clash(statement, n, &openings))
+    Ok(first_clash(edition, statement, n, &openings))
 }
 
 /// What drawing answers.
@@ -100,12 +98,12 @@ pub enum Drawn {
 
 /// 'The leaves opened are those of its challenges 1 to t.'
 pub fn leaves_opened(file: &[u8]) -> Vec<u64> {
-    let (n, t, at) = read_head(file).unwrap();
+    let Head { n, t, at, .. } = read_head(file).unwrap();
     let (statement, root) = (label_at(file, at), label_at(file, at + 32));
     (1..=t).map(|i| leaf(n, &statement, &root, i)).collect()
 }
 
-/// Row 'Drawing a chain': 'all file checks; 16, if no pair disagrees'.
+/// Row 'Drawing a chain': 'all file checks; 16, if no pair disagrees'. Openings are compared by the file's own edition.
 pub fn draw(file: &[u8], statement: &Label, n: u64, t: u64, list: &mut [u64]) -> Drawn {
     if let Err((refusal, opening)) = check(file, statement, n, t) {
         return Drawn::Refused(refusal, opening);
@@ -116,7 +114,8 @@ pub fn draw(file: &[u8], statement: &Label, n: u64, t: u64, list: &mut [u64]) ->
         &file[start..][..length]
     };
     let openings: Vec<(u64, &[u8])> = leaves.iter().copied().zip((1..=t).map(part)).collect();
-    if let Some(clash) = first_clash(statement, n, &openings) {
+    let edition = read_head(file).unwrap().edition;
+    if let Some(clash) = first_clash(edition, statement, n, &openings) {
         return Drawn::Clash(clash);
     }
     match plan(n, &leaves, list) {

@@ -14,6 +14,11 @@ pub mod writing;
 /// A label, a statement or a root.
 pub type Label = [u8; 32];
 
+/// W-206: '12 now means neither 1 nor 2'.
+pub fn edition_refused(edition: u64) -> bool {
+    edition != 1 && edition != 2
+}
+
 /// 'n not 1..40'.
 pub fn depth_refused(n: u64) -> bool {
     !(1..=40).contains(&n)

@@ -2,7 +2,7 @@
 use super::run::{slot, store_size};
 use super::step::step;
 use super::tree::{cost, size, Node};
-use super::{depth_refused, label_at, memory_refused, row, Label};
+use super::{depth_refused, edition_refused, label_at, memory_refused, row, Label};
 use mastdock::{Made, Opening};
 
 /// '32 × (n + 1) bytes'.
@@ -25,8 +25,8 @@ fn place(n: u64, leaf: u64, v: Node) -> Option<usize> {
 }
 
 /// 'count and held labels are those of the nodes it labels anew, 0 and none at the start.'
-pub fn new(statement: &Label, n: u64, m: u64, leaf: u64) -> Opening {
-    Opening { statement: *statement, depth: n, memory: m, leaf, made: 0, held: [0; 1312] }
+pub fn new(edition: u64, statement: &Label, n: u64, m: u64, leaf: u64) -> Opening {
+    Opening { statement: *statement, edition, depth: n, memory: m, leaf, made: 0, held: [0; 1312] }
 }
 
 /// 'Starting it copies what levels 1 to m of the store hold of it and writes no other byte.'
@@ -39,9 +39,18 @@ pub fn copy_stored(n: u64, m: u64, leaf: u64, store: &[u8], out: &mut [u8]) {
     }
 }
 
-/// Row 'Starting an opening'.
-pub fn start(statement: &Label, n: u64, m: u64, leaf: u64, store: &[u8], out: &mut [u8]) -> Result<Opening, u64> {
+/// Row 'Starting an opening'. W-206: 12 'comes first where an opening … is given its edition'.
+pub fn start(
+    edition: u64,
+    statement: &Label,
+    n: u64,
+    m: u64,
+    leaf: u64,
+    store: &[u8],
+    out: &mut [u8],
+) -> Result<Opening, u64> {
     row(&[
+        (12, &|| edition_refused(edition)),
         (1, &|| depth_refused(n)),
         (2, &|| memory_refused(n, m)),
         (3, &|| store.len() < store_size(m)),
@@ -49,13 +58,17 @@ pub fn start(statement: &Label, n: u64, m: u64, leaf: u64, store: &[u8], out: &m
         (7, &|| out.len() < opening_size(n)),
     ])?;
     copy_stored(n, m, leaf, store, out);
-    Ok(new(statement, n, m, leaf))
+    Ok(new(edition, statement, n, m, leaf))
 }
 
-/// The condition of 4: '(also a leaf of 2^n or more)'.
+/// The condition of 4: '(also a leaf of 2^n or more)'; W-206: or an edition that does not exist.
 pub fn impossible(o: &Opening) -> bool {
     let (n, m) = (o.depth, o.memory);
-    depth_refused(n) || memory_refused(n, m) || o.made > nodes_anew(n, m) || o.leaf >= 1 << n
+    edition_refused(o.edition)
+        || depth_refused(n)
+        || memory_refused(n, m)
+        || o.made > nodes_anew(n, m)
+        || o.leaf >= 1 << n
 }
 
 /// One label anew. 'Left siblings on levels 1 to m are read from the store lent to that call'. Gives its blocks.
@@ -66,7 +79,7 @@ pub fn step_anew(o: &mut Opening, store: &[u8], out: &mut [u8]) -> u64 {
         assert!((1..=m).contains(&w.level));
         label_at(store, slot(w))
     };
-    let (v, label) = step(&o.statement, n, top, o.made, &mut o.held, &stored);
+    let (v, label) = step(o.edition, &o.statement, n, top, o.made, &mut o.held, &stored);
     if let Some(at) = place(n, o.leaf, v) {
         out[at..at + 32].copy_from_slice(&label);
     }

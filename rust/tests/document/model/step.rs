@@ -1,10 +1,12 @@
 //! One label more, for any state: what runs and openings share.
-use super::tree::{held, in_order, label, parents, Node};
+use super::tree::{hashed_parents, held, in_order, label, Node};
 use super::{label_at, Label};
 
 /// Makes the next label of the nodes at and below `top`, of which `made` are labelled, and updates the held labels. Labels from
-/// outside of that subtree are `outside`'s. Gives the node and its label.
+/// outside of that subtree are `outside`'s. Gives the node and its label. Only the order hashed depends on the edition: 'held labels
+/// stand in the order made' in both.
 pub fn step(
+    edition: u64,
     statement: &Label,
     n: u64,
     top: Node,
@@ -20,7 +22,7 @@ pub fn step(
         Some(place) => label_at(&old, 32 * place),
         None => outside(*w),
     };
-    let hashed: Vec<Label> = parents(n, v).iter().map(known).collect();
+    let hashed: Vec<Label> = hashed_parents(edition, n, v).iter().map(known).collect();
     let new = label(statement, v, &hashed);
     // 'held labels stand in the order made, from the first place'
     for (place, w) in after.iter().enumerate() {

@@ -1,6 +1,7 @@
 //! Document 01, 'The tree'.
 use super::sha256::{blocks, digest};
 use super::Label;
+use std::cmp::Reverse;
 use std::collections::HashMap;
 
 #[derive(Clone, Copy, Debug, PartialEq, Eq, Hash)]
@@ -47,12 +48,23 @@ pub fn size(height: u64) -> u64 {
 }
 
 /// 'An inner node's parents are its two children. A leaf's are the left siblings of nodes on its way to the root, itself
-/// included', 'left child before right, and for a leaf smallest level first'.
+/// included'; here in the order of edition 1: 'left child before right, and for a leaf smallest level first'.
 pub fn parents(n: u64, v: Node) -> Vec<Node> {
     if v.level < n {
         return vec![v.left(), v.right()];
     }
     (1..=n).map(|level| v.above(level)).filter(|w| w.is_right()).map(Node::sibling).collect()
+}
+
+/// The parents in the order in which an edition hashes their labels. W-206: 'the label made last comes first after the position'.
+pub fn hashed_parents(edition: u64, n: u64, v: Node) -> Vec<Node> {
+    let mut nodes = parents(n, v);
+    match edition {
+        1 => {}
+        2 => nodes.sort_by_key(|w| Reverse(place_in_order(n, *w))),
+        _ => unreachable!("no edition {edition}"),
+    }
+    nodes
 }
 
 /// 'statement (32 bytes), level (1 byte), position (8 bytes, big-endian), then the parents' labels'.
@@ -113,22 +125,23 @@ pub fn held(n: u64, top: Node, k: u64) -> Vec<Node> {
     nodes
 }
 
-/// All labels of a tree, by the definition of a label alone.
+/// All labels of a tree in an edition, by the definition of a label alone.
 pub struct Labels {
+    pub edition: u64,
     pub statement: Label,
     pub n: u64,
     labels: HashMap<Node, Label>,
 }
 
 impl Labels {
-    pub fn of(statement: Label, n: u64) -> Labels {
+    pub fn of(edition: u64, statement: Label, n: u64) -> Labels {
         let mut labels = HashMap::new();
         for k in 0..size(n) {
             let v = in_order(n, ROOT, k);
-            let hashed: Vec<Label> = parents(n, v).iter().map(|w| labels[w]).collect();
+            let hashed: Vec<Label> = hashed_parents(edition, n, v).iter().map(|w| labels[w]).collect();
             labels.insert(v, label(&statement, v, &hashed));
         }
-        Labels { statement, n, labels }
+        Labels { edition, statement, n, labels }
     }
 
     pub fn get(&self, v: Node) -> Label {

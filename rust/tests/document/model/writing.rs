@@ -1,9 +1,9 @@
 //! A whole file written by budgets. Document 01 has no row for it; docs/DECISIONS.md, 'The file', says what is done: starting takes
-//! the checks 1, 2, 3 of 'Starting an opening', then 8 and 7 of the head; the next opening is begun as soon as one is done.
+//! the checks 12, 1, 2, 3 of 'Starting an opening', then 8 and 7 of the head; the next opening is begun as soon as one is done.
 use super::file::{file_size, head_size, leaf, write_head};
 use super::opening::{copy_stored, impossible, new, nodes_anew, opening_size, step_anew};
 use super::run::store_size;
-use super::{count_refused, depth_refused, memory_refused, row, Label};
+use super::{count_refused, depth_refused, edition_refused, memory_refused, row, Label};
 use mastdock::{Made, Writing};
 
 /// Opening i's part of the file.
@@ -15,7 +15,7 @@ fn part(n: u64, t: u64, i: u64, file: &mut [u8]) -> &mut [u8] {
 fn begin(w: &mut Writing, store: &[u8], file: &mut [u8]) {
     let (statement, n, m) = (w.opening.statement, w.opening.depth, w.opening.memory);
     let leaf = leaf(n, &statement, &w.root, w.number);
-    w.opening = new(&statement, n, m, leaf);
+    w.opening = new(w.opening.edition, &statement, n, m, leaf);
     copy_stored(n, m, leaf, store, part(n, w.count, w.number, file));
     follow(w, store, file);
 }
@@ -33,7 +33,9 @@ fn follow(w: &mut Writing, store: &[u8], file: &mut [u8]) {
     }
 }
 
+#[allow(clippy::too_many_arguments)]
 pub fn start(
+    edition: u64,
     statement: &Label,
     root: &Label,
     n: u64,
@@ -43,14 +45,15 @@ pub fn start(
     file: &mut [u8],
 ) -> Result<Writing, u64> {
     row(&[
+        (12, &|| edition_refused(edition)),
         (1, &|| depth_refused(n)),
         (2, &|| memory_refused(n, m)),
         (3, &|| store.len() < store_size(m)),
         (8, &|| count_refused(t)),
         (7, &|| file.len() < file_size(n, t)),
     ])?;
-    write_head(statement, root, n, t, file)?;
-    let mut writing = Writing { root: *root, count: t, number: 1, opening: new(statement, n, m, 0) };
+    write_head(edition, statement, root, n, t, file)?;
+    let mut writing = Writing { root: *root, count: t, number: 1, opening: new(edition, statement, n, m, 0) };
     begin(&mut writing, store, file);
     Ok(writing)
 }

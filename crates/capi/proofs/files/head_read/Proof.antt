@@ -11,7 +11,7 @@ returns c = same-head _ _ (ap headAnswer (sym (c .before .numbers .given .1)))
 returns-2 : tie.Need-returns-2
 returns-2 c =
     let k = same-head _ _ (ap headAnswer (sym (c .before .before .numbers2 .given .1))) in
-    (c .number .ensures ∙ k .0, k .1)
+    ((c .number .ensures ∙ k .0 .0, k .0 .1), k .1)
 
 pub head-read-spec : {M : Type 1} → statement M
 head-read-spec =

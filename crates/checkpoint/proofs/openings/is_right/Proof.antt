@@ -4,7 +4,7 @@ use Prim.Native.Nat.{_+_, _-_, _*_, _≤_}
 use native.Mathlib.Omega.{arith}
 use borrow.Author.Needs.{needs}
 use lib.ListN.{length}
-use Rattle.base.specs.Limits.{edition, maxOpenings}
+use Rattle.base.specs.Limits.{maxOpenings}
 use Rattle.base.proofs.Parts.{part-size, part-length}
 use Rattle.tree.specs.Openings.{openingSize}
 use Rattle.file_head.proofs.HeadLaws.{openings-small}
@@ -28,7 +28,7 @@ returns : tie.Need-returns
 returns c =
     let s = c .before .before in
     let a = s .args in
-    cut-short (a .statement) (a .root) (a .depth) (a .bytes .now) (a .i) (omega (arith, ends s .0, c .if1 .taken))
+    cut-short (a .edition) (a .statement) (a .root) (a .depth) (a .bytes .now) (a .i) (omega (arith, ends s .0, c .if1 .taken))
 
 -- the opening is there
 there : (c : tie.Else1) → let a = c .before .before .args in a .i * openingSize (a .depth) ≤ length (a .bytes .now)
@@ -42,7 +42,7 @@ right-requires c κs =
     let start = (a .i - 1) * openingSize (a .depth) in (
       s .pre .0,
       s .pre .1,
-      rw (c .before .challenge-leaf .ensures) (challengeLeaf-small edition (a .depth) _ _ _ (omega (arith, s .pre .1))),
+      rw (c .before .challenge-leaf .ensures) (challengeLeaf-small (a .edition) (a .depth) _ _ _ (omega (arith, s .pre .1))),
       ap length (part-size (a .bytes .now) start (openingSize (a .depth)))
           ∙ part-length (a .bytes .now) start (openingSize (a .depth)) (omega (arith, ends s .0, there else)),
     )
@@ -52,7 +52,7 @@ returns-2 c =
     let right = c .before .before in
     let leaf = right .before .before in
     let a = leaf .before .before .before .args in
-    opening-right (a .statement) (a .root) (a .depth) (a .bytes .now) (a .i) _ _ _ (there (leaf .before)) (leaf .challenge-leaf .ensures) refl
+    opening-right (a .edition) (a .statement) (a .root) (a .depth) (a .bytes .now) (a .i) _ _ _ (there (leaf .before)) (leaf .challenge-leaf .ensures) refl
     (right .right .ensures) (c .enum-told .given .1)
 
 returns-3 : tie.Need-returns-3
@@ -60,7 +60,7 @@ returns-3 c =
     let right = c .before .before in
     let leaf = right .before .before in
     let a = leaf .before .before .before .args in
-    opening-wrong (a .statement) (a .root) (a .depth) (a .bytes .now) (a .i) _ _ _ (there (leaf .before)) (leaf .challenge-leaf .ensures) refl
+    opening-wrong (a .edition) (a .statement) (a .root) (a .depth) (a .bytes .now) (a .i) _ _ _ (there (leaf .before)) (leaf .challenge-leaf .ensures) refl
     (right .right .ensures) _ (c .enum-told2 .given .1)
 
 pub is-right-spec : {M : Type 1} → statement M

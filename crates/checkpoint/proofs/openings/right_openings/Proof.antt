@@ -15,17 +15,17 @@ use Rattle.checkpoint.proofs.openings.right_openings.Statement.{stateme
 use Rattle.checkpoint.proofs.openings.right_openings.Tie as tie
 
 abbrev Inv-loop : tie.InvT-loop
-Inv-loop statement root depth count bytes done₀ done =
+Inv-loop edition statement root depth count bytes done₀ done =
     (done ≤ count)
-    × (openingsTaken statement root depth count bytes ≡ done + rightAfter statement root depth bytes done (count - done))
+    × (openingsTaken edition statement root depth count bytes ≡ done + rightAfter edition statement root depth bytes done (count - done))
 
 abbrev μ-loop : tie.MeasureT-loop
-μ-loop statement root depth count bytes done₀ done = count - done
+μ-loop edition statement root depth count bytes done₀ done = count - done
 
 returns : tie.Need-returns Inv-loop μ-loop
 returns c =
     let a = c .before .before .before .args in
-    no-depth (a .statement) (a .root) (a .depth) (a .bytes .now) (a .count) (sym (c .before .beyond .ensures) ∙ c .if1 .taken)
+    no-depth (a .edition) (a .statement) (a .root) (a .depth) (a .bytes .now) (a .count) (sym (c .before .beyond .ensures) ∙ c .if1 .taken)
 
 -- depth and count are in range
 depth-in : (c : tie.Else1 Inv-loop μ-loop) → outside 1 maxDepth (c .before .before .before .args .depth) ≡ false
@@ -41,12 +41,12 @@ returns-2 : tie.Need-returns-2 Inv-loop μ-loop
 returns-2 c =
     let else = c .before .before in
     let a = else .before .before .before .args in
-    no-count (a .statement) (a .root) (a .depth) (a .bytes .now) (a .count) (depth-in else) (sym (c .before .beyond2 .ensures) ∙ c .if2 .taken)
+    no-count (a .edition) (a .statement) (a .root) (a .depth) (a .bytes .now) (a .count) (depth-in else) (sym (c .before .beyond2 .ensures) ∙ c .if2 .taken)
 
 loop-holds : tie.Need-loop-holds Inv-loop μ-loop
 loop-holds c =
     let a = c .before .before .before .before .before .args in
-    (omega arith, none-taken (a .statement) (a .root) (a .depth) (a .bytes .now) (a .count) (depth-in (c .before .before)) (count-in c))
+    (omega arith, none-taken (a .edition) (a .statement) (a .root) (a .depth) (a .bytes .now) (a .count) (depth-in (c .before .before)) (count-in c))
 
 add-next : tie.Need-add-next Inv-loop μ-loop
 add-next c = omega (arith, c .loop-test .taken, count-most (c .before .before))
@@ -62,7 +62,7 @@ returns-3 c =
     let turn = c .before .before in
     let a = turn .before .before .before .before .before .before .before .args in
     sym (turn .before .loop .inv .1
-    ∙ next-wrong (a .statement) (a .root) (a .depth) (a .bytes .now) (a .count) _ (turn .loop-test .taken)
+    ∙ next-wrong (a .edition) (a .statement) (a .root) (a .depth) (a .bytes .now) (a .count) _ (turn .loop-test .taken)
     (sym (c .before .is-right .ensures) ∙ not-true _ (c .if3 .taken)))
 
 loop-less : tie.Need-loop-less Inv-loop μ-loop
@@ -74,14 +74,14 @@ loop-again c =
     let a = turn .before .before .before .before .before .before .before .args in (
       omega (arith, turn .loop-test .taken),
       turn .before .loop .inv .1
-          ∙ next-right (a .statement) (a .root) (a .depth) (a .bytes .now) (a .count) _ (turn .loop-test .taken)
+          ∙ next-right (a .edition) (a .statement) (a .root) (a .depth) (a .bytes .now) (a .count) _ (turn .loop-test .taken)
           (sym (c .before .is-right .ensures) ∙ not-false _ (c .if3 .left)),
     )
 
 returns-4 : tie.Need-returns-4 Inv-loop μ-loop
 returns-4 c =
     let a = c .before .before .before .before .before .before .before .args in
-    sym (c .before .loop .inv .1 ∙ all-taken (a .statement) (a .root) (a .depth) (a .bytes .now) (a .count) _ (c .loop-test .left))
+    sym (c .before .loop .inv .1 ∙ all-taken (a .edition) (a .statement) (a .root) (a .depth) (a .bytes .now) (a .count) _ (c .loop-test .left))
 
 pub right-openings-spec : {M : Type 1} → statement M
 right-openings-spec =

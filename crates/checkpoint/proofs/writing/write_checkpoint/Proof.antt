@@ -36,11 +36,11 @@ returns c =
     (told .row, (told .bytes, told .output))
 
 -- ---- the run can be
-can-be : (c : tie.Else1) → let r = c .before .before .before .before .args .run in noSuchRun (r .depth) (r .memory) (r .made) ≡ false
+can-be : (c : tie.Else1) → let r = c .before .before .before .before .args .run in noSuchRun (r .edition) (r .depth) (r .memory) (r .made) ≡ false
 can-be c = sym (c .before .not-possible .ensures) ∙ c .if1 .left
 
-bounds : (c : tie.Else1) → let r = c .before .before .before .before .args .run in Possible (r .depth) (r .memory) (r .made)
-bounds c = let r = c .before .before .before .before .args .run in possible (r .depth) (r .memory) (r .made) (can-be c)
+bounds : (c : tie.Else1) → let r = c .before .before .before .before .args .run in Possible (r .edition) (r .depth) (r .memory) (r .made)
+bounds c = let r = c .before .before .before .before .args .run in possible (r .edition) (r .depth) (r .memory) (r .made) (can-be c)
 
 store-short-requires : tie.Need-store-short-requires
 store-short-requires c κs = bounds c .memory

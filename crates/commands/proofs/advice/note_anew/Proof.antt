@@ -1,7 +1,7 @@
 -- `commands::advice::note_anew` meets its contract: both tests passed give the bounds that counting asks for.
 use mathlib.Core.Path.{_≡_, sym, _∙_}
 use native.Mathlib.Omega.{arith}
-use Rattle.base.specs.Limits.{maxChallenges, IsDepth, IsMemory}
+use Rattle.base.specs.Limits.{maxChallenges, newEdition, IsDepth, IsMemory}
 use Rattle.base.proofs.Ranges.{range-of}
 use Rattle.commands.proofs.SealLaws.{within-limits}
 use borrow.Author.Needs.{needs}
@@ -11,7 +11,7 @@ use Rattle.commands.proofs.advice.note_anew.Tie as tie
 limits : (c : tie.Else1)
     → IsDepth (c .before .before .args .ordered .depth)
     × IsMemory (c .before .before .args .ordered .depth) (c .before .before .args .ordered .memory)
-limits c = within-limits _ _ 0 (sym (c .before .not-possible .ensures) ∙ c .if1 .left)
+limits c = within-limits newEdition _ _ 0 (sym (c .before .not-possible .ensures) ∙ c .if1 .left)
 
 nodes-requires : tie.Need-nodes-requires
 nodes-requires c κs = limits (c .before .before) .0 .1

@@ -39,11 +39,24 @@ sub-made c =
     let start = nodes .before .before .before .before .before .before .before .before .before .before .before .before in
     omega (arith, may-go-on (start .args .run) _ (start .pre .0) .possible .made-few, nodes .nodes .ensures)
 
+-- where the part is made, from before the seal, and the function's start
+abbrev part-first : tie.After-seal-on-arg2 → tie.After-take-part
+part-first c = c .before .before .before .before .before .before .before .before .before .before
+
+abbrev start-first : tie.After-take-part → tie.Start
+start-first c = c .before .before .before .before .before .before
+
+seal-on-requires : tie.Need-seal-on-requires
+seal-on-requires c κs =
+    let part = part-first c in
+    let start = start-first part in
+    (start .pre .0, start .pre .1, start .pre .2, omega (arith, start .pre .3, part .take-part .kept))
+
 abbrev part-made : tie.After-seal-on → tie.After-take-part
-part-made c = c .before .before .before .before .before .before .before .before .before .before .before
+part-made c = part-first (c .before)
 
 abbrev entry : tie.After-seal-on → tie.Start
-entry c = part-made c .before .before .before .before .before .before
+entry c = start-first (part-made c)
 
 -- the file is as long as it was
 room : (c : tie.After-seal-on) → length (c .seal-on .last .1 .1 .1 .1 .0) ≡ length (entry c .args .file .now)
@@ -76,6 +89,6 @@ carry-spec =
     tie.close
     (tie.spec
     file-size-requires (λ c κs. search needs) (λ c. search needs) (λ c. search needs) all-labels-requires
-    all-labels-requires-2 nodes-requires sub-made (λ c. search needs) (λ c κs. search needs) (λ c κs. search needs)
+    all-labels-requires-2 nodes-requires sub-made (λ c. search needs) (λ c κs. search needs) seal-on-requires
     (λ c κs. search needs) facts-of-requires slice-reshare-prefix-keep slice-aggregate-keep (λ c κs. search needs) (λ c. search needs)
     same-length-3 (λ c. search needs))

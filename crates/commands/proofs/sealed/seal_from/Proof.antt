@@ -19,11 +19,11 @@ abbrev entry : tie.Else1 → tie.Start
 entry c = c .before .before .before .before .before
 
 can-be : (c : tie.Else1)
-    → impossible (entry c .args .run .depth) (entry c .args .run .memory) (entry c .args .run .made) (nodesIn (entry c .args .run .depth)) ≡ false
+    → impossible (entry c .args .run .edition) (entry c .args .run .depth) (entry c .args .run .memory) (entry c .args .run .made) (nodesIn (entry c .args .run .depth)) ≡ false
 can-be c = sym (c .before .not-possible .ensures) ∙ c .if1 .left
 
-bounds : (c : tie.Else1) → Possible (entry c .args .run .depth) (entry c .args .run .memory) (entry c .args .run .made)
-bounds c = possible _ _ _ (can-be c)
+bounds : (c : tie.Else1) → Possible (entry c .args .run .edition) (entry c .args .run .depth) (entry c .args .run .memory) (entry c .args .run .made)
+bounds c = possible _ _ _ _ (can-be c)
 
 counted : (c : tie.Else2) → IsCount (entry (c .before .before) .args .ordered .count)
 counted c = range-of 1 maxChallenges _ (sym (c .before .beyond .ensures) ∙ c .if2 .left)

@@ -10,7 +10,7 @@ slice-aggregate-make-part : tie.Need-slice-aggregate-make-part
 slice-aggregate-make-part c =
     let slice-known2 = c .before .before in
     let write-head = slice-known2 .before .before in
-    sym (length-take-le 35 (write-head .write-head .last .1 .1 .1 .1 .0) (omega arith))
+    sym (length-take-le 35 (write-head .write-head .last .1 .1 .1 .1 .1 .0) (omega arith))
 
 pub take-part-spec : {M : Type 1} → statement M
 take-part-spec =

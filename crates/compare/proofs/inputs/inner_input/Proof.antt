@@ -15,7 +15,7 @@ no-more input children e = rw e (append-nil input)
 put-input-requires : tie.Need-put-input-requires
 put-input-requires c κs =
     let p = c .before .before .before .pre in
-    ((p .0, p .1, omega (arith, p .2)), (refl, omega (arith, p .2)))
+    (omega (arith, p), (refl, omega (arith, p .2)))
 
 returns : tie.Need-returns
 returns c =

@@ -13,13 +13,13 @@ use Rattle.compare.proofs.whole.compare_all.Tie as tie
 fill-table-requires : tie.Need-fill-table-requires
 fill-table-requires c κs =
     let s = c .before .before .before .before in
-    (sized (s .args .depth) (s .args .leaves .now) (s .args .openings .now) (s .pre), search needs)
+    (sized (s .args .edition) (s .args .depth) (s .args .leaves .now) (s .args .openings .now) (s .pre), search needs)
 
 room : (c : tie.After-table3) → Inside (c .before .before .before .before .before .before .before .args .depth)
     (c .before .before .before .before .before .before .before .args .leaves .now) (c .before .before .fill-table .last .0)
 room c =
     let s = c .before .before .before .before .before .before .before in
-    let z = sized (s .args .depth) (s .args .leaves .now) (s .args .openings .now) (s .pre) in
+    let z = sized (s .args .edition) (s .args .depth) (s .args .leaves .now) (s .args .openings .now) (s .pre) in
     record { most = z .most; few = z .few; wide = search needs }
 
 first-pair-requires : tie.Need-first-pair-requires
@@ -56,7 +56,7 @@ returns c =
     let leaves = s .args .leaves .now in
     let openings = s .args .openings .now in
     let table = fill-table .last .0 in
-    let z = sized n leaves openings (s .pre) in
+    let z = sized (s .args .edition) n leaves openings (s .pre) in
     rw (c .no-pair .ensures) (
       refl,
       agree-answers (s .args .edition) (s .args .statement) n leaves openings _ table z (search needs)
@@ -75,7 +75,7 @@ returns-2 c =
     let leaves = s .args .leaves .now in
     let openings = s .args .openings .now in
     let table = fill-table .last .0 in
-    let z = sized n leaves openings (s .pre) in (
+    let z = sized (s .args .edition) n leaves openings (s .pre) in (
       refl,
       disagree-answers (s .args .edition) (s .args .statement) n leaves openings _ table z (search needs)
           (fill-table .ensures) _ _ _ _ _

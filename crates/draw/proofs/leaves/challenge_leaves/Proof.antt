@@ -4,7 +4,7 @@ use mathlib.Core.Path.{_≡_, refl}
 use mathlib.Core.List.{_++_}
 use Prim.Native.Nat.{_+_, _-_, _≤_}
 use lib.ListN.{length, take, drop}
-use Rattle.base.specs.Limits.{edition, maxChallenges}
+use Rattle.base.specs.Limits.{maxChallenges}
 use Rattle.base.specs.Bytes.{zeros}
 use Rattle.draw.specs.Drawing.{leavesFrom}
 use Rattle.draw.proofs.LeavesOpened.{leaves-none, leaves-more, leaves-all, zeros-more}
@@ -14,16 +14,16 @@ use Rattle.draw.proofs.leaves.challenge_leaves.Statement.{statement}
 use Rattle.draw.proofs.leaves.challenge_leaves.Tie as tie
 
 abbrev Inv-loop : tie.InvT-loop
-Inv-loop depth statement root count leaves₀ i₀ leaves i =
+Inv-loop edition depth statement root count leaves₀ i₀ leaves i =
     (i ≤ count) × (length leaves ≡ maxChallenges) × (take i leaves ++ leavesFrom edition depth statement root (i + 1) (count - i) ≡ leavesFrom edition
     depth statement root 1 count) × (drop i leaves ≡ zeros (maxChallenges - i))
 
 abbrev μ-loop : tie.MeasureT-loop
-μ-loop depth statement root count leaves₀ i₀ leaves i = count - i
+μ-loop edition depth statement root count leaves₀ i₀ leaves i = count - i
 
 loop-holds : tie.Need-loop-holds Inv-loop μ-loop
 loop-holds c =
-    (omega arith, search needs, leaves-none edition (c .args .depth) (c .args .statement) (c .args .root) (c .args .count), refl)
+    (omega arith, search needs, leaves-none (c .args .edition) (c .args .depth) (c .args .statement) (c .args .root) (c .args .count), refl)
 
 add-challenge : tie.Need-add-challenge Inv-loop μ-loop
 add-challenge c = omega (arith, c .before .before .pre)
@@ -41,9 +41,9 @@ loop-again c =
     let l = c .before .before .loop in (
       omega arith,
       search needs,
-      leaves-more edition (a .depth) (a .statement) (a .root) (a .count) (l .leaves) (l .i) _
-          (s .pre .0, s .pre .1) (s .pre .2) (l .inv .1) (c .before .loop-test .taken) (c .challenge .ensures .1) (l .inv .2),
-      zeros-more (l .leaves) (l .i) _ (omega (arith, s .pre .2)) (l .inv .3),
+      leaves-more (a .edition) (a .depth) (a .statement) (a .root) (a .count) (l .leaves) (l .i) _
+          (s .pre .0) (s .pre .1, s .pre .2) (s .pre .3) (l .inv .1) (c .before .loop-test .taken) (c .challenge .ensures .1) (l .inv .2),
+      zeros-more (l .leaves) (l .i) _ (omega (arith, s .pre .3)) (l .inv .3),
     )
 
 returns : tie.Need-returns Inv-loop μ-loop
@@ -51,7 +51,7 @@ returns c =
     let a = c .before .before .args in
     let l = c .before .loop in
     let all : l .i ≡ a .count = omega (arith, l .inv .0, c .loop-test .left) in (
-      leaves-all edition (a .depth) (a .statement) (a .root) (a .count) (l .leaves) (l .i) (l .inv .0) (c .loop-test .left) (l .inv .2),
+      leaves-all (a .edition) (a .depth) (a .statement) (a .root) (a .count) (l .leaves) (l .i) (l .inv .0) (c .loop-test .left) (l .inv .2),
       rw all at (l .inv .3),
     )
 

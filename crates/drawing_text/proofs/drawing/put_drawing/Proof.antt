@@ -27,7 +27,7 @@ returns c =
     let drawing = found-in .before .before in
     let found = found-in .found-in .ensures in
     refused-wrote _ _ _ _ _ _ _ _ _ _ _ _ _ _ _ _ (drawing .drawing .given .1) (refused .before .number .ensures)
-    (found-told _ _ _ (found .0) (found .1 .0) (found .1 .1)) (refused .refused .ensures) (put-line .put-line .ensures)
+    (found-told _ _ _ (found .0) (found .1 .0) (found .1 .1 .0) (found .1 .1 .1)) (refused .refused .ensures) (put-line .put-line .ensures)
 
 returns-2 : tie.Need-returns-2
 returns-2 c =

@@ -15,7 +15,7 @@ returns c =
     let numbers-lines = c .before .before in
     let file-length = numbers-lines .before in
     let a = file-length .before .before .args in
-    known-told (a .file .now) (a .n) (a .t) (a .at) _ (file-length .file-length .ensures) (c .add-line .ensures)
+    known-told (a .file .now) (a .edition) (a .n) (a .t) (a .at) _ (file-length .file-length .ensures) (c .add-line .ensures)
     (numbers-lines .numbers-lines .ensures) (c .before .rest-lines .ensures)
 
 pub known-lines-spec : {M : Type 1} → statement M

@@ -8,7 +8,7 @@ returns : tie.Need-returns
 returns c =
     let add-line = c .before .before .before in
     let fact2 = add-line .before in
-    numbers-told _ _ (add-line .add-line .ensures) (c .add-line2 .ensures) (fact2 .before .before .fact .ensures)
+    numbers-told _ _ _ (add-line .add-line .ensures) (c .add-line2 .ensures) (fact2 .before .before .fact .ensures)
     (fact2 .fact2 .ensures) (c .before .fact3 .ensures)
 
 pub numbers-lines-spec : {M : Type 1} → statement M

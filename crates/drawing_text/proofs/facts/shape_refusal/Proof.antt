@@ -12,13 +12,13 @@ use Rattle.drawing_text.proofs.facts.shape_refusal.Tie as tie
 -- the head that was read
 read : (c : tie.After-head2)
     → let told = c .head2 .given .0 in
-    numbers (told .0) (told .1 .0) (told .1 .1 .0 .at) ≡ headOf (c .before .before .before .before .args .file .now)
+    numbers (told .0) (told .1 .0) (told .1 .1 .0) (told .1 .1 .1 .0 .at) ≡ headOf (c .before .before .before .before .args .file .now)
 read c = ap headAnswer (sym (c .head2 .given .1)) ∙ c .before .before .read-head .ensures
 
 file-length-requires : tie.Need-file-length-requires
 file-length-requires c κs =
     let k = c .before .before .before .before in
-    let w = head-within (k .before .args .file .now) _ _ _ (λ j. k .shared-slice-known .given j .fits) (sym (read (c .before))) in
+    let w = head-within (k .before .args .file .now) _ _ _ _ (λ j. k .shared-slice-known .given j .fits) (sym (read (c .before))) in
     (w .depth .1, w .count .1, w .place)
 
 returns : tie.Need-returns

@@ -9,20 +9,20 @@ use Rattle.file_head.proofs.head.read_count.Tie as tie
 returns : tie.Need-returns
 returns c =
     let a = c .before .before .before .before .before .before .before .args in
-    count-bad (a .bytes .now) (a .n) (a .from .at) _ _
+    count-bad (a .bytes .now) (a .edition) (a .n) (a .from .at) _ _
     (sym (c .before .before .before .before .before .read .ensures) ∙ ap answerOf (c .before .before .before .number2 .given .1))
     (sym (c .before .beyond .ensures) ∙ c .if1 .taken)
 
 returns-2 : tie.Need-returns-2
 returns-2 c =
     let a = c .before .before .before .before .before .args in
-    count-refused (a .bytes .now) (a .n) (a .from .at) _
+    count-refused (a .bytes .now) (a .edition) (a .n) (a .from .at) _
     (sym (c .before .before .before .read .ensures) ∙ ap answerOf (c .before .number .given .1))
 
 returns-3 : tie.Need-returns-3
 returns-3 c =
     let a = c .before .before .before .before .before .before .before .args in
-    count-read (a .bytes .now) (a .n) (a .from .at) _ _
+    count-read (a .bytes .now) (a .edition) (a .n) (a .from .at) _ _
     (sym (c .before .before .before .before .before .read .ensures) ∙ ap answerOf (c .before .before .before .number2 .given .1))
     (sym (c .before .beyond .ensures) ∙ c .if1 .left)
 

@@ -9,14 +9,14 @@ use Rattle.file_head.proofs.head.read_depth.Tie as tie
 returns : tie.Need-returns
 returns c =
     let a = c .before .before .before .before .before .before .before .args in
-    depth-bad (a .bytes .now) (a .from .at) _ _
+    depth-bad (a .bytes .now) (a .edition) (a .from .at) _ _
     (sym (c .before .before .before .before .before .read .ensures) ∙ ap answerOf (c .before .before .before .number2 .given .1))
     (sym (c .before .beyond .ensures) ∙ c .if1 .taken)
 
 returns-2 : tie.Need-returns-2
 returns-2 c =
     let a = c .before .before .before .before .before .args in
-    depth-refused (a .bytes .now) (a .from .at) _ (sym (c .before .before .before .read .ensures) ∙ ap answerOf (c .before .number .given .1))
+    depth-refused (a .bytes .now) (a .edition) (a .from .at) _ (sym (c .before .before .before .read .ensures) ∙ ap answerOf (c .before .number .given .1))
 
 returns-3 : tie.Need-returns-3
 returns-3 c =
@@ -26,7 +26,7 @@ returns-3 c =
     let s = read .before .before in
     let a = s .args in
     c .read-count .ensures
-    ∙ depth-read (a .bytes .now) (a .from .at) _ _ (sym (read .read .ensures) ∙ ap answerOf (number2 .number2 .given .1))
+    ∙ depth-read (a .bytes .now) (a .edition) (a .from .at) _ _ (sym (read .read .ensures) ∙ ap answerOf (number2 .number2 .given .1))
     (sym (beyond .beyond .ensures) ∙ c .before .if1 .left)
 
 pub read-depth-spec : {M : Type 1} → statement M

@@ -3,7 +3,6 @@ use mathlib.Core.Path.{sym, _∙_}
 use native.Mathlib.Omega.{arith}
 use borrow.Author.Needs.{needs}
 use lib.ListN.{length}
-use Rattle.base.specs.Limits.{edition}
 use Rattle.base.proofs.RowLaws.{is-done, refused-number, not-done}
 use Rattle.file_head.proofs.RowLaws.{done-head}
 use Rattle.file_head.proofs.WritingLaws.{head-fits, head-refused, head-written}
@@ -16,15 +15,15 @@ returns c =
     let call = known .before .before in
     let a = call .before .before .args in
     let number = refused-number _ _ _ (call .may-write .ensures) (known .checked .given .1) in
-    (number, head-refused edition (a .statement) (a .root) (a .depth) (a .count) (a .out .now) (not-done (known .checked .given .0 .0) _ number))
+    (number, head-refused (a .edition) (a .statement) (a .root) (a .depth) (a .count) (a .out .now) (not-done (known .checked .given .0 .0) _ number))
 
 put-head-requires : tie.Need-put-head-requires
 put-head-requires c κs =
     let told = c .before in
     let call = told .before .before in
     let a = call .before .before .args in
-    let (depth, count, room) = done-head _ _ _ (is-done _ _ (call .may-write .ensures) (told .enum-told .given .1)) in
-    (omega arith, depth .1, count .1, head-fits (a .depth) (a .count) (length (a .out .now)) room)
+    let (exists, depth, count, room) = done-head _ _ _ _ (is-done _ _ (call .may-write .ensures) (told .enum-told .given .1)) in
+    (omega (arith, exists .1), depth .1, count .1, head-fits (a .depth) (a .count) (length (a .out .now)) room)
 
 returns-2 : tie.Need-returns-2
 returns-2 c =
@@ -32,7 +31,7 @@ returns-2 c =
     let call = told .before .before in
     let a = call .before .before .args in
     let row = is-done _ _ (call .may-write .ensures) (told .enum-told .given .1) in
-    (sym row, c .before .before .put-head .ensures ∙ head-written edition (a .statement) (a .root) (a .depth) (a .count) (a .out .now) row)
+    (sym row, c .before .before .put-head .ensures ∙ head-written (a .edition) (a .statement) (a .root) (a .depth) (a .count) (a .out .now) row)
 
 pub write-head-spec : {M : Type 1} → statement M
 write-head-spec =

@@ -4,10 +4,10 @@ use Rattle.file_vectors.proofs.challenged.all.Statement.{statement}
 use Rattle.file_vectors.proofs.challenged.all.Tie as tie
 
 abbrev Inv-loop : tie.InvT-loop
-Inv-loop statement root depth memory budget count store state₀ i₀ state i = i ≤ count
+Inv-loop edition statement root depth memory budget count store state₀ i₀ state i = i ≤ count
 
 abbrev μ-loop : tie.MeasureT-loop
-μ-loop statement root depth memory budget count store state₀ i₀ state i = count - i
+μ-loop edition statement root depth memory budget count store state₀ i₀ state i = count - i
 
 pub all-spec : {M : Type 1} → statement M
 all-spec =

@@ -4,10 +4,10 @@ use Rattle.file_vectors.proofs.challenged.levels.Statement.{statement}
 use Rattle.file_vectors.proofs.challenged.levels.Tie as tie
 
 abbrev Inv-loop : tie.InvT-loop
-Inv-loop statement depth count memory₀ memory = memory ≤ depth
+Inv-loop edition statement depth count memory₀ memory = memory ≤ depth
 
 abbrev μ-loop : tie.MeasureT-loop
-μ-loop statement depth count memory₀ memory = depth - memory
+μ-loop edition statement depth count memory₀ memory = depth - memory
 
 pub levels-spec : {M : Type 1} → statement M
 levels-spec =

@@ -9,7 +9,9 @@ slice-aggregate-label : tie.Need-slice-aggregate-label
 slice-aggregate-label c = simp length-take (omega arith)
 
 label-requires : tie.Need-label-requires
-label-requires c κs = (omega (arith, c .before .before .before .before .pre .0), simp length-take (omega arith))
+label-requires c κs =
+    let s = c .before .before .before .before in
+    (omega (arith, s .pre .0), (simp length-take (omega arith), s .pre .1 .1))
 
 pub label-leaf-spec : {M : Type 1} → statement M
 label-leaf-spec =

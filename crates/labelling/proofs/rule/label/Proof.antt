@@ -39,7 +39,7 @@ in-front c =
 put-input-requires : tie.Need-put-input-requires
 put-input-requires c κs =
     let s = c .before .before .before in (
-      (s .pre .0 .0, s .pre .0 .1, omega (arith, s .pre .1)),
+      (s .pre .0 .0, s .pre .0 .1, s .pre .1 .1, omega (arith, s .pre .1)),
       (refl, omega (arith, s .pre)),
     )
 

@@ -1,11 +1,12 @@
 -- `opening::Opening::start` meets its contract, by the answer.
 use mathlib.Core.Path.{_≡_, refl, _∙_}
 use mathlib.Core.Bool.{Bool}
-use mathlib.Core.List.{List, _++_}
+use mathlib.Core.List.{List, _∷_, _++_}
 use Prim.Native.Nat.{ℕ}
 use borrow.Author.Tests.{ltb-false}
 use borrow.Author.Needs.{needs}
 use lib.ListN.{length}
+use Rattle.base.specs.Row.{noEdition}
 use Rattle.tree.specs.Store.{storeSize}
 use Rattle.base.proofs.RowLaws.{NoneHolds, none-holds, is-done, is-refused}
 use Rattle.tree.specs.Openings.{openingSize}
@@ -16,11 +17,11 @@ use Rattle.opening.proofs.Opening.start.Statement.{statement}
 use Rattle.opening.proofs.Opening.start.Tie as tie
 
 -- what a row of 0 tells
-start-ready : (n m leaf store out : ℕ) → openRow n m leaf store out ≡ 0 → Ready n m leaf store out
+start-ready : (edition n m leaf store out : ℕ) → openRow edition n m leaf store out ≡ 0 → Ready n m leaf store out
 unfolding openRow
-start-ready n m leaf store out e =
-    let row : List (Bool × ℕ) = startChecks n m store ++ leafChecks n leaf out in
-    let none : NoneHolds row = none-holds row refl e in
+start-ready edition n m leaf store out e =
+    let row : List (Bool × ℕ) = (noEdition edition, 12) ∷ startChecks n m store ++ leafChecks n leaf out in
+    let (_, none) : NoneHolds row = none-holds row refl e in
     record {
       possible = possible n m leaf (none .0) (none .1 .0) (none .1 .1 .1 .0);
       room = ltb-false store (storeSize m) (none .1 .1 .0);
@@ -29,13 +30,13 @@ start-ready n m leaf store out e =
 
 -- the row's answer, and that the opening may be started
 abbrev row : tie.Start → ℕ
-row s = openRow (s .args .depth) (s .args .memory) (s .args .leaf) (length (s .args .store .now)) (length (s .args .out .now))
+row s = openRow (s .args .edition) (s .args .depth) (s .args .memory) (s .args .leaf) (length (s .args .store .now)) (length (s .args .out .now))
 
 done : (c : tie.After-enum-told) → row (c .before .before .before .before .before) ≡ 0
 done c = is-done _ _ (c .before .before .may-start .ensures) (c .enum-told .given .1)
 
 copy-held-requires : tie.Need-copy-held-requires
-copy-held-requires c κs = let r = start-ready _ _ _ _ _ (done (c .before)) in (r .possible, (r .room, r .outRoom))
+copy-held-requires c κs = let r = start-ready _ _ _ _ _ _ (done (c .before)) in (r .possible, (r .room, r .outRoom))
 
 returns : tie.Need-returns
 returns c =
@@ -44,7 +45,7 @@ returns c =
     let s = may-start .before .before .before in
     let a = s .args in
     let (o, w) =
-    start-done (a .statement) (a .depth) (a .memory) (a .leaf) (a .store .now) (a .out .now)
+    start-done (a .edition) (a .statement) (a .depth) (a .memory) (a .leaf) (a .store .now) (a .out .now)
     (done (copy-held .before .before)) in (
       may-start .may-start .ensures,
       (c .new-opening .ensures ∙ o, copy-held .copy-held .ensures ∙ w),
@@ -55,7 +56,7 @@ returns-2 c =
     let a = c .before .before .before .before .before .before .args in
     let s = c .before .before .before .may-start in
     let (o, w) =
-    start-refused (a .statement) (a .depth) (a .memory) (a .leaf) (a .store .now) (a .out .now)
+    start-refused (a .edition) (a .statement) (a .depth) (a .memory) (a .leaf) (a .store .now) (a .out .now)
     (is-refused _ _ _ (s .ensures) (c .before .enum-told2 .given .1)) in
     (s .ensures, (c .new-opening2 .ensures ∙ o, w))
 

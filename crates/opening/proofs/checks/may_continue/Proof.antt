@@ -16,7 +16,7 @@ use Rattle.opening.proofs.checks.may_continue.Tie as tie
 abbrev stuck : tie.Start → Bool
 stuck s =
     let o = s .args .opening in
-    either (impossible (o .depth) (o .memory) (o .made) (nodesAnew (o .depth) (o .memory))) (leb (2 ^ (o .depth)) (o .leaf))
+    either (impossible (o .edition) (o .depth) (o .memory) (o .made) (nodesAnew (o .depth) (o .memory))) (leb (2 ^ (o .depth)) (o .leaf))
 
 can-go-on : (c : tie.Else1) → stuck (c .before .before) ≡ false
 can-go-on c = sym (c .before .not-possible .ensures) ∙ c .if1 .left
@@ -25,7 +25,7 @@ known :
     (c : tie.Else1)
     → Possible (c .before .before .args .opening .depth) (c .before .before .args .opening .memory)
     (c .before .before .args .opening .leaf)
-known c = let o = c .before .before .args .opening in can-be (o .depth) (o .memory) (o .made) (o .leaf) (can-go-on c) .0
+known c = let o = c .before .before .args .opening in can-be (o .edition) (o .depth) (o .memory) (o .made) (o .leaf) (can-go-on c) .0
 
 returns : tie.Need-returns
 unfolding reopenRow

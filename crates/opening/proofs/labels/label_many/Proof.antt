@@ -9,26 +9,26 @@ use lib.Seq.{length-take-le}
 use Rattle.base.specs.Limits.{heldSize}
 use Rattle.machine.proofs.StepLaws.{cost-none, cost-more}
 use Rattle.labelling.specs.Blocks.{mostBlocks}
-use Rattle.opening.specs.Steps.{Open, openingMachine, steps, stepBlocks, blocksOver}
+use Rattle.opening.specs.Steps.{openingOf, Open, openingMachine, steps, stepBlocks, blocksOver}
 use Rattle.opening_places.specs.Possible.{frontSize}
-use Rattle.opening.specs.Names.{openingOf, openOf}
+use Rattle.opening.specs.Names.{openOf}
 use Rattle.opening_places.proofs.AboveLaws.{above-few}
 use Rattle.opening.proofs.StepLaws.{anew-small, steps-none, steps-more, step-blocks}
 use Rattle.opening.proofs.labels.label_many.Statement.{statement}
 use Rattle.opening.proofs.labels.label_many.Tie as tie
 
 abbrev Inv-loop : tie.InvT-loop
-Inv-loop count store out₀ statement depth memory leaf made held₀ bytes len blocks₀ i₀ out held blocks i =
+Inv-loop count store out₀ edition statement depth memory leaf made held₀ bytes len blocks₀ i₀ out held blocks i =
     (i ≤ count)
     ×
-    (steps store i (openOf (openingOf statement depth memory leaf made held₀) out₀)
-    ≡ openOf (openingOf statement depth memory leaf (made + i) held) out)
+    (steps store i (openOf (openingOf edition statement depth memory leaf made held₀) out₀)
+    ≡ openOf (openingOf edition statement depth memory leaf (made + i) held) out)
     × (length held ≡ heldSize) × (length out ≡ length out₀)
-    × (blocks ≡ blocksOver store i (openOf (openingOf statement depth memory leaf made held₀) out₀))
+    × (blocks ≡ blocksOver store i (openOf (openingOf edition statement depth memory leaf made held₀) out₀))
     × (blocks ≤ mostBlocks * i)
 
 abbrev μ-loop : tie.MeasureT-loop
-μ-loop count store out₀ statement depth memory leaf made held₀ bytes len blocks₀ i₀ out held blocks i = count - i
+μ-loop count store out₀ edition statement depth memory leaf made held₀ bytes len blocks₀ i₀ out held blocks i = count - i
 
 -- what was read fits the array
 read-fits : (c : tie.After-labels-above Inv-loop μ-loop) → c .labels-above .result .len ≤ length (c .labels-above .result .bytes)
@@ -40,7 +40,7 @@ read-fits c =
     omega (arith, s .kept, above-few (o .depth) (o .leaf) (o .memory) _ (s .above) (s .inside) (c .labels-above .ensures .0))
 
 loop-holds : tie.Need-loop-holds Inv-loop μ-loop
-loop-holds c = (omega arith, steps-none _ _ _ _ _ _ _ _, search needs, refl, sym (cost-none (openingMachine _) (stepBlocks _) _), omega arith)
+loop-holds c = (omega arith, steps-none _ _ _ _ _ _ _ _ _, search needs, refl, sym (cost-none (openingMachine _) (stepBlocks _) _), omega arith)
 
 add-label-one : tie.Need-add-label-one Inv-loop μ-loop
 add-label-one c =
@@ -92,16 +92,16 @@ loop-again c =
     let l = loop .loop .inv in
     let read = labels-above .labels-above .ensures .1 .0 in (
       omega arith,
-      steps-more _ _ _ _ _ _ _ _ _ _ (l .1) _ read _ _ (e .0) (e .1 .0),
+      steps-more _ _ _ _ _ _ _ _ _ _ _ (l .1) _ read _ _ (e .0) (e .1 .0),
       search needs,
       search needs,
       cost-more (openingMachine _) (stepBlocks _) _ _ _ _ _ (l .1) (l .4)
-          (step-blocks _ _ _ _ _ _ _ _ _ _ (l .1) _ read _ (e .1 .1 .0)),
+          (step-blocks _ _ _ _ _ _ _ _ _ _ _ (l .1) _ read _ (e .1 .1 .0)),
       omega (arith, l .5, e .1 .1 .1),
     )
 
-add-t26 : tie.Need-add-t26 Inv-loop μ-loop
-add-t26 c =
+add-t27 : tie.Need-add-t27 Inv-loop μ-loop
+add-t27 c =
     let entry = c .before .before .before .before .before .before .before .before in
     omega (arith, anew-small (entry .args .opening .depth) (entry .args .opening .memory) (entry .pre .0 .0 .deep))
 
@@ -121,5 +121,5 @@ label-many-spec =
     tie.close
     (tie.spec
     Inv-loop μ-loop (λ c κs. search needs) loop-holds add-label-one array-share-prefix-bytes slice-aggregate-label-one
-    slice-aggregate-label-one-2 label-one-requires add-blocks (λ c. search needs) (λ c. search needs) loop-again add-t26
+    slice-aggregate-label-one-2 label-one-requires add-blocks (λ c. search needs) (λ c. search needs) loop-again add-t27
     same-length returns)

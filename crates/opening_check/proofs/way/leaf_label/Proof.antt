@@ -77,14 +77,12 @@ slice-aggregate-label-2 c = sym (length-take-le _ _ (array-share-prefix-gathered
 label-requires : tie.Need-label-requires Inv-loop μ-loop
 label-requires c κs =
     let entry = c .before .before .before .before .before in
-    let few = few-parents entry in
-    let n = entry .pre .0 in (
-      (omega arith, omega arith, omega arith),
-      omega (
-        arith,
-        length-take-le (32 * ones (entry .args .leaf)) (c .before .before .before .loop .gathered)
-            (array-share-prefix-gathered (c .before)),
-      ),
+    omega (
+      arith,
+      few-parents entry,
+      entry .pre .0,
+      length-take-le (32 * ones (entry .args .leaf)) (c .before .before .before .loop .gathered)
+          (array-share-prefix-gathered (c .before)),
     )
 
 returns : tie.Need-returns Inv-loop μ-loop

@@ -10,7 +10,7 @@ use Rattle.proof_file.proofs.file.check_file.Tie as tie
 
 check-rest-requires : tie.Need-check-rest-requires
 check-rest-requires c κs =
-    let w = head-within (c .before .before .before .before .before .args .bytes .now) _ _ _
+    let w = head-within (c .before .before .before .before .before .args .bytes .now) _ _ _ _
     (λ j. c .before .before .before .before .shared-slice-known .given j .fits)
     (sym (c .before .before .before .read-head .ensures) ∙ ap headAnswer (c .before .head2 .given .1)) in
     omega (arith, w)
@@ -25,7 +25,7 @@ returns-2 : tie.Need-returns-2
 returns-2 c =
     let a = c .before .before .before .before .before .before .args in
     c .check-rest .ensures
-    ∙ rest-checked (a .bytes .now) (a .statement) (a .depth) (a .count) _ _ _
+    ∙ rest-checked (a .bytes .now) (a .statement) (a .depth) (a .count) _ _ _ _
     (sym (c .before .before .before .before .read-head .ensures) ∙ ap headAnswer (c .before .before .head2 .given .1))
 
 pub check-file-spec : {M : Type 1} → statement M

@@ -11,19 +11,19 @@ use Rattle.proof_file.proofs.file.check_rest.Tie as tie
 returns : tie.Need-returns
 returns c =
     let a = c .before .before .before .args in
-    too-short (a .bytes .now) (a .statement) (a .depth) (a .count) (a .n) (a .t) (a .at) _ (c .before .file-length .ensures)
+    too-short (a .bytes .now) (a .statement) (a .depth) (a .count) (a .edition) (a .n) (a .t) (a .at) _ (c .before .file-length .ensures)
     (c .if1 .taken)
 
 returns-2 : tie.Need-returns-2
 returns-2 c =
     let a = c .before .before .before .before .args in
-    too-long (a .bytes .now) (a .statement) (a .depth) (a .count) (a .n) (a .t) (a .at) _
+    too-long (a .bytes .now) (a .statement) (a .depth) (a .count) (a .edition) (a .n) (a .t) (a .at) _
     (c .before .before .file-length .ensures) (c .before .if1 .left) (c .if2 .taken)
 
 returns-3 : tie.Need-returns-3
 returns-3 c =
     let a = c .before .before .before .before .before .before .args in
-    not-wanted (a .bytes .now) (a .statement) (a .depth) (a .count) (a .n) (a .t) (a .at) _
+    not-wanted (a .bytes .now) (a .statement) (a .depth) (a .count) (a .edition) (a .n) (a .t) (a .at) _
     (c .before .before .before .before .file-length .ensures) (c .before .before .before .if1 .left)
     (c .before .before .if2 .left) (sym (c .before .is-wanted .ensures) ∙ not-true _ (c .if3 .taken))
 
@@ -44,7 +44,7 @@ returns-4 : tie.Need-returns-4
 returns-4 c =
     let a = c .before .before .before .before .before .before .before .args in
     c .check-openings .ensures
-    ∙ is-wanted (a .bytes .now) (a .statement) (a .depth) (a .count) (a .n) (a .t) (a .at) _
+    ∙ is-wanted (a .bytes .now) (a .statement) (a .depth) (a .count) (a .edition) (a .n) (a .t) (a .at) _
     (c .before .before .before .before .before .file-length .ensures) (c .before .before .before .before .if1 .left)
     (c .before .before .before .if2 .left) (sym (c .before .before .is-wanted .ensures) ∙ not-false _ (c .before .if3 .left))
 

@@ -9,7 +9,7 @@ use Rattle.proof_file.proofs.place.opening_place.Tie as tie
 
 place-at-requires : tie.Need-place-at-requires
 place-at-requires c κs =
-    let w = head-within (c .before .before .before .before .before .args .bytes .now) _ _ _
+    let w = head-within (c .before .before .before .before .before .args .bytes .now) _ _ _ _
     (λ j. c .before .before .before .before .shared-slice-known .given j .fits)
     (sym (c .before .before .before .read-head .ensures) ∙ ap headAnswer (c .before .head .given .1)) in
     omega (arith, w)

@@ -5,15 +5,15 @@ use Rattle.record_vectors.proofs.written.states.Statement.{statement}
 use Rattle.record_vectors.proofs.written.states.Tie as tie
 
 abbrev Inv-loop : tie.InvT-loop
-Inv-loop depth memory count store₀ run₀ left₀ store run left = length store ≡ 224
+Inv-loop edition depth memory count store₀ run₀ left₀ store run left = length store ≡ 224
 
 abbrev μ-loop : tie.MeasureT-loop
-μ-loop depth memory count store₀ run₀ left₀ store run left = left
+μ-loop edition depth memory count store₀ run₀ left₀ store run left = left
 
 pub states-spec : {M : Type 1} → statement M
 states-spec =
     tie.close
     (tie.spec
-    Inv-loop μ-loop (λ c. search needs) (λ c κs. search needs) (λ c. search needs) (λ c κs. search needs)
-    (λ c. search needs) (λ c κs. search needs) (λ c. search needs) (λ c κs. search needs) (λ c. search needs)
-    (λ c. search needs) (λ c. search needs) (λ c. search needs))
+    Inv-loop μ-loop (λ c. search needs) (λ c κs. search needs) (λ c κs. search needs) (λ c. search needs)
+    (λ c κs. search needs) (λ c. search needs) (λ c κs. search needs) (λ c. search needs) (λ c. search needs)
+    (λ c. search needs) (λ c. search needs))

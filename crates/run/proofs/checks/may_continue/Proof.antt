@@ -12,7 +12,8 @@ returns c = rw (sym (c .before .not-possible .ensures) ∙ c .if1 .taken)
 
 store-short-requires : tie.Need-store-short-requires
 store-short-requires c κs =
-    possible (c .before .before .args .run .depth) (c .before .before .args .run .memory) (c .before .before .args .run .made)
+    let run = c .before .before .args .run in
+    possible (run .edition) (run .depth) (run .memory) (run .made)
     (sym (c .before .not-possible .ensures) ∙ c .if1 .left) .memory
 
 returns-2 : tie.Need-returns-2

@@ -14,28 +14,19 @@ use Rattle.run.proofs.labels.label_many.Statement.{statement}
 use Rattle.run.proofs.labels.label_many.Tie as tie
 
 abbrev Inv-loop : tie.InvT-loop
-Inv-loop count store₀ statement depth memory made held₀ blocks₀ i₀ store held blocks i =
+Inv-loop count store₀ edition statement depth memory made held₀ blocks₀ i₀ store held blocks i =
     (i ≤ count)
-    × (steps i (state statement depth memory made held₀ store₀) ≡ state statement depth memory (made + i) held store)
+    × (steps i (state edition statement depth memory made held₀ store₀) ≡ state edition statement depth memory (made + i) held store)
     × (length held ≡ heldSize)
     × (length store ≡ length store₀)
-    × (blocks ≡ blocksOver i (state statement depth memory made held₀ store₀))
+    × (blocks ≡ blocksOver i (state edition statement depth memory made held₀ store₀))
     × (blocks ≤ mostBlocks * i)
 
 abbrev μ-loop : tie.MeasureT-loop
-μ-loop count store₀ statement depth memory made held₀ blocks₀ i₀ store held blocks i = count - i
+μ-loop count store₀ edition statement depth memory made held₀ blocks₀ i₀ store held blocks i = count - i
 
 loop-holds : tie.Need-loop-holds Inv-loop μ-loop
-loop-holds c =
-    let entry = c .before .before .before in (
-      omega arith,
-      no-step (entry .args .run .statement) (entry .args .run .depth) (entry .args .run .memory) (entry .args .run .made)
-          (entry .args .run .held) (entry .args .store .now),
-      search needs,
-      refl,
-      sym (cost-none runMachine stepBlocks (stamped (entry .args .run) (entry .args .store .now))),
-      omega arith,
-    )
+loop-holds c = (omega arith, no-step _ _ _ _ _ _ _, search needs, refl, sym (cost-none runMachine stepBlocks _), omega arith)
 
 add-label-one : tie.Need-add-label-one Inv-loop μ-loop
 add-label-one c =
@@ -75,7 +66,7 @@ loop-again c =
     let l = loop .loop in
     let o = label-one .label-one in (
       search needs,
-      next-step (stamped (entry .args .run) (entry .args .store .now)) (entry .args .run .statement) (entry .args .run .depth)
+      next-step (stamped (entry .args .run) (entry .args .store .now)) (entry .args .run .edition) (entry .args .run .statement) (entry .args .run .depth)
           (entry .args .run .memory) (entry .args .run .made) (l .i) (l .held) (l .store) (l .inv .1) _ _ (o .ensures .0) (o .ensures .1 .0),
       omega (arith, o .kept, l .inv .2),
       omega (arith, o .kept, l .inv .3),
@@ -84,8 +75,8 @@ loop-again c =
       omega (arith, l .inv .5, o .ensures .1 .1 .1),
     )
 
-add-t19 : tie.Need-add-t19 Inv-loop μ-loop
-add-t19 c =
+add-t20 : tie.Need-add-t20 Inv-loop μ-loop
+add-t20 c =
     let entry = c .before .before .before .before .before in
     omega (arith, entry .pre, small-nodes (entry .args .run .depth) (entry .pre .0))
 
@@ -97,7 +88,7 @@ returns c =
     let entry = c .before .before .before .before .before in
     let l = c .before .loop in
     let (run, store) =
-    all-steps (stamped (entry .args .run) (entry .args .store .now)) (entry .args .run .statement) (entry .args .run .depth)
+    all-steps (stamped (entry .args .run) (entry .args .store .now)) (entry .args .run .edition) (entry .args .run .statement) (entry .args .run .depth)
     (entry .args .run .memory) (entry .args .run .made) (l .i) (l .held) (l .store) (l .inv .1) (entry .args .count) (l .inv .0)
     (c .loop-test .left) in
     let e : l .i ≡ entry .args .count = omega (arith, l .inv .0, c .loop-test .left) in
@@ -108,4 +99,4 @@ label-many-spec =
     tie.close
     (tie.spec
     Inv-loop μ-loop loop-holds add-label-one slice-aggregate-label-one label-one-requires add-blocks
-    (λ c. search needs) (λ c. search needs) loop-again add-t19 same-length returns)
+    (λ c. search needs) (λ c. search needs) loop-again add-t20 same-length returns)

@@ -25,7 +25,7 @@ returns c =
     let s = label-next .before .before .before .before .before in
     let w = label-next .label-next in
     let (held, store) =
-    one-step (s .args .statement) (s .args .depth) (s .args .memory) (s .args .made) (s .args .held .now) (s .args .store .now)
+    one-step (s .args .edition) (s .args .statement) (s .args .depth) (s .args .memory) (s .args .made) (s .args .held .now) (s .args .store .now)
     (w .result .level) (w .result .position) (w .result .label) _ _ (w .ensures .0) (w .ensures .1 .0) (w .ensures .1 .1 .0)
     (keep .keep .ensures) in
     (held, (store, w .ensures .1 .1 .1))

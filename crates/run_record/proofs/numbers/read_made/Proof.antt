@@ -14,7 +14,7 @@ unfolding madeFrom
 returns c =
     let call = c .before .before .before in
     let a = call .before .before .args in
-    checked-refused notRead (readAt (a .bytes .now) (a .from .at) madeGroups) anyNumber 4 (numbers (a .n) (a .m)) _
+    checked-refused notRead (readAt (a .bytes .now) (a .from .at) madeGroups) anyNumber 4 (numbers (a .edition) (a .n) (a .m)) _
     (sym (call .read .ensures) ∙ ap answerOf (c .before .number .given .1))
 
 returns-2 : tie.Need-returns-2
@@ -22,7 +22,7 @@ unfolding madeFrom
 returns-2 c =
     let call = c .before .before .before in
     let a = call .before .before .args in
-    checked-next notRead (readAt (a .bytes .now) (a .from .at) madeGroups) anyNumber 4 (numbers (a .n) (a .m)) _ _
+    checked-next notRead (readAt (a .bytes .now) (a .from .at) madeGroups) anyNumber 4 (numbers (a .edition) (a .n) (a .m)) _ _
     (sym (call .read .ensures) ∙ ap answerOf (c .before .number2 .given .1)) refl
 
 pub read-made-spec : {M : Type 1} → statement M

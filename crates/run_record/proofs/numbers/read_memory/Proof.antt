@@ -14,7 +14,7 @@ unfolding memoryFrom
 returns c =
     let call = c .before .before .before in
     let a = call .before .before .args in
-    checked-refused notRead (readAt (a .bytes .now) (a .from .at) numberGroups) anyNumber 4 (madeFrom (a .bytes .now) (a .n)) _
+    checked-refused notRead (readAt (a .bytes .now) (a .from .at) numberGroups) anyNumber 4 (madeFrom (a .bytes .now) (a .edition) (a .n)) _
     (sym (call .read .ensures) ∙ ap answerOf (c .before .number .given .1))
 
 returns-2 : tie.Need-returns-2
@@ -24,7 +24,7 @@ returns-2 c =
     let call = known .before .before in
     let a = call .before .before .args in
     c .read-made .ensures
-    ∙ checked-next notRead (readAt (a .bytes .now) (a .from .at) numberGroups) anyNumber 4 (madeFrom (a .bytes .now) (a .n)) _ _
+    ∙ checked-next notRead (readAt (a .bytes .now) (a .from .at) numberGroups) anyNumber 4 (madeFrom (a .bytes .now) (a .edition) (a .n)) _ _
     (sym (call .read .ensures) ∙ ap answerOf (known .number2 .given .1)) refl
 
 pub read-memory-spec : {M : Type 1} → statement M

@@ -13,18 +13,18 @@ read : (c : tie.After-known-told2)
     → let known = c .before in
     numbersOf (known .before .before .before .before .args .bytes .now)
     ≡ numbers (known .numbers2 .given .0 .0) (known .numbers2 .given .0 .1 .0) (known .numbers2 .given .0 .1 .1 .0)
-    (known .numbers2 .given .0 .1 .1 .1 .0 .at)
+    (known .numbers2 .given .0 .1 .1 .1 .0) (known .numbers2 .given .0 .1 .1 .1 .1 .0 .at)
 read c = let known = c .before in sym (known .before .before .read-numbers .ensures) ∙ ap numbersAnswer (known .numbers2 .given .1)
 
 may-resume-requires : tie.Need-may-resume-requires
 may-resume-requires c κs =
     let slice = c .before .before .before .before in
-    numbers-within (slice .before .args .bytes .now) _ _ _ _ (λ j. slice .shared-slice-known .given j .fits) (read c)
+    numbers-within (slice .before .args .bytes .now) _ _ _ _ _ (λ j. slice .shared-slice-known .given j .fits) (read c)
 
 run-at-requires : tie.Need-run-at-requires
 run-at-requires c κs =
     let call = c .before .before in
-    let f = fits _ _ _ _ _ (is-done _ _ (call .may-resume .ensures) (c .enum-told .given .1)) in
+    let f = fits _ _ _ _ _ _ (is-done _ _ (call .may-resume .ensures) (c .enum-told .given .1)) in
     (f .possible .depth, f .possible .made-few, f .size)
 
 returns : tie.Need-returns
@@ -42,8 +42,8 @@ returns-2 c =
     let bytes = call .before .before .before .before .before .before .args .bytes .now in
     let number = refused-number _ _ _ (call .may-resume .ensures) (known .outcome .given .1) in
     let so = read (call .before) in (
-      c .refused2 .ensures .0 ∙ number ∙ row-is bytes _ _ _ _ so,
-      c .refused2 .ensures .1 ∙ rest-refused bytes _ _ _ _ so (not-done (known .outcome .given .0 .0) _ number),
+      c .refused2 .ensures .0 ∙ number ∙ row-is bytes _ _ _ _ _ so,
+      c .refused2 .ensures .1 ∙ rest-refused bytes _ _ _ _ _ so (not-done (known .outcome .given .0 .0) _ number),
     )
 
 returns-3 : tie.Need-returns-3
@@ -52,8 +52,8 @@ returns-3 c =
     let call = told .before .before in
     let bytes = call .before .before .before .before .before .before .args .bytes .now in
     let so = read (call .before) in (
-      call .may-resume .ensures ∙ row-is bytes _ _ _ _ so,
-      c .run-at .ensures ∙ rest-done bytes _ _ _ _ so (is-done _ _ (call .may-resume .ensures) (told .enum-told .given .1)),
+      call .may-resume .ensures ∙ row-is bytes _ _ _ _ _ so,
+      c .run-at .ensures ∙ rest-done bytes _ _ _ _ _ so (is-done _ _ (call .may-resume .ensures) (told .enum-told .given .1)),
     )
 
 pub read-record-spec : {M : Type 1} → statement M

@@ -27,7 +27,7 @@ returns c =
     let label-at = put .before .before .before in
     let s = label-at .before .before in
     let a = s .args in
-    places-filled (a .bytes .now) _ _ (a .depth) (a .memory) (a .made) (a .at) (room s) (label-at .label-at .ensures) (put .put .ensures)
+    places-filled (a .bytes .now) _ _ (a .edition) (a .depth) (a .memory) (a .made) (a .at) (room s) (label-at .label-at .ensures) (put .put .ensures)
 
 pub run-at-spec : {M : Type 1} → statement M
 run-at-spec =

@@ -6,7 +6,6 @@ use native.Mathlib.Nat.{zero-add}
 use native.Mathlib.Omega.{arith}
 use borrow.Author.Needs.{needs}
 use lib.ListN.{length, take}
-use Rattle.base.specs.Limits.{edition}
 use Rattle.groups.specs.Groups.{groupsOf}
 use Rattle.run_record.specs.Layout.{numbersSpace, recordNumbers}
 use Rattle.run_record.proofs.NumbersLaws.{numbers-length}
@@ -16,23 +15,25 @@ use Rattle.run_record.proofs.writing.lay_numbers.Tie as tie
 
 -- the length of all four
 size : (c : tie.Start) → let a = c .args in
-    (length (recordNumbers edition (a .depth) (a .memory) (a .made))
-    ≡ length (groupsOf edition) + length (groupsOf (a .depth)) + length (groupsOf (a .memory)) + length (groupsOf (a .made)))
-    × (length (recordNumbers edition (a .depth) (a .memory) (a .made)) ≤ numbersSpace)
+    (length (recordNumbers (a .edition) (a .depth) (a .memory) (a .made))
+    ≡ length (groupsOf (a .edition)) + length (groupsOf (a .depth)) + length (groupsOf (a .memory)) + length (groupsOf (a .made)))
+    × (length (recordNumbers (a .edition) (a .depth) (a .memory) (a .made)) ≤ numbersSpace)
 size c =
-    let a = c .args in
-    (numbers-size (a .depth) (a .memory) (a .made) (c .pre .0) (c .pre .1) (c .pre .2), numbers-length edition (a .depth) (a .memory) (a .made))
+    let a = c .args in (
+      numbers-size (a .edition) (a .depth) (a .memory) (a .made) (c .pre .0) (c .pre .1) (c .pre .2) (c .pre .3),
+      numbers-length (a .edition) (a .depth) (a .memory) (a .made),
+    )
 
 put-number-requires : tie.Need-put-number-requires
 put-number-requires c κs = omega (arith, size (c .before))
 
 -- where the second and the third number end
 second-ends : (c : tie.After-put-number2) → let a = c .before .before .before .before .before .args in
-    c .put-number2 .result ≡ length (groupsOf edition) + length (groupsOf (a .depth))
+    c .put-number2 .result ≡ length (groupsOf (a .edition)) + length (groupsOf (a .depth))
 second-ends c = omega (arith, c .before .before .before .put-number .ensures .0, c .put-number2 .ensures .0)
 
 third-ends : (c : tie.After-put-number3) → let a = c .before .before .before .before .before .before .before .before .args in
-    c .put-number3 .result ≡ length (groupsOf edition) + length (groupsOf (a .depth)) + length (groupsOf (a .memory))
+    c .put-number3 .result ≡ length (groupsOf (a .edition)) + length (groupsOf (a .depth)) + length (groupsOf (a .memory))
 third-ends c = omega (arith, second-ends (c .before .before .before), c .put-number3 .ensures .0)
 
 put-number-requires-2 : tie.Need-put-number-requires-2
@@ -68,10 +69,11 @@ returns c =
     let first = second .before .before .before in
     let s = first .before .before in
     let a = s .args in
-    let count : fourth .put-number4 .result ≡ length (recordNumbers edition (a .depth) (a .memory) (a .made)) =
+    let count : fourth .put-number4 .result ≡ length (recordNumbers (a .edition) (a .depth) (a .memory) (a .made)) =
     omega (arith, size s, third-ends third, fourth .put-number4 .ensures .0) in
     let all =
-    numbers-put (a .depth) (a .memory) (a .made) (s .pre .0) (s .pre .1) (s .pre .2) _ _ _ _ _ _ _ _ (first .put-number .ensures .1)
+    numbers-put (a .edition) (a .depth) (a .memory) (a .made) (s .pre .0) (s .pre .1) (s .pre .2) (s .pre .3) _ _ _ _ _ _ _ _
+    (first .put-number .ensures .1)
     (second .put-number2 .ensures .1) (third .put-number3 .ensures .1) (fourth .put-number4 .ensures .1)
     (first .put-number .ensures .0 ∙ zero-add _) (second .put-number2 .ensures .0) (third .put-number3 .ensures .0) in
     (ap (λ (l : List ℕ). take (fourth .put-number4 .result) l) all ∙ front-written _ _ _ count, count)

@@ -8,7 +8,7 @@ use borrow.Author.Needs.{needs}
 use lib.ListN.{length, take, length-take}
 use lib.Seq.{length-take-le}
 use Rattle.base.specs.Bytes.{written}
-use Rattle.base.specs.Limits.{edition, heldSize}
+use Rattle.base.specs.Limits.{heldSize}
 use Rattle.run.proofs.RowLaws.{Possible, possible}
 use Rattle.run_record.specs.Layout.{numbersSpace, recordOf, noSuchRun}
 use Rattle.run_record.proofs.HeldCounts.{held-fits}
@@ -24,14 +24,14 @@ returns c =
     (done .row, (done .bytes, done .output))
 
 -- the run can be
-can-be : (c : tie.Else1) → let r = c .before .before .before .args .run in noSuchRun (r .depth) (r .memory) (r .made) ≡ false
+can-be : (c : tie.Else1) → let r = c .before .before .before .args .run in noSuchRun (r .edition) (r .depth) (r .memory) (r .made) ≡ false
 can-be c = sym (c .before .not-possible .ensures) ∙ c .if1 .left
 
-bounds : (c : tie.Else1) → let r = c .before .before .before .args .run in Possible (r .depth) (r .memory) (r .made)
-bounds c = let r = c .before .before .before .args .run in possible (r .depth) (r .memory) (r .made) (can-be c)
+bounds : (c : tie.Else1) → let r = c .before .before .before .args .run in Possible (r .edition) (r .depth) (r .memory) (r .made)
+bounds c = let r = c .before .before .before .args .run in possible (r .edition) (r .depth) (r .memory) (r .made) (can-be c)
 
 lay-numbers-requires : tie.Need-lay-numbers-requires
-lay-numbers-requires c κs = let b = bounds c in (b .depth, b .memory, b .made-few)
+lay-numbers-requires c κs = let b = bounds c in (b .exists .1, b .depth, b .memory, b .made-few)
 
 held-length-requires : tie.Need-held-length-requires
 held-length-requires c κs = let b = bounds (c .before) in (b .depth, b .made-few)
@@ -53,7 +53,7 @@ sizes c =
     let b = bounds (c .before .before) in
     let fits = held-fits (r .depth) (r .made) (b .depth) (b .made-few) in
     record {
-      numbers = omega (arith, lay .ensures .1, numbers-length edition (r .depth) (r .memory) (r .made));
+      numbers = omega (arith, lay .ensures .1, numbers-length (r .edition) (r .depth) (r .memory) (r .made));
       labels = omega (arith, c .held-length .ensures, fits);
       whole = rw (lay .ensures .1, c .held-length .ensures) (sym (record-size r (arrays s .0) (omega (arith, arrays s .1, fits))));
     }

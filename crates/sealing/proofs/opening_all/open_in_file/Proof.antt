@@ -29,15 +29,15 @@ sub-from-2 c = begins c .0
 part-open-leaf-end : tie.Need-part-open-leaf-end
 part-open-leaf-end c =
     let a = c .before .before .before .before in
-    part-inside (a .args .depth) (a .args .memory) (a .args .count) (a .args .i) (a .args .store .now) (a .args .file .now) (a .pre) _ (begins c .1)
+    part-inside (a .args .edition) (a .args .depth) (a .args .memory) (a .args .count) (a .args .i) (a .args .store .now) (a .args .file .now) (a .pre) _ (begins c .1)
 
 open-leaf-requires : tie.Need-open-leaf-requires
 open-leaf-requires c κs =
     let size = c .before in
     let a = size .before .before .before .before in
-    part-openable (a .args .depth) (a .args .memory) (a .args .count) (a .args .i) (a .args .store .now) (a .args .file .now) (a .pre) _
+    part-openable (a .args .edition) (a .args .depth) (a .args .memory) (a .args .count) (a .args .i) (a .args .store .now) (a .args .file .now) (a .pre) _
     (begins size .1) _
-    (rw (size .before .challenge .ensures .1) (challenged-inside (a .args .statement) (a .args .root) (a .args .depth) _ (a .pre .depth .1)))
+    (rw (size .before .challenge .ensures .1) (challenged-inside (a .args .edition) (a .args .statement) (a .args .root) (a .args .depth) _ (a .pre .depth .1)))
 
 returns : tie.Need-returns
 returns c =
@@ -45,7 +45,7 @@ returns c =
     let size = opened .before .before in
     let a = size .before .before .before .before in
     λ holds.
-    part-opened (a .args .depth) (a .args .memory) (a .args .count) (a .args .i) (a .args .store .now) (a .args .file .now) (a .pre) _
+    part-opened (a .args .edition) (a .args .depth) (a .args .memory) (a .args .count) (a .args .i) (a .args .store .now) (a .args .file .now) (a .pre) _
     (begins size .1) (a .args .statement) (a .args .root) _ (size .before .challenge .ensures .1) _ (opened .open-leaf .ensures holds)
 
 pub open-in-file-spec : {M : Type 1} → statement M

@@ -12,14 +12,14 @@ use Rattle.sealing.proofs.opening_all.open_leaf.Statement.{statement}
 use Rattle.sealing.proofs.opening_all.open_leaf.Tie as tie
 
 abbrev Inv-loop : tie.InvT-loop
-Inv-loop depth memory leaf store part₀ state₀ current₀ left₀ part state current left =
+Inv-loop edition depth memory leaf store part₀ state₀ current₀ left₀ part state current left =
     (left ≤ nodesAnew depth memory)
     × (state ≡ steps store (nodesAnew depth memory - left) (openOf state₀ part₀) .opening)
     × (part ≡ steps store (nodesAnew depth memory - left) (openOf state₀ part₀) .out)
     × (length part ≡ length part₀)
 
 abbrev μ-loop : tie.MeasureT-loop
-μ-loop depth memory leaf store part₀ state₀ current₀ left₀ part state current left = left
+μ-loop edition depth memory leaf store part₀ state₀ current₀ left₀ part state current left = left
 
 -- the start of the opening, from a turn's test, and the function's
 abbrev begun : tie.At-loop Inv-loop μ-loop → tie.After-start Inv-loop μ-loop
@@ -40,7 +40,7 @@ loop-holds c =
     let start = c .before .before .before .before in
     let a = entry start in
     let first =
-    first-opening (a .args .statement) (a .args .depth) (a .args .memory) (a .args .leaf) (a .args .store .now) (a .args .part .now) (a .pre) _ _
+    first-opening (a .args .edition) (a .args .statement) (a .args .depth) (a .args .memory) (a .args .leaf) (a .args .store .now) (a .args .part .now) (a .pre) _ _
     (start .start .ensures .1 .0) (start .start .ensures .1 .1) (c .nodes-anew .result) (c .nodes-anew .ensures) in
     (omega (arith, c .nodes-anew .ensures), first .0, first .1, refl)
 
@@ -61,9 +61,9 @@ loop-again c =
     let start = begun loop in
     let a = entry start in
     let next =
-    next-opening (a .args .statement) (a .args .depth) (a .args .memory) (a .args .leaf) (a .args .store .now) (a .args .part .now) (a .pre) _ _
+    next-opening (a .args .edition) (a .args .statement) (a .args .depth) (a .args .memory) (a .args .leaf) (a .args .store .now) (a .args .part .now) (a .pre) _ _
     (start .start .ensures .1 .0) (start .start .ensures .1 .1) (l .left) _ _ (l .inv .1) (l .inv .2)
-    (start .start .kept .1 .1 .1 .1 .1 .0) (l .inv .0) (smaller .result) (omega (arith, smaller .ensures)) _ _
+    (start .start .kept .1 .1 .1 .1 .1 .1 .0) (l .inv .0) (smaller .result) (omega (arith, smaller .ensures)) _ _
     (call .advance .ensures .1 .1 .1 .0) (call .advance .ensures .1 .1 .1 .1) in
     (omega (arith, l .inv .0), next .0, next .1, search needs)
 
@@ -72,7 +72,7 @@ returns c =
     let l = c .before .loop in
     let start = begun (c .before) in
     let a = entry start in
-    last-opening (a .args .statement) (a .args .depth) (a .args .memory) (a .args .leaf) (a .args .store .now) (a .args .part .now) (a .pre) _ _
+    last-opening (a .args .edition) (a .args .statement) (a .args .depth) (a .args .memory) (a .args .leaf) (a .args .store .now) (a .args .part .now) (a .pre) _ _
     (start .start .ensures .1 .0) (start .start .ensures .1 .1) (l .left) _ _ (l .inv .1) (l .inv .2) (omega (arith, c .loop-test .left))
 
 pub open-leaf-spec : {M : Type 1} → statement M

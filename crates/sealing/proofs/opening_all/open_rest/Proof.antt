@@ -11,7 +11,7 @@ use Rattle.sealing.proofs.opening_all.open_rest.Tie as tie
 abbrev Inv-loop : tie.InvT-loop
 Inv-loop run root count done store file₀ proof statement current₀ i₀ file current i =
     (i ≤ count) × (length file ≡ length file₀)
-    × LaidTo (run .statement) root (run .depth) (run .memory) count done store file₀ i file
+    × LaidTo (run .edition) (run .statement) root (run .depth) (run .memory) count done store file₀ i file
 
 abbrev μ-loop : tie.MeasureT-loop
 μ-loop run root count done store file₀ proof statement current₀ i₀ file current i = count - i
@@ -35,7 +35,7 @@ open-in-file-requires c κs =
     let a = entry (turn .before) in
     let run = a .args .run in
     rw (l .inv .1)
-    (room-for (run .depth) (run .memory) (a .args .count) (length (a .args .store .now)) (length (a .args .file .now)) _ (a .pre .0)
+    (room-for (run .edition) (run .depth) (run .memory) (a .args .count) (length (a .args .store .now)) (length (a .args .file .now)) _ (a .pre .0)
     (omega arith) (omega (arith, turn .loop-test .taken)))
 
 save-opening-requires : tie.Need-save-opening-requires Inv-loop μ-loop
@@ -53,8 +53,8 @@ loop-again c =
     let run = a .args .run in (
       omega (arith, turn .loop-test .taken),
       search needs,
-      laid-more (run .statement) (a .args .root) (run .depth) (run .memory) (a .args .count) (a .args .done) (a .args .store .now) (a .args .file .now)
-          (statement-size a) (a .pre .0 .fileFits) (l .i) (turn .loop-test .taken) _ _ (l .inv .2) (call .open-in-file .ensures),
+      laid-more (run .edition) (run .statement) (a .args .root) (run .depth) (run .memory) (a .args .count) (a .args .done) (a .args .store .now) (a .args .file .now)
+          (statement-size a) (a .pre .0 .exists) (a .pre .0 .fileFits) (l .i) (turn .loop-test .taken) _ _ (l .inv .2) (call .open-in-file .ensures),
     )
 
 returns : tie.Need-returns Inv-loop μ-loop
@@ -62,7 +62,7 @@ returns c =
     let l = c .before .loop in
     let a = entry (c .before) in
     let run = a .args .run in
-    laid-whole (run .statement) (a .args .root) (run .depth) (run .memory) (a .args .count) (a .args .done) (a .args .store .now)
+    laid-whole (run .edition) (run .statement) (a .args .root) (run .depth) (run .memory) (a .args .count) (a .args .done) (a .args .store .now)
     (a .args .file .now) (l .i) _ (omega (arith, l .inv .0, c .loop-test .left)) (l .inv .2)
 
 pub open-rest-spec : {M : Type 1} → statement M

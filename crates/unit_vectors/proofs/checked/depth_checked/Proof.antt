@@ -4,10 +4,10 @@ use Rattle.unit_vectors.proofs.checked.depth_checked.Statement.{stateme
 use Rattle.unit_vectors.proofs.checked.depth_checked.Tie as tie
 
 abbrev Inv-loop : tie.InvT-loop
-Inv-loop n leaves memory₀ memory = memory ≤ n
+Inv-loop edition other n leaves memory₀ memory = memory ≤ n
 
 abbrev μ-loop : tie.MeasureT-loop
-μ-loop n leaves memory₀ memory = n - memory
+μ-loop edition other n leaves memory₀ memory = n - memory
 
 pub depth-checked-spec : {M : Type 1} → statement M
 depth-checked-spec =

@@ -4,10 +4,10 @@ use Rattle.unit_vectors.proofs.checked.each_changed.Statement.{statemen
 use Rattle.unit_vectors.proofs.checked.each_changed.Tie as tie
 
 abbrev Inv-loop : tie.InvT-loop
-Inv-loop statement depth leaf root out size at₀ at = at ≤ 300
+Inv-loop edition statement depth leaf root out size at₀ at = at ≤ 300
 
 abbrev μ-loop : tie.MeasureT-loop
-μ-loop statement depth leaf root out size at₀ at = 300 - at
+μ-loop edition statement depth leaf root out size at₀ at = 300 - at
 
 pub each-changed-spec : {M : Type 1} → statement M
 each-changed-spec =

@@ -4,10 +4,10 @@ use Rattle.unit_vectors.proofs.checked.leaves_checked.Statement.{statem
 use Rattle.unit_vectors.proofs.checked.leaves_checked.Tie as tie
 
 abbrev Inv-loop : tie.InvT-loop
-Inv-loop statement depth memory leaves root store leaf₀ leaf = leaf ≤ leaves
+Inv-loop edition other statement depth memory leaves root store leaf₀ leaf = leaf ≤ leaves
 
 abbrev μ-loop : tie.MeasureT-loop
-μ-loop statement depth memory leaves root store leaf₀ leaf = leaves - leaf
+μ-loop edition other statement depth memory leaves root store leaf₀ leaf = leaves - leaf
 
 pub leaves-checked-spec : {M : Type 1} → statement M
 leaves-checked-spec =

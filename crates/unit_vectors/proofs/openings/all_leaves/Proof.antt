@@ -4,10 +4,10 @@ use Rattle.unit_vectors.proofs.openings.all_leaves.Statement.{statement
 use Rattle.unit_vectors.proofs.openings.all_leaves.Tie as tie
 
 abbrev Inv-loop : tie.InvT-loop
-Inv-loop statement depth memory budget leaves store state₀ leaf₀ state leaf = Unit
+Inv-loop edition statement depth memory budget leaves store state₀ leaf₀ state leaf = Unit
 
 abbrev μ-loop : tie.MeasureT-loop
-μ-loop statement depth memory budget leaves store state₀ leaf₀ state leaf = leaves - leaf
+μ-loop edition statement depth memory budget leaves store state₀ leaf₀ state leaf = leaves - leaf
 
 pub all-leaves-spec : {M : Type 1} → statement M
 all-leaves-spec =

@@ -4,10 +4,10 @@ use Rattle.unit_vectors.proofs.openings.depth.Statement.{statement}
 use Rattle.unit_vectors.proofs.openings.depth.Tie as tie
 
 abbrev Inv-loop : tie.InvT-loop
-Inv-loop n leaves memory₀ memory = (memory ≤ n)
+Inv-loop edition n leaves memory₀ memory = (memory ≤ n)
 
 abbrev μ-loop : tie.MeasureT-loop
-μ-loop n leaves memory₀ memory = n - memory
+μ-loop edition n leaves memory₀ memory = n - memory
 
 pub depth-spec : {M : Type 1} → statement M
 depth-spec =

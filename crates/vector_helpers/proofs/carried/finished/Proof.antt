@@ -5,10 +5,10 @@ use Rattle.vector_helpers.proofs.carried.finished.Statement.{statement}
 use Rattle.vector_helpers.proofs.carried.finished.Tie as tie
 
 returns : tie.Need-returns
-returns c = c .before .advance .ensures .1 .1 .1 .1 ∙ rw (c .before .before .before .before .start .ensures .1)
+returns c = c .before .advance .ensures .1 .1 .1 .1 ∙ rw (c .before .before .before .new-run .ensures)
 
 pub finished-spec : {M : Type 1} → statement M
 finished-spec =
     tie.close
     (tie.spec
-    (λ c. search needs) (λ c κs. search needs) (λ c. search needs) (λ c κs. search needs) returns)
+    (λ c κs. search needs) (λ c. search needs) (λ c κs. search needs) returns)

@@ -19,10 +19,10 @@ returns c =
     let space = store-space .store-space .ensures in
     let run = run-whole .run-whole .ensures in
     let root = label-at .label-at in
-    let store = run ∙ ap (λ (s : List ℕ). wholeRun (a .statement) (a .depth) (a .memory) s) space in (
+    let store = run ∙ ap (λ (s : List ℕ). wholeRun (a .edition) (a .statement) (a .depth) (a .memory) s) space in (
       root .ensures ∙ ap (λ (s : List ℕ). take 32 s) store,
       write-whole .write-whole .ensures
-          ∙ ap (λ (s : List ℕ). wholeFile (a .statement) (root .result) (a .depth) (a .memory) (a .count) s (a .file .now)) store,
+          ∙ ap (λ (s : List ℕ). wholeFile (a .edition) (a .statement) (root .result) (a .depth) (a .memory) (a .count) s (a .file .now)) store,
     )
 
 pub write-file-spec : {M : Type 1} → statement M

@@ -11,7 +11,7 @@ returns c =
     let s = start .before .before .before .before in
     let a = s .args in
     let started = start .start .ensures .1 in
-    file-whole (a .statement) (a .root) (a .depth) (a .memory) (a .count) (a .store .now) (a .file .now) _ _ _ (started .0) (started .1)
+    file-whole (a .edition) (a .statement) (a .root) (a .depth) (a .memory) (a .count) (a .store .now) (a .file .now) _ _ _ (started .0) (started .1)
     (advance .advance .ensures .1 .1 .1 .1)
 
 pub write-whole-spec : {M : Type 1} → statement M

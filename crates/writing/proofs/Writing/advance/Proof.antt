@@ -33,6 +33,7 @@ rewrite-ready w store file e =
       record {
         room =
             record {
+              exists = known .exists;
               depth = known .depth;
               memory = known .memory;
               storeFits = ltb-false store (storeSize (w .opening .memory)) (none .1 .0);

@@ -19,7 +19,7 @@ use Rattle.writing.proofs.checks.state_outside.Tie as tie
 abbrev stuck : tie.Start → Bool
 stuck s =
     let o = s .args .writing .opening in
-    impossible (o .depth) (o .memory) (o .made) (nodesAnew (o .depth) (o .memory))
+    impossible (o .edition) (o .depth) (o .memory) (o .made) (nodesAnew (o .depth) (o .memory))
 
 abbrev beyondLeaf : tie.Start → Bool
 beyondLeaf s = leb (2 ^ (s .args .writing .opening .depth)) (s .args .writing .opening .leaf)
@@ -61,7 +61,7 @@ returns-3 c =
 nodes-anew-requires : tie.Need-nodes-anew-requires
 nodes-anew-requires c κs =
     let o = c .before .before .before .before .before .before .before .args .writing .opening in
-    let (p, k) = can-be (o .depth) (o .memory) (o .made) (o .leaf) (can-be-so (c .before .before .before .before)) in
+    let (p, k) = can-be (o .edition) (o .depth) (o .memory) (o .made) (o .leaf) (can-be-so (c .before .before .before .before)) in
     (p .deep, p .above)
 
 returns-4 : tie.Need-returns-4

@@ -14,12 +14,12 @@ use Rattle.writing.proofs.FollowLaws.{Following, following-none, test-a
 use Rattle.writing.proofs.labels.follow.Tie as tie
 
 abbrev Inv-loop : tie.InvT-loop
-Inv-loop store file₀ root count number₀ opening₀ statement depth memory anew file number opening =
+Inv-loop store file₀ root count number₀ opening₀ edition statement depth memory anew file number opening =
     Following store file₀ (writingOf root count number₀ opening₀) file (writingOf root count number opening)
     × (length file ≡ length file₀)
 
 abbrev μ-loop : tie.MeasureT-loop
-μ-loop store file₀ root count number₀ opening₀ statement depth memory anew file number opening = count - number
+μ-loop store file₀ root count number₀ opening₀ edition statement depth memory anew file number opening = count - number
 
 -- the writing under way, and the answer of the test
 abbrev first : tie.After-nodes-anew Inv-loop μ-loop → Writing

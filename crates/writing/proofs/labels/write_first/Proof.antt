@@ -11,9 +11,9 @@ follow-requires c κs =
     let h = b .before .before .before .before in
     let s = h .before .before .before .before in
     let a = s .args in
-    first-ready (a .statement) (a .root) (a .depth) (a .memory) (a .count) (a .store .now) (a .file .now) _ (s .pre)
-    (h .write-head .ensures .1) _ (b .begin .last .1 .1 .1 .1 .1 .1 .1 .0) (b .begin .ensures .0) (b .begin .ensures .1)
-    (b .begin .kept .1 .1 .1 .1 .1 .1 .1 .0 ∙ h .write-head .kept .1 .1 .1 .1 .0)
+    first-ready (a .edition) (a .statement) (a .root) (a .depth) (a .memory) (a .count) (a .store .now) (a .file .now) _ (s .pre)
+    (h .write-head .ensures .1) _ (b .begin .last .1 .1 .1 .1 .1 .1 .1 .1 .0) (b .begin .ensures .0) (b .begin .ensures .1)
+    (b .begin .kept .1 .1 .1 .1 .1 .1 .1 .1 .0 ∙ h .write-head .kept .1 .1 .1 .1 .1 .0)
 
 returns : tie.Need-returns
 returns c =
@@ -22,7 +22,7 @@ returns c =
     let h = b .before .before .before .before in
     let s = h .before .before .before .before in
     let a = s .args in
-    new-written (a .statement) (a .root) (a .depth) (a .memory) (a .count) (a .store .now) (a .file .now) _ (s .pre)
+    new-written (a .edition) (a .statement) (a .root) (a .depth) (a .memory) (a .count) (a .store .now) (a .file .now) _ (s .pre)
     (h .write-head .ensures .1) _ _ (b .begin .ensures .0) (b .begin .ensures .1) _ _ (f .follow .ensures .0)
     (f .follow .ensures .1 .0)
 

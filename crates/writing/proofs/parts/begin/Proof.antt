@@ -28,12 +28,12 @@ returns c =
     let a = s .args in
     let p = c .before .before .before .before .before in
     let o = c .before .before .before .start in (
-      begun-opening (a .statement) (a .root) (a .depth) (a .memory) (a .count) (a .number) (a .store .now) (a .file .now) (s .pre)
+      begun-opening (a .edition) (a .statement) (a .root) (a .depth) (a .memory) (a .count) (a .number) (a .store .now) (a .file .now) (s .pre)
           (p .before .challenge .result .leaf) (p .part-start .result) (p .before .challenge .ensures .1) (p .part-start .ensures .0) _ refl _ _
-          (o .ensures .1 .0) (o .ensures .1 .1) (o .kept .1 .1 .1 .1 .1 .0),
-      begun-file (a .statement) (a .root) (a .depth) (a .memory) (a .count) (a .number) (a .store .now) (a .file .now) (s .pre)
+          (o .ensures .1 .0) (o .ensures .1 .1) (o .kept .1 .1 .1 .1 .1 .1 .0),
+      begun-file (a .edition) (a .statement) (a .root) (a .depth) (a .memory) (a .count) (a .number) (a .store .now) (a .file .now) (s .pre)
           (p .before .challenge .result .leaf) (p .part-start .result) (p .before .challenge .ensures .1) (p .part-start .ensures .0) _ refl _ _
-          (o .ensures .1 .0) (o .ensures .1 .1) (o .kept .1 .1 .1 .1 .1 .0),
+          (o .ensures .1 .0) (o .ensures .1 .1) (o .kept .1 .1 .1 .1 .1 .1 .0),
     )
 
 pub begin-spec : {M : Type 1} → statement M
