@@ -42,7 +42,8 @@ enum mastdock_refusal {
     MASTDOCK_MEMORY_LEVEL = 2,    /* memory level m over min(n, 14) */
     MASTDOCK_SHORT_STORE = 3,     /* store short */
     MASTDOCK_STATE = 4,           /* a state that cannot be continued: an edition that does not exist, n not 1..40, m over min(n, 14), a
-                                     leaf of 2^n or more, or more labels made than there are to make; or a record of such numbers */
+                                     leaf of 2^n or more, or more labels made than there are to make; or a record
+                                     whose numbers after the edition are such */
     MASTDOCK_TOO_MANY_BYTES = 5,  /* over 2^61 - 1 bytes to hash in all */
     MASTDOCK_LEAF_POSITION = 6,   /* a leaf's position 2^n or more */
     MASTDOCK_SHORT_OUTPUT = 7,    /* output short */
@@ -356,8 +357,8 @@ typedef struct mastdock_drawn {
 } mastdock_drawn;
 
 /* Draws the chain of a file: checks it as mastdock_check_file does; then, if two of its openings disagree, names the first pair and
- * leaves the list; else writes the chain as mastdock_plan does. Holds a table of 512,000 bytes on the stack: its thread wants
- * 0.6 MB. Refusals: those of mastdock_check_file; then, if no pair disagrees, 16. */
+ * leaves the list, and the two inputs are in the order of the file's edition; else writes the chain as mastdock_plan does. Holds a table
+ * of 512,000 bytes on the stack: its thread wants 0.6 MB. Refusals: those of mastdock_check_file; then, if no pair disagrees, 16. */
 mastdock_drawn mastdock_draw(const uint8_t *file, size_t file_len, const uint8_t statement[32], uint64_t depth, uint64_t count,
                              uint64_t *list, size_t list_len);
 
@@ -367,7 +368,7 @@ mastdock_drawn mastdock_draw(const uint8_t *file, size_t file_len, const uint8_t
 
 /* The layout that the library was compiled with. Since W-207 five answers have `blocks` and are 8 bytes longer; since W-206 runs, openings,
  * all that holds one of them, and mastdock_head have `edition` and are 8 bytes longer, and six calls take an edition first. A program
- * compiled with an older header still links and must be compiled again. */
+ * compiled with an older header still links; it must be given the editions and compiled again. */
 #ifdef __cplusplus
 #define MASTDOCK_ASSERT(condition) static_assert(condition, #condition)
 #else

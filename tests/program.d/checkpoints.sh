@@ -108,7 +108,7 @@ for _ in 1 2 3 4 5 6; do
     ends_right "openings damaged at byte $drawn of $size" 16
   else
     check "openings damaged at byte $drawn of $size: status 1" has_status 1
-    check "openings damaged at byte $drawn of $size: one line" has_one_complaint
+    check "openings damaged at byte $drawn of $size: one line on the checkpoint" is_same "$(grep -c 'p\.run: ' "$err")" 1
     check "openings damaged at byte $drawn of $size: unchanged" is_same "$(sum_of p.run)" "$sum"
   fi
 done

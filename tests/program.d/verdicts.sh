@@ -20,7 +20,7 @@ check "info tells the statement" has_line "$out" "$(sha256sum <report.txt | cut 
 if command -v python3 >/dev/null; then
   model='import sys, mastdock as m, scenarios as s
 n = int(sys.argv[1])
-tree = m.Tree(m.sha(sys.stdin.buffer.read()), n)
+tree = m.Tree(m.NEW_EDITION, m.sha(sys.stdin.buffer.read()), n)
 sys.stdout.buffer.write(tree.file(150))
 open(sys.argv[2], "w").write(s.facts(tree.statement, tree.root, n, 150, min(n, 14)))'
   for depth in 1 12 16 18; do

@@ -27,8 +27,8 @@ pub record RightAlone (edition : ℕ) (statement : List ℕ) (n leaf : ℕ) (roo
 abbrev pub nth : List (List ℕ) → ℕ → List ℕ
 nth openings i = getD openings (i - 1) []
 
--- A proof of an edition that exists, of depth n with t challenges for a statement: the bytes are the file over a root and t openings, of which each is
--- right at the leaf that its challenge picks.
+-- A proof of an edition that exists, of depth n with t challenges for a statement: the bytes are the file over a root and t openings, of
+-- which each is right at the leaf that its challenge picks.
 pub record IsProof (edition : ℕ) (bytes statement : List ℕ) (n t : ℕ) : Type 0 where
   pub exists : IsEdition edition
   pub depth : IsDepth n

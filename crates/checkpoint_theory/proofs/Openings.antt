@@ -51,7 +51,8 @@ module _ (edition : ℕ) (statement root : List ℕ) (n : ℕ) (bytes : List ℕ
       taken-by (isRight edition statement root n bytes (done + 1)) done i (rightAfter edition statement root n bytes (done + 1) left) refl low high
       (after-right (done + 1) left i)
 
-  by-range : (t : Bool) (i count : ℕ) → 1 ≤ i → i ≤ pick t 0 (rightAfter edition statement root n bytes 0 count) → isRight edition statement root n bytes i ≡ true
+  by-range : (t : Bool) (i count : ℕ) → 1 ≤ i → i ≤ pick t 0 (rightAfter edition statement root n bytes 0 count)
+      → isRight edition statement root n bytes i ≡ true
   by-range true i count low high = absurd (omega arith)
   by-range false i count low high = after-right 0 count i low (omega arith)
 
@@ -136,7 +137,8 @@ module _ (run : Run) (store : List ℕ) (way : OnTheWay run store) (all : run .m
       let n : ℕ = run .depth in
       ap (λ (s : Stamped). take 32 (s .run .held)) (way .reached)
       ∙ ap (λ (k : ℕ). take 32 (steps k (atStart (run .edition) (run .statement) n (run .memory) (way .first)) .run .held)) all
-      ∙ finished-root (run .edition) (run .statement) n (run .memory) (way .first) (levels-fit (run .edition) n (run .memory) (length (way .first)) (way .startable))
+      ∙ finished-root (run .edition) (run .statement) n (run .memory) (way .first)
+      (levels-fit (run .edition) n (run .memory) (length (way .first)) (way .startable))
 
   pub openings-back : (t q : ℕ) → IsCount t → q ≤ t → (cut : List ℕ) → length cut < openingSize (run .depth)
       → openingsTaken (run .edition) (run .statement) (take 32 (run .held)) (run .depth) t

@@ -176,7 +176,8 @@ module _ (run : Run) (store : List ℕ) (way : OnTheWay run store) where
       let n : ℕ = run .depth in
       let same : steps (run .made) start .store ≡ store = sym (ap (λ (s : Stamped). s .store) (way .reached)) in
       let there : steps (run .made) start .store ≡ storeAfter (run .edition) (run .statement) n (run .memory) (run .made) (way .first) =
-      ap (λ (s : Stamped). s .store) (run-reached (run .edition) (run .statement) n (run .memory) (way .first) (way .startable .shallow) (run .made) (way .few)) in
+      ap (λ (s : Stamped). s .store)
+      (run-reached (run .edition) (run .statement) n (run .memory) (way .first) (way .startable .shallow) (run .made) (way .few)) in
       sym (store-length (run .edition) (run .statement) n (run .memory) (way .first) (way .startable .enough) (run .made) (way .few))
       ∙ ap length (sym there ∙ same)
       ∙ way .whole

@@ -10,7 +10,6 @@ use Rattle.base.specs.Bytes.{bigEndian}
 use Rattle.base.specs.Limits.{maxEdition, IsCount}
 use Rattle.base.specs.Row.{noEdition}
 use Rattle.machine.specs.Calls.{total}
-use Rattle.groups.specs.Groups.{groups}
 use Rattle.groups.proofs.Steps.{groups-last}
 use Rattle.tree.specs.Nodes.{Node, node, leftChild, rightChild, parents, leftSiblings}
 use Rattle.tree.specs.Labels.{Label, ordered, tag, inputHead, documentInput}
@@ -28,6 +27,7 @@ use Rattle.run_theory.specs.Runs.{called}
 use Rattle.run_theory.proofs.Editions.{run-calls-keep-edition, opening-calls-keep-edition}
 use Rattle.opening.specs.declared.Opening.{Opening}
 use Rattle.opening.specs.Rows.{openRow, reopenRow}
+use Rattle.opening.specs.Steps as openings
 use Rattle.opening_check.specs.OpeningCheck.{openingRow}
 use Rattle.file_head.specs.Challenge.{challengeRow}
 use Rattle.file_head.specs.Layout.{head, headNumbers, fileSize, headRow}
@@ -36,8 +36,9 @@ use Rattle.check_theory.specs.IsProof.{IsProof}
 use Rattle.check_theory.proofs.Accepted.{exactly-proofs}
 use Rattle.writing.specs.declared.Writing.{Writing}
 use Rattle.writing.specs.Rows.{writeRow, rewriteRow}
+use Rattle.writing.specs.Steps as writings
 use Rattle.writing_theory.specs.Filed.{fileFrom}
-use Rattle.writing_theory.proofs.Editions.{writing-calls-keep-edition}
+use Rattle.writing_theory.proofs.Editions.{new-edition, writing-calls-keep-edition}
 use Rattle.compare.specs.Comparison.{compareRow}
 use Rattle.draw.specs.Drawing.{proofEdition}
 use Rattle.draw_theory.proofs.Demand3.{edition-said, proof-of}
@@ -72,11 +73,9 @@ leaf-input statement labelOf =
     ∙ largest-level-first 4 statement (node 4 13) (labelOf (node 1 0)) (labelOf (node 2 2)) (labelOf (node 4 12))
 
 -- ---- what is written
-head-says :
-    (edition : ℕ) (statement root : List ℕ) (n t : ℕ)
-    → head edition statement root n t ≡ groups 2 edition ++ groups 2 n ++ groups 2 t ++ statement ++ root
+head-says : (edition : ℕ) (statement root : List ℕ) (n t : ℕ) → AnEdition edition → getD (head edition statement root n t) 0 0 ≡ edition
 unfolding head headNumbers
-head-says edition statement root n t = refl
+head-says edition statement root n t exists = rw (groups-last 1 edition (omega (arith, exists)))
 
 new-files :
     (statement : List ℕ) (n m t : ℕ) (store bytes labelling budgets : List ℕ) → length statement ≡ 32 → InBounds n m (length store)
@@ -91,6 +90,19 @@ new-files statement n m t store bytes labelling budgets size bounds count fits a
 record-says : (run : Run) → AnEdition (run .edition) → getD (recordOf run) 0 0 ≡ run .edition
 unfolding recordOf recordNumbers
 record-says run exists = rw (groups-last 1 (run .edition) (omega (arith, exists)))
+
+-- ---- what a start is given
+given-opening :
+    (edition : ℕ) (statement : List ℕ) (n m leaf store out : ℕ) → openRow edition n m leaf store out ≡ 0
+    → openings.started edition statement n m leaf store out .edition ≡ edition
+unfolding openings.started
+given-opening edition statement n m leaf store out done = rw done
+
+given-file :
+    (edition : ℕ) (statement root : List ℕ) (n m t : ℕ) (store bytes : List ℕ) → writeRow edition n m t (length store) (length bytes) ≡ 0
+    → writings.started edition statement root n m t store bytes .writing .opening .edition ≡ edition
+unfolding writings.started
+given-file edition statement root n m t store bytes done = rw done (new-edition edition statement root n m t store bytes)
 
 -- ---- an edition that does not exist
 holds : {condition : Type 0} (test : Bool) → Decides test condition → condition → test ≡ true
@@ -149,8 +161,10 @@ editions =
       leafInput = leaf-input;
       headSays = head-says;
       recordSays = record-says;
-      newRuns = run-started;
+      newRuns = λ statement n m store bounds. ap (λ (s : Stamped). s .run .edition) (run-started statement n m store bounds);
       newFiles = new-files;
+      givenOpening = given-opening;
+      givenFile = given-file;
       runKeeps = λ s budgets. run-calls-keep-edition budgets s;
       openingKeeps = λ store s budgets. opening-calls-keep-edition store budgets s;
       fileKeeps = λ store s budgets. writing-calls-keep-edition store budgets s;

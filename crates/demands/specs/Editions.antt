@@ -9,7 +9,6 @@ use Rattle.base.specs.Bytes.{bigEndian, joined}
 use Rattle.base.specs.Limits.{IsCount}
 use Rattle.sha256.specs.Digest.{digest}
 use Rattle.machine.specs.Calls.{total, afterCalls}
-use Rattle.groups.specs.Groups.{groups}
 use Rattle.tree.specs.Nodes.{Node, node, leftChild, rightChild, parents}
 use Rattle.tree.specs.Labels.{Label, Rule}
 use Rattle.labelling.specs.Rule.{stampRule}
@@ -36,7 +35,7 @@ use Rattle.writing_theory.specs.Filed.{fileFrom}
 use Rattle.compare.specs.Comparison.{compareRow}
 use Rattle.draw.specs.Drawing.{proofEdition}
 use Rattle.demands.specs.Rows.{NoEdition}
-use Rattle.demands.specs.Demand1.{AnEdition, InBounds, startedRun, runAtStart}
+use Rattle.demands.specs.Demand1.{AnEdition, InBounds, startedRun}
 use Rattle.demands.specs.Demand2.{FileIs}
 
 -- the rule of labels from before the request, word for word: 'statement (32 bytes), level (1 byte), position (8 bytes, big-endian), then the
@@ -67,19 +66,22 @@ pub record Editions : Type 0 where
       (statement : List ℕ) (labelOf : Node → Label)
       → stampRule 2 4 statement .input (node 4 13) (map labelOf (parents 4 (node 4 13)))
       ≡ statement ++ 4 ∷ bigEndian 8 13 ++ (labelOf (node 4 12) ++ (labelOf (node 2 2) ++ labelOf (node 1 0)))
-  -- 'The head says 2 and so does a paused record', each its own edition
-  pub headSays :
-      (edition : ℕ) (statement root : List ℕ) (n t : ℕ)
-      → head edition statement root n t ≡ groups 2 edition ++ groups 2 n ++ groups 2 t ++ statement ++ root
+  -- 'The head says 2 and so does a paused record': the first byte of each is its edition
+  pub headSays : (edition : ℕ) (statement root : List ℕ) (n t : ℕ) → AnEdition edition → getD (head edition statement root n t) 0 0 ≡ edition
   pub recordSays : (run : Run) → AnEdition (run .edition) → getD (recordOf run) 0 0 ≡ run .edition
   -- 'New runs write 2': a run that is started is of edition 2, and so is its file
-  pub newRuns :
-      (statement : List ℕ) (n m : ℕ) (store : List ℕ) → InBounds n m (length store)
-      → startedRun statement n m store ≡ runAtStart 2 statement n m store
+  pub newRuns : (statement : List ℕ) (n m : ℕ) (store : List ℕ) → InBounds n m (length store) → startedRun statement n m store .run .edition ≡ 2
   pub newFiles :
       (statement : List ℕ) (n m t : ℕ) (store bytes labelling budgets : List ℕ) → length statement ≡ 32 → InBounds n m (length store)
       → IsCount t → fileSize n t ≤ length bytes → 2 ^ (n + 1) - 1 ≤ total labelling → t * (2 ^ (n - m + 1) - 2) ≤ total budgets
       → FileIs 2 statement n t bytes (fileFrom (called (startedRun statement n m store) labelling) statement n m t bytes budgets)
+  -- an opening and a file are of the edition that their start is given
+  pub givenOpening :
+      (edition : ℕ) (statement : List ℕ) (n m leaf store out : ℕ) → openRow edition n m leaf store out ≡ 0
+      → openings.started edition statement n m leaf store out .edition ≡ edition
+  pub givenFile :
+      (edition : ℕ) (statement root : List ℕ) (n m t : ℕ) (store bytes : List ℕ) → writeRow edition n m t (length store) (length bytes) ≡ 0
+      → writings.started edition statement root n m t store bytes .writing .opening .edition ≡ edition
   -- 'a run keeps its edition', and an opening and a file do: whatever the state, by any calls; a run also by pauses
   pub runKeeps : (s : Stamped) (budgets : List ℕ) → called s budgets .run .edition ≡ s .run .edition
   pub openingKeeps :
@@ -97,7 +99,7 @@ pub record Editions : Type 0 where
   pub recordRefused : (run : Run) (out : ℕ) → NoEdition (run .edition) → recordRow run out ≡ 4
   pub refusedFirst : (edition : ℕ) → NoEdition edition → RefusedFirst edition
   -- 'files of edition 1 are still checked by their own order': edition 1's rule is the old one, and the files of edition 1 that are accepted
-  -- now are just the proofs by it, which were accepted before
+  -- now are just the proofs by it, which were accepted before, since challenges and layout of edition 1 are what they were
   pub oldOrder : (n : ℕ) (statement : List ℕ) → stampRule 1 n statement ≡ oldRule statement
   pub oldFiles :
       (bytes statement : List ℕ) (n t : ℕ) → ((j : ℕ) → getD bytes j 0 < 256)

@@ -9,9 +9,9 @@ use file_head::HeadNumbers;
 use file_head::read_head;
 
 // Whether the statement that follows the numbers is this one.
-fn is_report(file: &[u8], statement: [u8; 32], e: u64, n: u64, t: u64, at: usize) -> bool
+fn is_report(file: &[u8], statement: [u8; 32], edition: u64, n: u64, t: u64, at: usize) -> bool
     requires { ⌜ at ≤ 6 ⌝ }
-    ensures { λ r. ⌜ r ≡ reportIn (now (file .entry)) statement (numbers e n t at) ⌝ }
+    ensures { λ r. ⌜ r ≡ reportIn (now (file .entry)) statement (numbers edition n t at) ⌝ }
 {
     let end = at + 32;
     if file.len() < end {

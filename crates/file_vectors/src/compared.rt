@@ -1,5 +1,5 @@
-// The comparison of openings made by hand, in both editions: a tree's own, and with bytes changed. A changed byte changes the computed labels above
-// it, so each clash reaches the root, which is the smallest level.
+// The comparison of openings made by hand, in both editions: a tree's own, and with bytes changed. A changed byte changes the computed
+// labels above it, so each clash reaches the root, which is the smallest level.
 ghost use Prim.Native.Nat.{_≤_};
 use base::outcome_number;
 use compare::Pair;

@@ -139,7 +139,7 @@ fn take_over(path: &[u8], head: &[u8], size: usize, err: i32) -> i32 {
         complain(
             err,
             path,
-            b"there already, and not of this report, depth and challenges; it is not overwritten",
+            b"there already, and not of this report, edition, depth and challenges; it is not overwritten",
         );
         libc::close(fd);
         return -1;

@@ -38,8 +38,8 @@ fn gather(gathered: &mut [u8], len: usize, leaf: u64, height: u64, bytes: &[u8])
     len
 }
 
-// The hash that the leaf's label must be: over the given labels of the left siblings, smallest level first, as many as the leaf's
-// position has one-bits.
+// The hash that the leaf's label must be: over the given labels of the left siblings, as many as the leaf's position has one-bits. They are
+// gathered smallest level first, and `label` puts them in the edition's order.
 fn leaf_label(edition: u64, statement: [u8; 32], n: u64, leaf: u64, bytes: &[u8]) -> [u8; 32]
     requires { ⌜ (n ≤ maxDepth) × (leaf < 2 ^ n) × (length (now bytes) ≡ openingSize n) ⌝ }
     ensures { λ r. ⌜ r ≡ stampRule edition n statement .hash (inputAt (stampRule edition n statement) n leaf (givenBy (now (bytes .entry))) (node n leaf)) ⌝ }

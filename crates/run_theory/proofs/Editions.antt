@@ -22,9 +22,6 @@ run-step-keeps s = refl
 pub run-steps-keep-edition : (k : ℕ) (s : Stamped) → runs.steps k s .run .edition ≡ s .run .edition
 run-steps-keep-edition = steps-keep runMachine ofRun run-step-keeps
 
-pub run-keeps-edition : (s : Stamped) (budget : ℕ) → runs.advanced s budget .run .edition ≡ s .run .edition
-run-keeps-edition = call-keeps runMachine ofRun run-step-keeps
-
 pub run-calls-keep-edition : (budgets : List ℕ) (s : Stamped) → called s budgets .run .edition ≡ s .run .edition
 run-calls-keep-edition = calls-keep runMachine ofRun run-step-keeps
 
@@ -39,9 +36,6 @@ module _ (store : List ℕ) where
 
   pub opening-steps-keep-edition : (k : ℕ) (s : Open) → openings.steps store k s .opening .edition ≡ s .opening .edition
   opening-steps-keep-edition = steps-keep (openingMachine store) ofOpening opening-step-keeps
-
-  pub opening-keeps-edition : (s : Open) (budget : ℕ) → openings.advanced store s budget .opening .edition ≡ s .opening .edition
-  opening-keeps-edition = call-keeps (openingMachine store) ofOpening opening-step-keeps
 
   pub opening-calls-keep-edition :
       (budgets : List ℕ) (s : Open) → afterCalls (openings.advanced store) s budgets .opening .edition ≡ s .opening .edition

@@ -132,7 +132,8 @@ module _ (run : Run) (t q : ℕ) (file : List ℕ) (size : length (run .statemen
       head-size : length (head (run .edition) (run .statement) root n t) ≡ headSize n t
       head-size =
           rw is-root
-          (length-head (run .edition) (run .statement) (rootOf (run .edition) (run .statement) n) n t size (label-size (run .edition) (run .statement) n _) (omega arith))
+          (length-head (run .edition) (run .statement) (rootOf (run .edition) (run .statement) n) n t size
+          (label-size (run .edition) (run .statement) n _) (omega arith))
 
       pub behind-file : drop (fileSize n t) next ≡ drop (fileSize n t) file
       unfolding headWritten fileSize

@@ -26,7 +26,8 @@ module _ (store : List ℕ) (s : Open)
     (fits : Openable (s .opening .edition) (s .opening .depth) (s .opening .memory) (s .opening .leaf) (length store) (length (s .out)))
     (few : s .opening .made ≤ nodesAnew (s .opening .depth) (s .opening .memory)) where
   still-fits : (k : ℕ) → k ≤ remainingIn s
-      → Openable (steps store k s .opening .edition) (steps store k s .opening .depth) (steps store k s .opening .memory) (steps store k s .opening .leaf) (length store)
+      → Openable (steps store k s .opening .edition) (steps store k s .opening .depth) (steps store k s .opening .memory)
+      (steps store k s .opening .leaf) (length store)
       (length (steps store k s .out))
   still-fits k enough =
       rw (

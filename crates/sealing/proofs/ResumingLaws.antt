@@ -80,7 +80,9 @@ module _ (run : Run) (t : ℕ) (behind : List ℕ) where
   done-there : doneOf run t behind * openingSize (run .depth) ≤ length behind
   done-there = by (eqb (run .made) (nodesIn (run .depth)))
     where
-      by : (b : Bool) → pick b (openingsTaken (run .edition) (run .statement) (take 32 (run .held)) (run .depth) t behind) 0 * openingSize (run .depth) ≤ length behind
+      by : (b : Bool)
+          → pick b (openingsTaken (run .edition) (run .statement) (take 32 (run .held)) (run .depth) t behind) 0 * openingSize (run .depth)
+          ≤ length behind
       by true = taken-there (run .edition) (run .statement) (take 32 (run .held)) (run .depth) behind t
       by false = omega arith
 

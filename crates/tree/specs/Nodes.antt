@@ -51,7 +51,7 @@ unfoldable pub leftSiblings : ℕ → ℕ → List Node
 leftSiblings zero p = []
 leftSiblings (suc l) p = leftSiblings l (p / 2) ++ pick (odd p) (node (suc l) (p - 1) ∷ []) []
 
--- Parents, in the order in which their labels are hashed: an inner node's are its two children, left before right; a
--- leaf's are the left siblings on its way, smallest level first.
+-- Parents, in the order in which edition 1 hashes their labels (`ordered` has each edition's): an inner node's are its two children, left
+-- before right; a leaf's are the left siblings on its way, smallest level first.
 unfoldable pub parents : ℕ → Node → List Node
 parents n v = pick (ltb (v .level) n) (leftChild v ∷ rightChild v ∷ []) (leftSiblings (v .level) (v .position))

@@ -1,5 +1,5 @@
-// Every leaf of small trees opened in both editions at every memory level and several budgets, and each refusal at its edge. The stored output has the
-// digests of an independent model's openings, and its answers.
+// Every leaf of small trees opened in both editions at every memory level and several budgets, and each refusal at its edge. The stored
+// output has the digests of an independent model's openings, and its answers.
 use base::outcome_number;
 use opening::Opening;
 use sha256::Hash;

@@ -1,5 +1,6 @@
-// Runs of both editions to their end at several budgets and memory levels. The stored output has the roots and store digests of the shared vectors,
-// and of an independent model.
+// Runs of both editions to their end at several budgets and memory levels. The stored output has the roots and store digests of the
+// shared vectors, and of an independent model.
+use base::NEW_EDITION;
 use base::wide;
 use run::Run;
 use run::new_run;
@@ -30,13 +31,22 @@ fn line(run: Run, store: &[u8]) {
     named_digest(b" store ", store);
 }
 
+// A new run: of edition 2 as a start gives it; of edition 1, which no call starts, by its fields.
+fn begun(edition: u64, statement: [u8; 32], depth: u64, memory: u64, store: &[u8]) -> Run {
+    if edition == NEW_EDITION {
+        let started = Run::start(statement, depth, memory, store);
+        return started.run;
+    }
+    new_run(edition, statement, depth, memory)
+}
+
 fn to_end(edition: u64, statement: [u8; 32], depth: u64, memory: u64, budget: u64, size: usize) {
     if 1048544 < size {
         return;
     }
     let mut space = dirty_store();
     named(b"budget ", budget);
-    let run = new_run(edition, statement, depth, memory);
+    let run = begun(edition, statement, depth, memory, &space);
     let end = run_to_end(run, 131071, budget, &mut space);
     line(end, &space[..size]);
     named(b" behind ", wide(space[size]));

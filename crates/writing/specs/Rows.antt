@@ -22,8 +22,8 @@ fileChecks n t file = (outside 1 maxChallenges t, 8) ∷ (ltb file (fileSize n t
 unfoldable pub writeRow : ℕ → ℕ → ℕ → ℕ → ℕ → ℕ → ℕ
 writeRow edition n m t store file = firstOf ((noEdition edition, 12) ∷ startChecks n m store ++ fileChecks n t file)
 
--- 4 (also an edition that does not exist, a leaf of 2^n or more, a count not 1..200, an opening's number not 1..t, or an opening done that is not the last,
--- which no start or call leaves); 3; 7
+-- 4 (also an edition that does not exist, a leaf of 2^n or more, a count not 1..200, an opening's number not 1..t, or an opening done that
+-- is not the last, which no start or call leaves); 3; 7
 unfoldable pub rewriteRow : Writing → ℕ → ℕ → ℕ
 rewriteRow w store file =
     let o : Opening = w .opening in

@@ -6,12 +6,11 @@ use mathlib.Core.List.{List}
 use Prim.Native.Nat.{ℕ, zero, suc, _+_}
 use Rattle.base.specs.Choice.{pick}
 use Rattle.machine.specs.Calls.{afterCalls}
-use Rattle.machine.proofs.StepLaws.{steps-keep, call-keeps}
 use Rattle.machine.proofs.CallLaws.{calls-keep}
 use Rattle.opening.specs.declared.Opening.{Opening}
 use Rattle.opening.specs.Steps as openings
 use Rattle.writing.specs.declared.Writing.{Writing}
-use Rattle.writing.specs.Steps.{Written, begun, mayFollow, followed, newWriting, stepped, writingMachine, steps, advanced}
+use Rattle.writing.specs.Steps.{Written, begun, mayFollow, followed, newWriting, stepped, writingMachine, advanced}
 
 abbrev ofWriting : Written → ℕ
 ofWriting s = s .writing .opening .edition
@@ -40,12 +39,6 @@ module _ (store : List ℕ) where
   writing-step-keeps : (s : Written) → ofWriting (writingMachine store .step s) ≡ ofWriting s
   unfolding writingMachine stepped openings.stepped
   writing-step-keeps s = followed-keeps store (s .writing .count) _
-
-  pub writing-steps-keep-edition : (k : ℕ) (s : Written) → steps store k s .writing .opening .edition ≡ s .writing .opening .edition
-  writing-steps-keep-edition = steps-keep (writingMachine store) ofWriting writing-step-keeps
-
-  pub writing-keeps-edition : (s : Written) (budget : ℕ) → advanced store s budget .writing .opening .edition ≡ s .writing .opening .edition
-  writing-keeps-edition = call-keeps (writingMachine store) ofWriting writing-step-keeps
 
   pub writing-calls-keep-edition :
       (budgets : List ℕ) (s : Written) → afterCalls (advanced store) s budgets .writing .opening .edition ≡ s .writing .opening .edition

@@ -19,7 +19,9 @@ abbrev entry : tie.Else1 → tie.Start
 entry c = c .before .before .before .before .before
 
 can-be : (c : tie.Else1)
-    → impossible (entry c .args .run .edition) (entry c .args .run .depth) (entry c .args .run .memory) (entry c .args .run .made) (nodesIn (entry c .args .run .depth)) ≡ false
+    → impossible (entry c .args .run .edition) (entry c .args .run .depth) (entry c .args .run .memory) (entry c .args .run .made)
+    (nodesIn (entry c .args .run .depth))
+    ≡ false
 can-be c = sym (c .before .not-possible .ensures) ∙ c .if1 .left
 
 bounds : (c : tie.Else1) → Possible (entry c .args .run .edition) (entry c .args .run .depth) (entry c .args .run .memory) (entry c .args .run .made)

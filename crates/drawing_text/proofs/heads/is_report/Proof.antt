@@ -11,7 +11,7 @@ use Rattle.drawing_text.proofs.heads.is_report.Statement.{statement}
 use Rattle.drawing_text.proofs.heads.is_report.Tie as tie
 
 returns : tie.Need-returns
-returns c = let a = c .before .before .args in report-cut (a .file .now) (a .t2) (a .e) (a .n) (a .t) (a .at) (c .if1 .taken)
+returns c = let a = c .before .before .args in report-cut (a .file .now) (a .t2) (a .edition) (a .n) (a .t) (a .at) (c .if1 .taken)
 
 same-requires : tie.Need-same-requires
 same-requires c κs =
@@ -27,7 +27,7 @@ returns-2 c =
     let a = there .before .before .args in
     c .same .ensures
     ∙ ap (λ (l : List ℕ). sameBytes l (a .t2)) (part-size (a .file .now) (a .at) 32)
-    ∙ report-there (a .file .now) (a .t2) (a .e) (a .n) (a .t) (a .at) (there .if1 .left)
+    ∙ report-there (a .file .now) (a .t2) (a .edition) (a .n) (a .t) (a .at) (there .if1 .left)
 
 pub is-report-spec : {M : Type 1} → statement M
 is-report-spec =

@@ -29,7 +29,8 @@ sub-from-2 c = begins c .0
 part-open-leaf-end : tie.Need-part-open-leaf-end
 part-open-leaf-end c =
     let a = c .before .before .before .before in
-    part-inside (a .args .edition) (a .args .depth) (a .args .memory) (a .args .count) (a .args .i) (a .args .store .now) (a .args .file .now) (a .pre) _ (begins c .1)
+    part-inside (a .args .edition) (a .args .depth) (a .args .memory) (a .args .count) (a .args .i) (a .args .store .now) (a .args .file .now)
+    (a .pre) _ (begins c .1)
 
 open-leaf-requires : tie.Need-open-leaf-requires
 open-leaf-requires c κs =

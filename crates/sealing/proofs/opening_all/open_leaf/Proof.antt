@@ -40,7 +40,8 @@ loop-holds c =
     let start = c .before .before .before .before in
     let a = entry start in
     let first =
-    first-opening (a .args .edition) (a .args .statement) (a .args .depth) (a .args .memory) (a .args .leaf) (a .args .store .now) (a .args .part .now) (a .pre) _ _
+    first-opening (a .args .edition) (a .args .statement) (a .args .depth) (a .args .memory) (a .args .leaf) (a .args .store .now)
+    (a .args .part .now) (a .pre) _ _
     (start .start .ensures .1 .0) (start .start .ensures .1 .1) (c .nodes-anew .result) (c .nodes-anew .ensures) in
     (omega (arith, c .nodes-anew .ensures), first .0, first .1, refl)
 
@@ -61,7 +62,8 @@ loop-again c =
     let start = begun loop in
     let a = entry start in
     let next =
-    next-opening (a .args .edition) (a .args .statement) (a .args .depth) (a .args .memory) (a .args .leaf) (a .args .store .now) (a .args .part .now) (a .pre) _ _
+    next-opening (a .args .edition) (a .args .statement) (a .args .depth) (a .args .memory) (a .args .leaf) (a .args .store .now)
+    (a .args .part .now) (a .pre) _ _
     (start .start .ensures .1 .0) (start .start .ensures .1 .1) (l .left) _ _ (l .inv .1) (l .inv .2)
     (start .start .kept .1 .1 .1 .1 .1 .1 .0) (l .inv .0) (smaller .result) (omega (arith, smaller .ensures)) _ _
     (call .advance .ensures .1 .1 .1 .0) (call .advance .ensures .1 .1 .1 .1) in
@@ -72,7 +74,8 @@ returns c =
     let l = c .before .loop in
     let start = begun (c .before) in
     let a = entry start in
-    last-opening (a .args .edition) (a .args .statement) (a .args .depth) (a .args .memory) (a .args .leaf) (a .args .store .now) (a .args .part .now) (a .pre) _ _
+    last-opening (a .args .edition) (a .args .statement) (a .args .depth) (a .args .memory) (a .args .leaf) (a .args .store .now)
+    (a .args .part .now) (a .pre) _ _
     (start .start .ensures .1 .0) (start .start .ensures .1 .1) (l .left) _ _ (l .inv .1) (l .inv .2) (omega (arith, c .loop-test .left))
 
 pub open-leaf-spec : {M : Type 1} → statement M

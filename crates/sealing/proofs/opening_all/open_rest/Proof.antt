@@ -53,7 +53,8 @@ loop-again c =
     let run = a .args .run in (
       omega (arith, turn .loop-test .taken),
       search needs,
-      laid-more (run .edition) (run .statement) (a .args .root) (run .depth) (run .memory) (a .args .count) (a .args .done) (a .args .store .now) (a .args .file .now)
+      laid-more (run .edition) (run .statement) (a .args .root) (run .depth) (run .memory) (a .args .count) (a .args .done) (a .args .store .now)
+          (a .args .file .now)
           (statement-size a) (a .pre .0 .exists) (a .pre .0 .fileFits) (l .i) (turn .loop-test .taken) _ _ (l .inv .2) (call .open-in-file .ensures),
     )
 
