@@ -3,7 +3,7 @@ hashlib's. Nothing of it comes from the proved code; it is slow and simple."""
 import hashlib
 
 EDITIONS, NEW_EDITION = (1, 2), 2  # W-206
-MAX_DEPTH, MAX_MEMORY, MAX_COUNT, PLACES = 40, 14, 200, 41
+MAX_DEPTH, MAX_MEMORY, MAX_COUNT, PLACES, MAX_RUNS = 40, 14, 200, 41, 8
 ZERO = bytes(32)
 
 
@@ -206,12 +206,15 @@ class Run(Subtree):
     def continue_row(self, store):
         return row((4, self.impossible), (3, lambda: store < store_size(self.m)))
 
+    def remaining(self):
+        return 2 ** (self.n + 1) - 1 - self.made
+
     def advance(self, budget, store):
         """The refusal, the labels made, and the blocks of these."""
         refusal = self.continue_row(len(store))
         if refusal:
             return refusal, 0, 0
-        labels, cost = min(budget, 2 ** (self.n + 1) - 1 - self.made), 0
+        labels, cost = min(budget, self.remaining()), 0
         for _ in range(labels):
             level, position, label, more = self.label((0, 0), self.n, [])
             cost += more
@@ -224,6 +227,65 @@ def start_run(statement, n, m, store):
     """W-206: 'New runs write 2'."""
     refusal = start_row(n, m, store)
     return refusal, Run() if refusal else Run(NEW_EDITION, statement, n, m)
+
+
+class Unit:
+    """W-208: 'A unit may carry 1 to 8 runs', of which one is 'named as served last'; 'runs are named by number from 1'. Those of the list
+    beyond the count are not the unit's."""
+
+    def __init__(self, count, last, runs):
+        self.count, self.last, self.runs = count, last, list(runs)
+
+    def bytes(self):
+        return b"".join(x.to_bytes(8, "big") for x in (self.count, self.last)) + b"".join(run.bytes() for run in self.runs)
+
+    def bad_number(self):
+        """'not 1 to 8 runs'."""
+        return not 1 <= self.count <= MAX_RUNS
+
+    def bad_name(self, name):
+        return not 1 <= name <= self.count
+
+    def offset(self, name):
+        """'their stores end to end in one lent slice'."""
+        return sum(store_size(run.m) for run in self.runs[: name - 1])
+
+    def runs_row(self, count, store):
+        """'then each run in order as when continued', over what is left of the slice, up to one of them."""
+        for name in range(1, count + 1):
+            refusal = self.runs[name - 1].continue_row(store - self.offset(name))
+            if refusal:
+                return refusal
+        return 0
+
+    def row(self, store):
+        first = row((21, lambda: self.bad_number() or self.bad_name(self.last)))
+        return first or self.runs_row(self.count, store)
+
+    def store_place(self, name, store):
+        """Where a run's store begins in the slice, and its length; 0 and 0 if there is none."""
+        if self.bad_number() or self.bad_name(name) or self.runs_row(name, store):
+            return 0, 0
+        return self.offset(name), store_size(self.runs[name - 1].m)
+
+    def next_run(self):
+        """'in turn, beginning after the run named as served last', 'finished runs are passed over'; None if all are."""
+        names = [*range(self.last + 1, self.count + 1), *range(1, self.last + 1)]
+        return next((name for name in names if self.runs[name - 1].remaining()), None)
+
+    def advance(self, budget, store):
+        """The refusal, the labels made, and the blocks of these. 'A call's budget is spent one label at a time'."""
+        refusal = self.row(len(store))
+        if refusal:
+            return refusal, 0, 0
+        labels, cost = 0, 0
+        while labels < budget and (name := self.next_run()):
+            at, size = self.store_place(name, len(store))
+            part = store[at : at + size]
+            _, one, more = self.runs[name - 1].advance(1, part)
+            store[at : at + size] = part
+            self.last, labels, cost = name, labels + one, cost + more
+        return 0, labels, cost
 
 
 class Opening(Subtree):

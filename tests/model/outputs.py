@@ -332,6 +332,74 @@ def record_vectors():
     return written + no_edition() + paused + read + "".join(numbers_line(*line) for line in EDITION_NUMBERS)
 
 
+# turn_vectors
+
+
+def numbers_of(field):
+    """A field of units.txt and units-refused.txt: `:` parts the numbers of one thing, `,` the things; `-` if there are none."""
+    return [] if field == "-" else [tuple(map(int, part.split(":"))) for part in field.split(",")]
+
+
+def given_unit(numbers):
+    """Of a line of the program's input: the unit, the bytes lent and the budgets. A run that has made labels has something in every place."""
+    count, last, size, calls, *rest = numbers
+    budgets, rest = rest[:calls], rest[calls:] + [0] * (4 * md.MAX_RUNS)
+    runs = []
+    for place in range(1, md.MAX_RUNS + 1):
+        edition, n, m, made = rest[4 * place - 4 : 4 * place]
+        held = bytes([9 if made else 0] * 1312)
+        runs.append(md.Run(edition, sha(place.to_bytes(8, "big")), n, m, made, held))
+    return md.Unit(count, last, runs), size, budgets
+
+
+def alone(unit, size, after, store):
+    """W-208: 'Each run's root and store are those it would have alone', 'one refusal changes nothing in any', and no other byte changes."""
+    refused, at = unit.row(size), 0
+    for name, (run, now) in enumerate(zip(unit.runs, after.runs), 1):
+        if not refused and name <= unit.count:
+            own = bytearray([90] * md.store_size(run.m))
+            run.advance(now.made - run.made, own)
+            assert store[at : at + len(own)] == own
+            at += len(own)
+        assert run.bytes() == now.bytes()
+    assert store[at:] == bytes([90] * (size - at)) and after.count == unit.count
+    assert not refused or after.last == unit.last
+
+
+def turn_line(numbers):
+    unit, size, budgets = given_unit(numbers)
+    text, store = f"unit {unit.count} {unit.last} {size}\n", bytearray([90] * size)
+    for budget in budgets:
+        refusal, labels, cost = unit.advance(budget, store)
+        answer = (budget, refusal, labels, cost, unit.last, *(run.made for run in unit.runs))
+        text += "budget " + " ".join(map(str, answer)) + "\n"
+    alone(*given_unit(numbers)[:2], unit, store)
+    places = [place for name in [*range(10), 2**32 + 1, BIG] for place in unit.store_place(name, size)]
+    return text + f"places {' '.join(map(str, places))} {sha(unit.bytes()).hex()} {sha(store).hex()}\n"
+
+
+def has_shared(given):
+    """Whether all lines of units.txt and units-refused.txt are among the program's, in editions of its own choice; of nine runs eight."""
+    mine = [(unit.count, unit.last, budgets, size, [(r.n, r.m, r.made) for r in unit.runs]) for unit, size, budgets in map(given_unit, given)]
+    none = [(0, 0, 0)] * md.MAX_RUNS
+    for runs, last, calls, _ in shared("units.txt"):
+        runs, budgets = [(n, m, 0) for n, m in numbers_of(runs)], [call[0] for call in numbers_of(calls)]
+        size = sum(md.store_size(m) for _, m, _ in runs)
+        if (len(runs), int(last), budgets, size + 5, (runs + none)[: md.MAX_RUNS]) not in mine:
+            return False
+    for runs, last, size, _ in shared("units-refused.txt"):
+        runs = numbers_of(runs)
+        if (len(runs), int(last), [5], int(size), (runs + none)[: md.MAX_RUNS]) not in mine:
+            return False
+    return True
+
+
+def turn_vectors():
+    given = [list(map(int, line)) for line in lines("turn_vectors")]
+    assert has_shared(given)
+    return "".join(map(turn_line, given))
+
+
 # file_vectors
 
 

@@ -1,13 +1,13 @@
--- Each refusal's number is from 1 to 18: it is not that of a call that was done, and a check's answer as one number fits.
+-- Each refusal's number is from 1 to 21: it is not that of a call that was done, and a check's answer as one number fits.
 use Prim.Native.Nat.{_≤_}
 use lib.Dec.{lit≤}
 use Rattle.base.specs.Number.{numberOf}
 use Rattle.base.specs.declared.refusal.Refusal.{Refusal}
 use Rattle.base.specs.declared.refusal.Refusal.the-variants.{Depth, MemoryLevel, ShortStore, State, TooManyBytes, LeafPosition, ShortOutput, Count}
 use Rattle.base.specs.declared.refusal.Refusal.the-variants.{NotWanted, BytesEnd, NotShortest, Edition, BytesLeft, LeafLabel, Root, ShortList}
-use Rattle.base.specs.declared.refusal.Refusal.the-variants.{Input, RecordLength}
+use Rattle.base.specs.declared.refusal.Refusal.the-variants.{Input, RecordLength, Runs}
 
-pub number-le : (r : Refusal) → numberOf r ≤ 18
+pub number-le : (r : Refusal) → numberOf r ≤ 21
 number-le Depth = lit≤ tt
 number-le MemoryLevel = lit≤ tt
 number-le ShortStore = lit≤ tt
@@ -26,6 +26,7 @@ number-le Root = lit≤ tt
 number-le ShortList = lit≤ tt
 number-le Input = lit≤ tt
 number-le RecordLength = lit≤ tt
+number-le Runs = lit≤ tt
 
 pub number-some : (r : Refusal) → 1 ≤ numberOf r
 number-some Depth = lit≤ tt
@@ -46,3 +47,4 @@ number-some Root = lit≤ tt
 number-some ShortList = lit≤ tt
 number-some Input = lit≤ tt
 number-some RecordLength = lit≤ tt
+number-some Runs = lit≤ tt

@@ -13,6 +13,10 @@ maxMemory = 14
 abbrev pub maxChallenges : ℕ
 maxChallenges = 200
 
+-- the most runs that one unit carries (W-208)
+abbrev pub maxRuns : ℕ
+maxRuns = 8
+
 -- the last edition of files and of records of a run; the first is 1 (W-206)
 abbrev pub maxEdition : ℕ
 maxEdition = 2

@@ -3,7 +3,7 @@ use Prim.Native.Nat.{ℕ, _+_, _*_}
 use Rattle.base.specs.declared.refusal.Refusal.{Refusal}
 use Rattle.base.specs.declared.refusal.Refusal.the-variants.{Depth, MemoryLevel, ShortStore, State, TooManyBytes, LeafPosition, ShortOutput, Count}
 use Rattle.base.specs.declared.refusal.Refusal.the-variants.{NotWanted, BytesEnd, NotShortest, Edition, BytesLeft, LeafLabel, Root, ShortList}
-use Rattle.base.specs.declared.refusal.Refusal.the-variants.{Input, RecordLength}
+use Rattle.base.specs.declared.refusal.Refusal.the-variants.{Input, RecordLength, Runs}
 use Rattle.base.specs.declared.refusal.Outcome.{Outcome}
 use Rattle.base.specs.declared.refusal.Outcome.the-variants.{Done, Refused}
 use Rattle.base.specs.declared.refusal.Check.{Check}
@@ -46,6 +46,8 @@ numberOf ShortList = 16
 numberOf Input = 17
 -- a record's length is not what its numbers require (W-201)
 numberOf RecordLength = 18
+-- not 1 to 8 runs in a unit, or the run named as served last not among them (W-208)
+numberOf Runs = 21
 
 -- 0 if done, else the refusal's number
 abbrev pub outcomeNumber : Outcome → ℕ

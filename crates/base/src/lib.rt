@@ -24,6 +24,8 @@ pub const MAX_CHALLENGES: u64 = 200;
 
 pub const MAX_LEAVES: usize = MAX_CHALLENGES as usize;
 
+pub const MAX_RUNS: usize = 8;
+
 pub const MAX_EDITION: u64 = 2;
 
 pub const NEW_EDITION: u64 = 2;

@@ -24,6 +24,7 @@ pub enum Refusal {
     ShortList,
     Input,
     RecordLength,
+    Runs,
 }
 
 // The answer of a call that is done whole or refused.
@@ -62,6 +63,7 @@ pub fn number(r: Refusal) -> u64
         Refusal::ShortList => 16,
         Refusal::Input => 17,
         Refusal::RecordLength => 18,
+        Refusal::Runs => 21,
     }
 }
 

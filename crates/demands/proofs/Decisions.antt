@@ -172,6 +172,10 @@ pub is-first : (cs : List Decided) → IsFirst (conditions cs) (firstOf (tests c
 is-first [] = refl
 is-first (c ∷ cs) = first-step (c .test) (c .condition) (c .number) (conditions cs) (firstOf (tests cs)) (c .decides) (is-first cs)
 
+-- the first condition of a row, with its number, which is compared before the condition is
+pub given : {P Q : Type 0} {number answer : ℕ} → answer ≡ number → P → (P × (answer ≡ number)) ⊎ Q
+given e p = inl (p, e)
+
 -- a row gives one answer
 pub one-answer : (row : Row) (a b : ℕ) → IsFirst row a → IsFirst row b → a ≡ b
 one-answer [] a b p q = p ∙ sym q

@@ -10,6 +10,7 @@ use Rattle.demands.proofs.Numbers.{reading-number}
 use Rattle.demands.proofs.Files.{a-head, a-file}
 use Rattle.demands.proofs.Drawings.{drawing-chain}
 use Rattle.demands.proofs.Records.{writing-record, reading-record}
+use Rattle.demands.proofs.Serving.{serving-unit}
 
 pub demand1 : Demand1
 demand1 =
@@ -39,4 +40,5 @@ demand1 =
       continuingFile = continuing-file;
       writingRecord = writing-record;
       readingRecord = reading-record;
+      servingUnit = serving-unit;
     }

@@ -8,6 +8,7 @@ pub mod Openings
 pub mod Writings
 pub mod Numbers
 pub mod Records
+pub mod Serving
 pub mod Demand1
 pub mod Demand2
 pub mod Demand3
@@ -16,3 +17,4 @@ pub mod MemoryLimit
 pub mod Pausing
 pub mod Blocks
 pub mod Editions
+pub mod Units

@@ -1,6 +1,6 @@
 -- W-201: the rows of records of runs, written and read.
 use mathlib.Core.Path.{_≡_, refl, subst}
-use mathlib.Core.Logic.{_⊎_, inl, inr}
+use mathlib.Core.Logic.{inr}
 use Prim.Native.Nat.{ℕ, zero, suc, _+_, _*_, _%_, _^_, _≤_, _<_, min}
 use native.Mathlib.Omega.{arith}
 use mathlib.Core.Bool.{Bool, true, false, not}
@@ -23,7 +23,7 @@ use Rattle.run_record.proofs.NumbersSteps.{by-steps}
 use Rattle.demands.specs.Rows.{Row, IsFirst, byteAt, valueAt, depthPlace, readingNumber}
 use Rattle.demands.specs.Rows.{memoryPlace, madePlace, valueWithin, behindWithin, readingRecord}
 use Rattle.demands.specs.Demand1.{answerNumber, WritingRecord, ReadingRecord}
-use Rattle.demands.proofs.Decisions.{decides-lt, is-first, stays-first, passes-first}
+use Rattle.demands.proofs.Decisions.{decides-lt, is-first, given, stays-first, passes-first}
 use Rattle.demands.proofs.Checks.{decides-edition, decides-impossible, impossibleRun}
 use Rattle.demands.proofs.Files.{number-first}
 use Rattle.demands.proofs.Numbers.{reading-number}
@@ -107,10 +107,6 @@ module _
       after-number (readAt bytes at most) refl (read-within bytes at most) (rw e at (reading-number bytes at most .answer))
 
 -- ---- a record read
--- the first condition of a row, with its number
-given : {P Q : Type 0} {number answer : ℕ} → answer ≡ number → P → (P × (answer ≡ number)) ⊎ Q
-given e p = inl (p, e)
-
 module _ (bytes : List ℕ) where
   -- the row without its first conditions
   abbrev from : ℕ → Row

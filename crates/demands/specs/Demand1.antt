@@ -17,6 +17,11 @@ use Rattle.run.specs.Steps as runs
 use Rattle.run.specs.Steps.{Stamped, stamped, noRun}
 use Rattle.run_record.specs.Layout.{recordRow, recordSize, recordWritten}
 use Rattle.run_record.specs.Reading.{resumeRow, resumed}
+use Rattle.unit.specs.declared.StampingUnit.{StampingUnit}
+use Rattle.unit.specs.Runs.{runAt}
+use Rattle.unit.specs.Rows.{unitRow}
+use Rattle.unit.specs.Turns as units
+use Rattle.unit.specs.Turns.{carried}
 use Rattle.opening.specs.declared.Opening.{Opening}
 use Rattle.opening.specs.Rows.{openRow, reopenRow}
 use Rattle.opening.specs.Steps as openings
@@ -42,7 +47,7 @@ use Rattle.compare.specs.Comparison.{compareRow, compared}
 use Rattle.draw.specs.Drawing.{DrawingAnswer, notDrawn, drawnChain, drawnClash, drawingOf, drawnList, firstDrawn, secondDrawn}
 use Rattle.demands.specs.Rows.{IsFirst, hashing, startingRun, continuingRun, startingOpening, continuingOpening, aChallenge, writingHead}
 use Rattle.demands.specs.Rows.{oneOpening, aHead, aFile, planningChain, drawingChain, planningProgram, comparing, readingNumber, writingNumber}
-use Rattle.demands.specs.Rows.{startingFile, continuingFile, writingRecord, readingRecord}
+use Rattle.demands.specs.Rows.{startingFile, continuingFile, writingRecord, readingRecord, servingUnit}
 
 -- ---- 'Labelling, opening and writing can be carried to their end for every depth 1..40, memory level 0..min(depth, 20) ..'.
 -- W-209: 'Make that [14] the limit, in demand 1 too'.
@@ -248,6 +253,17 @@ pub record ReadingRecord (bytes : List ℕ) : Type 0 where
   pub answer : IsFirst (readingRecord bytes) (resumeRow bytes)
   pub refused : 1 ≤ resumeRow bytes → resumed bytes ≡ noRun
 
+-- W-208: 'one refusal changes nothing in any'; budget 0 and a unit whose runs are all finished change nothing either
+pub record ServingUnit (unit : StampingUnit) (store : List ℕ) (budget : ℕ) : Type 0 where
+  pub answer : IsFirst (servingUnit unit (length store)) (unitRow unit (length store))
+  pub refused :
+      1 ≤ unitRow unit (length store)
+      → (units.labelsIn (carried unit store) budget ≡ 0)
+      × ((units.blocksIn (carried unit store) budget ≡ 0) × (units.advanced (carried unit store) budget ≡ carried unit store))
+  pub idle :
+      (budget ≡ 0) ⊎ ((i : ℕ) → (1 ≤ i) × (i ≤ unit .count) → 2 ^ (runAt (unit .runs) i .depth + 1) - 1 ≤ runAt (unit .runs) i .made)
+      → (units.labelsIn (carried unit store) budget ≡ 0) × (units.advanced (carried unit store) budget ≡ carried unit store)
+
 -- ---- the demand
 pub record Demand1 : Type 0 where
   pub labellingEnds :
@@ -287,3 +303,4 @@ pub record Demand1 : Type 0 where
   pub continuingFile : (w : Writing) (store file : List ℕ) (budget : ℕ) → ContinuingFile w store file budget
   pub writingRecord : (run : Run) (out : List ℕ) → WritingRecord run out
   pub readingRecord : (bytes : List ℕ) → ReadingRecord bytes
+  pub servingUnit : (unit : StampingUnit) (store : List ℕ) (budget : ℕ) → ServingUnit unit store budget

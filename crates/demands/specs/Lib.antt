@@ -7,3 +7,4 @@ pub mod MemoryLimit
 pub mod Pausing
 pub mod Blocks
 pub mod Editions
+pub mod Units

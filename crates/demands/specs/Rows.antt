@@ -12,6 +12,8 @@ use Rattle.labelling.specs.Rule.{stampRule}
 use Rattle.groups.specs.Groups.{groupsOf}
 use Rattle.run.specs.declared.Run.{Run}
 use Rattle.run_record.specs.Layout.{recordOf}
+use Rattle.unit.specs.declared.StampingUnit.{StampingUnit}
+use Rattle.unit.specs.Runs.{runAt}
 use Rattle.opening.specs.declared.Opening.{Opening}
 use Rattle.opening_check.specs.OpeningCheck.{givenBy}
 use Rattle.file_head.specs.Challenge.{challengeLeaf}
@@ -311,3 +313,16 @@ readingRecord bytes =
     ++ (Impossible (valueAt bytes 0) n m made (2 ^ (n + 1) - 1), 4)
     ∷ (length bytes ≡ behindWithin 6 bytes (madePlace bytes) + 32 + 32 * length (held n made) → ⊥, 18)
     ∷ []
+
+-- ---- W-208: a unit's runs
+-- 'each run in order as when continued': so many from run i on, whose store begins behind those of the runs before it
+unfoldable pub servingRuns : List Run → ℕ → ℕ → ℕ → ℕ → Row
+servingRuns runs i zero from store = []
+servingRuns runs i (suc more) from store =
+    let run : Run = runAt runs i in
+    continuingRun run (store - from) ++ servingRuns runs (i + 1) more (from + 32 * (2 ^ (run .memory + 1) - 1)) store
+
+-- '21, not 1 to 8 runs, or the run named as served last not among them; checked first'
+abbrev pub servingUnit : StampingUnit → ℕ → Row
+servingUnit unit store =
+    (Outside 1 8 (unit .count) ⊎ Outside 1 (unit .count) (unit .last), 21) ∷ servingRuns (unit .runs) 1 (unit .count) 0 store

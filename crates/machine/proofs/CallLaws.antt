@@ -1,12 +1,12 @@
 -- Calls, of every machine. What each step leaves as it is they leave too. From a state on that has `all` steps to make none is refused,
--- and budgets cut in any way make as many steps as one call with their sum, give the same state and cost the same.
+-- and budgets cut in any way make as many steps as one call with their sum, give the same state, cost the same and read the same.
 use mathlib.Core.Path.{_≡_, refl, sym, ap, _∙_}
-use mathlib.Core.List.{List, [], _∷_}
+use mathlib.Core.List.{List, [], _∷_, _++_, append-assoc, append-nil}
 use Prim.Native.Nat.{ℕ, _+_, _-_, _≤_, _<_, min}
 use native.Mathlib.Omega.{arith}
-use Rattle.machine.specs.Machines.{Machine, Goes, steps, doneIn, advanced, costOf, costIn}
-use Rattle.machine.specs.Calls.{total, afterCalls, labelsOver}
-use Rattle.machine.proofs.StepLaws.{steps-add, call-keeps, cost-add, done-some, unchanged}
+use Rattle.machine.specs.Machines.{Machine, Goes, steps, doneIn, advanced, costOf, costIn, readings, readIn}
+use Rattle.machine.specs.Calls.{total, afterCalls, labelsOver, listsOver}
+use Rattle.machine.proofs.StepLaws.{steps-add, call-keeps, cost-add, readings-add, done-some, unchanged}
 
 -- what each step leaves as it is, calls do, from every state
 pub calls-keep :
@@ -78,10 +78,32 @@ module _ {S : Type 0} (machine : Machine S) (s : S) (all : ℕ) (goes : Goes mac
       let e : min (k + (b + total bs)) all ≡ min (next + total bs) all = omega arith in
       rw (e, ← cost-from cost bs next (omega arith), ← cost-after cost k b few, advanced-after k b few) (omega arith)
 
+  read-after :
+      (of : S → ℕ) (k budget : ℕ) → k ≤ all
+      → readings machine of k s ++ readIn machine of (steps machine k s) budget ≡ readings machine of (k + min budget (all - k)) s
+  unfolding readIn
+  read-after of k budget few =
+      ap (λ j. readings machine of k s ++ readings machine of j (steps machine k s)) (done-after k budget few)
+      ∙ readings-add machine of (min budget (all - k)) k s
+
+  read-from :
+      (of : S → ℕ) (bs : List ℕ) (k : ℕ) → k ≤ all
+      → readings machine of k s ++ listsOver (advanced machine) (readIn machine of) (steps machine k s) bs
+      ≡ readings machine of (min (k + total bs) all) s
+  unfolding listsOver total
+  read-from of [] k few =
+      let e : min (k + 0) all ≡ k = omega arith in
+      rw e (append-nil (readings machine of k s))
+  read-from of (b ∷ bs) k few =
+      let next : ℕ = k + min b (all - k) in
+      let e : min (k + (b + total bs)) all ≡ min (next + total bs) all = omega arith in
+      rw (e, ← read-from of bs next (omega arith), ← read-after of k b few, advanced-after k b few)
+      (sym (append-assoc (readings machine of k s) (readIn machine of (steps machine k s) b) _))
+
   from-none : (bs : List ℕ) → min (0 + total bs) all ≡ min (total bs) all
   from-none bs = omega arith
 
-  -- the state, what the calls report, and what they cost
+  -- the state, what the calls report, what they cost, and what is read in them
   pub calls-state : (bs : List ℕ) → afterCalls (advanced machine) s bs ≡ steps machine (min (total bs) all) s
   unfolding steps
   calls-state bs = calls-from bs 0 (omega arith) ∙ ap (λ j. steps machine j s) (from-none bs)
@@ -95,6 +117,11 @@ module _ {S : Type 0} (machine : Machine S) (s : S) (all : ℕ) (goes : Goes mac
       → labelsOver (advanced machine) (costIn machine cost) s bs ≡ costOf machine cost (min (total bs) all) s
   unfolding steps costOf
   calls-cost cost bs = omega (arith, cost-from cost bs 0 (omega arith), ap (λ j. costOf machine cost j s) (from-none bs))
+
+  pub calls-read :
+      (of : S → ℕ) (bs : List ℕ) → listsOver (advanced machine) (readIn machine of) s bs ≡ readings machine of (min (total bs) all) s
+  unfolding steps readings
+  calls-read of bs = read-from of bs 0 (omega arith) ∙ ap (λ j. readings machine of j s) (from-none bs)
 
   -- they do what one call with their sum does
   pub calls-one : (bs : List ℕ) → afterCalls (advanced machine) s bs ≡ advanced machine s (total bs)

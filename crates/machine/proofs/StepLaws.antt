@@ -1,14 +1,16 @@
 -- Steps one after the other, what they cost, and what one call does, for every machine and every state of it.
-use mathlib.Core.Path.{_≡_, refl, ap, _∙_}
+use mathlib.Core.Path.{_≡_, refl, sym, ap, _∙_}
 use mathlib.Core.Logic.{_⊎_, ⊎-elim}
 use mathlib.Core.Bool.{Bool, true, false}
+use mathlib.Core.List.{_++_, append-assoc, append-nil}
 use Prim.Native.Nat.{ℕ, zero, suc, _+_, _≤_, _<_, min}
 use native.Mathlib.Nat.{add-zero, add-suc}
 use native.Mathlib.Numerals.{add-one}
 use native.Mathlib.Omega.{arith}
+use lib.ListN.{length, length-append}
 use Rattle.base.specs.Choice.{pick}
 use Rattle.base.specs.Row.{isDone}
-use Rattle.machine.specs.Machines.{Machine, steps, doneIn, advanced, costOf, costIn}
+use Rattle.machine.specs.Machines.{Machine, steps, doneIn, advanced, costOf, costIn, readings}
 
 module _ {S : Type 0} (machine : Machine S) where
   pub no-step : (s : S) → steps machine 0 s ≡ s
@@ -66,6 +68,21 @@ module _ {S : Type 0} (machine : Machine S) where
     unfolding costOf
     cost-add zero k s = rw (add-zero k, add-zero (costOf machine cost k s))
     cost-add (suc j) k s = rw (add-suc k j, ← cost-add j k s, steps-add j k s) (omega arith)
+
+  -- ---- readings
+  module _ (of : S → ℕ) where
+    pub readings-add :
+        (j k : ℕ) (s : S) → readings machine of k s ++ readings machine of j (steps machine k s) ≡ readings machine of (k + j) s
+    unfolding readings
+    readings-add zero k s = rw (add-zero k) (append-nil (readings machine of k s))
+    readings-add (suc j) k s =
+        rw (add-suc k j, ← readings-add j k s, steps-add j k s)
+        (sym (append-assoc (readings machine of k s) (readings machine of j (steps machine k s)) _))
+
+    pub readings-length : (k : ℕ) (s : S) → length (readings machine of k s) ≡ k
+    unfolding readings
+    readings-length zero s = refl
+    readings-length (suc k) s = rw (length-append, readings-length k s) (omega arith)
 
   -- where each step costs 1, the number of steps
   pub cost-one : (k : ℕ) (s : S) → costOf machine (λ _. 1) k s ≡ k

@@ -2,6 +2,7 @@
 -- writing of a file are such machines.
 use mathlib.Core.Path.{_≡_}
 use Prim.Native.Nat.{ℕ, zero, suc, _+_, _-_, _≤_, min}
+use mathlib.Core.List.{List, [], _∷_, _++_}
 use Rattle.base.specs.Choice.{pick}
 use Rattle.base.specs.Row.{isDone}
 
@@ -31,6 +32,14 @@ costOf machine cost (suc k) s = costOf machine cost k s + cost (steps machine k 
 -- what a call costs
 unfoldable pub costIn : {S : Type 0} → Machine S → (S → ℕ) → S → ℕ → ℕ
 costIn machine cost s budget = costOf machine cost (doneIn machine s budget) s
+
+-- a number read from each state that one of k steps is made from, in their order, and so of the steps of a call
+unfoldable pub readings : {S : Type 0} → Machine S → (S → ℕ) → ℕ → S → List ℕ
+readings machine of zero s = []
+readings machine of (suc k) s = readings machine of k s ++ of (steps machine k s) ∷ []
+
+unfoldable pub readIn : {S : Type 0} → Machine S → (S → ℕ) → S → ℕ → List ℕ
+readIn machine of s budget = readings machine of (doneIn machine s budget) s
 
 -- From this state on `all` steps can be made: none of their calls is refused, and what remains falls by one with each.
 pub record Goes {S : Type 0} (machine : Machine S) (s : S) (all : ℕ) : Type 0 where

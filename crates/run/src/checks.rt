@@ -23,11 +23,19 @@ pub fn nodes(depth: u64) -> u64
     2 * (1u64 << depth) - 1
 }
 
+// The bytes of a store.
+pub fn store_size(memory: u64) -> u64
+    requires { ⌜ memory ≤ maxMemory ⌝ }
+    ensures { λ r. ⌜ r ≡ storeSize memory ⌝ }
+{
+    32 * nodes(memory)
+}
+
 pub fn store_short(memory: u64, store: usize) -> bool
     requires { ⌜ memory ≤ maxMemory ⌝ }
     ensures { λ r. ⌜ r ≡ ltb store (storeSize memory) ⌝ }
 {
-    let size = 32 * nodes(memory);
+    let size = store_size(memory);
     (store as u64) < size
 }
 

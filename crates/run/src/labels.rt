@@ -32,7 +32,7 @@ pub struct Stepped {
 }
 
 // One step, and its blocks. Its caller knows that a node is left and that the store is whole.
-fn label_one(
+pub fn label_one(
     edition: u64,
     statement: [u8; 32],
     depth: u64,

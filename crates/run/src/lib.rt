@@ -13,12 +13,14 @@ use base::HELD_SIZE;
 use base::NEW_EDITION;
 use base::Outcome;
 use base::smaller;
-use checks::may_continue;
+pub use checks::may_continue;
 pub use checks::may_start;
 pub use checks::nodes;
 pub use checks::not_possible;
 pub use checks::store_short;
+pub use checks::store_size;
 use labels::label_many;
+pub use labels::label_one;
 
 // Document 01's run: statement, edition (W-206), n, m, the number of labels made, and 41 places of 32 bytes for held labels.
 #[repr(C)]

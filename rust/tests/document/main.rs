@@ -8,6 +8,7 @@ mod lent;
 mod model;
 mod pauses;
 mod random;
+mod units;
 mod vectors;
 
 use cases::{Part, PARTS};
@@ -76,6 +77,7 @@ fn main() {
     edges::run();
     editions::run();
     pauses::run();
+    units::run();
     let calls = run_all(&seeds);
     for (part, count) in PARTS.iter().zip(&calls) {
         println!("{count:>8} {}", part.name);

@@ -3,9 +3,10 @@ use crate::cases::{new_run, proof_file};
 use crate::model::chain::{draw, leaves_opened, plan, Drawn};
 use crate::model::file::{check, code};
 use crate::model::tree::{held, size, Labels, ROOT};
-use crate::model::{opening, record, run, sha256, writing};
+use crate::model::{opening, record, run, sha256, unit, writing};
 use mastdock::{check_file, digest, digest_blocks, file_size, labels, labels_anew, opening_size, store_size};
-use mastdock::{Drawing, Hash, Made, Opening, Rejected, Run, Writing, MAX_CHAIN, MAX_RECORD};
+use mastdock::{Drawing, Hash, Made, Opening, Rejected, Run, Unit, Writing, MAX_CHAIN, MAX_RECORD};
+use std::array;
 
 /// The lines of a file of vectors, as words.
 fn lines(text: &str) -> impl Iterator<Item = Vec<&str>> {
@@ -31,7 +32,7 @@ fn number(word: &str) -> u64 {
 /// Runs all of them. Gives their number.
 pub fn run() -> usize {
     let labelled = digests() + blocks() + roots() + records() + deep_records();
-    labelled + files() + old_files() + checks() + chains() + plans()
+    labelled + units() + units_refused() + files() + old_files() + checks() + chains() + plans()
 }
 
 /// Files of vectors of both editions: of edition 1 those that stood before W-206.
@@ -199,6 +200,65 @@ fn deep_records() -> usize {
         assert_eq!(held(n, ROOT, made).len() as u64, number(words[4]));
         assert_eq!((recorded(&run), record::record_of(&run)), (bytes.clone(), bytes.clone()));
         assert_eq!(record::read(&bytes), Ok(run));
+        count += 1;
+    }
+    count
+}
+
+/// Numbers of several things: `:` parts those of one, `,` the things; `-` if there are none.
+fn numbers(word: &str) -> Vec<Vec<u64>> {
+    let things = word.split(',').filter(|thing| *thing != "-");
+    things.map(|thing| thing.split(':').map(number).collect()).collect()
+}
+
+/// A unit of runs with these depths, memory levels and labels made, one of each edition in turn. Of nine runs it has the first eight.
+fn unit_of(runs: &[Vec<u64>], last: u64) -> Unit {
+    let run = |at: usize| match runs.get(at).map(|numbers| &numbers[..]) {
+        Some(&[depth, memory, made]) => {
+            let edition = 1 + at as u64 % 2;
+            Run { statement: [at as u8; 32], edition, depth, memory, made, held: [0; 1312] }
+        }
+        _ => Run { statement: [0; 32], edition: 0, depth: 0, memory: 0, made: 0, held: [0; 1312] },
+    };
+    Unit { count: runs.len() as u64, last, runs: array::from_fn(run) }
+}
+
+/// One call through the library and through the model: the refusal or the labels made.
+fn unit_call(unit: &mut Unit, budget: u64, store: &mut [u8]) -> Result<u64, u64> {
+    let (mut model, mut model_store) = (unit.clone(), store.to_vec());
+    let expected = unit::advance(&mut model, budget, &mut model_store).map_err(|refused| refused.number);
+    assert_eq!(unit.advance(budget, store).map_err(|refused| refused.number()), expected);
+    assert!(*unit == model && store == model_store);
+    expected.map(|made| made.labels)
+}
+
+/// W-208: `depth:memory level of each run, run served last at first, for each call budget:labels made:served last after it, labels made of
+/// each run`
+fn units() -> usize {
+    let mut count = 0;
+    for words in lines(include_str!("../vectors/units.txt")) {
+        let runs: Vec<Vec<u64>> = numbers(words[0]).into_iter().map(|run| vec![run[0], run[1], 0]).collect();
+        let mut store = vec![0; runs.iter().map(|run| store_size(run[1]).unwrap()).sum()];
+        let mut unit = unit_of(&runs, number(words[1]));
+        for call in numbers(words[2]) {
+            assert_eq!((unit_call(&mut unit, call[0], &mut store), unit.last), (Ok(call[1]), call[2]));
+        }
+        let made: Vec<Vec<u64>> = unit.runs[..runs.len()].iter().map(|run| vec![run.made]).collect();
+        assert_eq!(made, numbers(words[3]));
+        count += 1;
+    }
+    count
+}
+
+/// W-208: `depth:memory level:labels made of each run (- if none), run served last, bytes of store lent, the refusal (0 if none) of a call
+/// with budget 5`
+fn units_refused() -> usize {
+    let mut count = 0;
+    for words in lines(include_str!("../vectors/units-refused.txt")) {
+        let mut unit = unit_of(&numbers(words[0]), number(words[1]));
+        let mut store = vec![0; number(words[2]) as usize];
+        let answer = unit_call(&mut unit, 5, &mut store);
+        assert_eq!(answer, if number(words[3]) == 0 { Ok(5) } else { Err(number(words[3])) });
         count += 1;
     }
     count

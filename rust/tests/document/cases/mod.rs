@@ -5,6 +5,7 @@ mod hash;
 mod opening;
 mod record;
 mod run;
+mod unit;
 mod writing;
 
 use crate::random::Random;
@@ -14,6 +15,7 @@ pub use record::{pause, resume_both};
 pub use run::new_run;
 use std::collections::BTreeMap;
 use std::sync::Mutex;
+pub use unit::{advance_both as advance_unit, places_of};
 
 /// A part of the tests: how many cases it has for a seed, and one of them, which gives the number of calls that it compared.
 pub struct Part {
@@ -34,6 +36,10 @@ pub const PARTS: &[Part] = &[
     Part { name: "record: any bytes read", cases: 3000, run: record::any_bytes },
     Part { name: "record: whole runs with pauses", cases: 300, run: record::whole },
     Part { name: "record: any state goes on", cases: 3000, run: record::goes_on },
+    Part { name: "unit: whole units by budgets", cases: 150, run: unit::whole },
+    Part { name: "unit: label by label", cases: 100, run: unit::label_by_label },
+    Part { name: "unit: any state", cases: 3000, run: unit::any_state },
+    Part { name: "unit: the largest stores", cases: 2, run: unit::largest_stores },
     Part { name: "opening: start", cases: 4000, run: opening::starts },
     Part { name: "opening: whole openings by budgets", cases: 700, run: opening::whole },
     Part { name: "opening: any state", cases: 5000, run: opening::any_state },
@@ -52,7 +58,8 @@ pub const PARTS: &[Part] = &[
 
 /// The numbers of each place of document 01's table and of the change requests, 0 for none. All of them are to be seen; only so many
 /// bytes that the digest in one call refuses them cannot be lent. Of a file accepted, of one drawn and of openings that disagree the
-/// edition: each is to be seen in both (W-206).
+/// edition: each is to be seen in both (W-206). Of a unit (W-208) the run that 4 or 3 was found in, how many runs a call served, whether
+/// none of them ended in it (0), some did (1) or all were finished before (2), and whether a store lies somewhere (1) or nowhere.
 const ROWS: &[(&str, &[u64])] = &[
     ("hash update", &[0, 5]),
     ("hash finish", &[0, 5]),
@@ -61,6 +68,12 @@ const ROWS: &[(&str, &[u64])] = &[
     ("run advance", &[0, 4, 3]),
     ("run record", &[0, 4, 7]),
     ("run resume", &[0, 10, 11, 12, 4, 18]),
+    ("unit advance", &[0, 21, 4, 3]),
+    ("unit 4 in run", &[1, 2, 3, 4, 5, 6, 7, 8]),
+    ("unit 3 in run", &[1, 2, 3, 4, 5, 6, 7, 8]),
+    ("unit runs served", &[1, 2, 3, 4, 5, 6, 7, 8]),
+    ("unit runs ending", &[0, 1, 2]),
+    ("unit store place", &[0, 1]),
     ("opening start", &[0, 12, 1, 2, 3, 6, 7]),
     ("opening advance", &[0, 4, 3, 7]),
     ("challenge", &[0, 12, 1, 8]),

@@ -9,6 +9,7 @@ pub mod run;
 pub mod sha256;
 pub mod step;
 pub mod tree;
+pub mod unit;
 pub mod writing;
 
 /// A label, a statement or a root.

@@ -1,4 +1,4 @@
--- `base::refusal::code` meets its contract: no refusal's number is above 17, so the sum fits.
+-- `base::refusal::code` meets its contract: no refusal's number is above 21, so the sum fits.
 use borrow.Author.Needs.{needs}
 use mathlib.Core.Path.{sym, ap}
 use native.Mathlib.Omega.{arith}

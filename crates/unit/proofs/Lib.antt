@@ -1,0 +1,11 @@
+pub mod SumLaws
+pub mod RowLaws
+pub mod PlaceLaws
+pub mod NextLaws
+pub mod TurnLaws
+pub mod LoopLaws
+pub mod PlanLaws
+pub mod FirstLaws
+pub mod LabelLaws
+pub mod LoopFacts
+pub mod CallLaws

@@ -1,0 +1,6 @@
+pub mod NameLaws
+pub mod Alone
+pub mod AloneCalls
+pub mod Schedule
+pub mod TimesLaws
+pub mod Turns
