@@ -1,5 +1,6 @@
 /* Labelling: the proved run beside the plain C one, same input, one run after the other.
-   Prints the median over the rounds of labels a second, and the ratio to plain C. */
+   Prints the median over the rounds of labels a second, and the ratio to plain C; then openings, records, and eight runs in one unit
+   beside the same runs alone. */
 #define _POSIX_C_SOURCE 200809L
 #include "mastdock.h"
 #include "plain.h"
@@ -118,10 +119,57 @@ static void records(void) {
     printf("%-28s written in %.2f labels, read in %.2f labels (%.0f)\n", "the longest record", w[ROUNDS / 2] / label, r[ROUNDS / 2] / label, sum);
 }
 
+/* W-208: eight runs of depth 14 in one unit with one budget, and the same runs alone, one after the other, with one budget each. */
+enum { CARRIED = MASTDOCK_MAX_RUNS, UNIT_DEPTH = 14, UNIT_STORE = CARRIED * STORE };
+static const uint64_t UNIT_LABELS = CARRIED * MASTDOCK_LABELS(UNIT_DEPTH);
+
+static mastdock_unit eight_runs(const uint8_t *store) {
+    mastdock_unit unit = {.count = CARRIED, .last = CARRIED};
+    for (uint8_t i = 0; i < CARRIED; i++) {
+        uint8_t statement[32] = {1, 2, 3, i};
+        unit.runs[i] = mastdock_run_start(statement, UNIT_DEPTH, MEMORY, store, STORE).run;
+    }
+    return unit;
+}
+
+static double together(uint8_t *store, mastdock_unit *unit) {
+    *unit = eight_runs(store);
+    double start = now();
+    *unit = mastdock_unit_advance(*unit, UNIT_LABELS, store, UNIT_STORE).unit;
+    return now() - start;
+}
+
+static double alone(uint8_t *store, mastdock_unit *unit) {
+    *unit = eight_runs(store);
+    double start = now();
+    for (size_t i = 0; i < CARRIED; i++)
+        unit->runs[i] = mastdock_run_advance(unit->runs[i], UNIT_LABELS, store + i * STORE, STORE).run;
+    return now() - start;
+}
+
+static int units(void) {
+    static uint8_t a[UNIT_STORE], b[UNIT_STORE];
+    static mastdock_unit x, y;
+    double t[ROUNDS], s[ROUNDS];
+    for (int r = 0; r < ROUNDS; r++) {
+        t[r] = together(a, &x);
+        s[r] = alone(b, &y);
+        if (memcmp(&x, &y, sizeof x) || memcmp(a, b, UNIT_STORE)) {
+            printf("the runs or stores of the unit differ\n");
+            return 1;
+        }
+    }
+    qsort(t, ROUNDS, sizeof(double), by_value);
+    qsort(s, ROUNDS, sizeof(double), by_value);
+    printf("%-28s unit %10.0f labels/s  alone %10.0f labels/s  ratio %.2f\n", "eight runs of depth 14", (double)UNIT_LABELS / t[ROUNDS / 2],
+           (double)UNIT_LABELS / s[ROUNDS / 2], s[ROUNDS / 2] / t[ROUNDS / 2]);
+    return 0;
+}
+
 int main(void) {
     if (compare("depth 18, one budget", ALL) || compare("depth 18, budget 1 a call", 1))
         return 1;
     openings();
     records();
-    return 0;
+    return units();
 }

@@ -1,8 +1,8 @@
 /* Mastdock for C11 and C++17: the calls of libcapi.a, which `rt staticlib capi` writes to target/staticlib.
  *
  * Conventions
- * - Every call is decided for every value of its arguments. A state (hash, run, opening, writing) is plain data: it may be copied,
- *   kept in a file and continued later, and a call that is given one that cannot be continued refuses it.
+ * - Every call is decided for every value of its arguments. A state (hash, run, unit, opening, writing) is plain data: it may be
+ *   copied, kept in a file and continued later, and a call that is given one that cannot be continued refuses it.
  * - A refusal is document 01's number (from 18 on a change request's), 0 where there is none; enum mastdock_refusal names them. Each
  *   call lists its refusals in the order in which they are tested. A refused call changes no lent byte, hands a state back as it was
  *   and makes 0 labels of 0 blocks; a refused start, and a record refused, hands back an all-zero state, and other values beside a
@@ -57,7 +57,8 @@ enum mastdock_refusal {
     MASTDOCK_ROOT = 15,           /* root wrong */
     MASTDOCK_SHORT_LIST = 16,     /* list short */
     MASTDOCK_INPUT = 17,          /* input of the planning program; no call here gives it */
-    MASTDOCK_RECORD_LENGTH = 18   /* the record's length is not what its numbers require */
+    MASTDOCK_RECORD_LENGTH = 18,  /* the record's length is not what its numbers require */
+    MASTDOCK_RUNS = 21            /* not 1..8 runs in a unit, or the run named as served last not among them */
 };
 
 /* Limits and sizes. A state's size is its sizeof. The sizes are constant where their arguments are; n is 1..40, m at most
@@ -74,10 +75,11 @@ enum mastdock_refusal {
 #define MASTDOCK_MAX_DEPTH 40
 #define MASTDOCK_MAX_MEMORY 14
 #define MASTDOCK_MAX_COUNT 200
+#define MASTDOCK_MAX_RUNS 8                                                 /* the most runs of a unit */
 #define MASTDOCK_HELD_SIZE 1312                                             /* 41 places of 32 bytes */
 #define MASTDOCK_MAX_RECORD 1353                                            /* bytes of the longest record of a run */
 #define MASTDOCK_STORE_SIZE(m) (32 * ((MASTDOCK_SIZE(2) << (m)) - 1))       /* bytes of a store of levels 0 to m */
-#define MASTDOCK_MAX_STORE MASTDOCK_STORE_SIZE(MASTDOCK_MAX_MEMORY)         /* 1,048,544 bytes: no call asks for more */
+#define MASTDOCK_MAX_STORE MASTDOCK_STORE_SIZE(MASTDOCK_MAX_MEMORY)         /* 1,048,544 bytes: no run asks for more */
 #define MASTDOCK_OPENING_SIZE(n) (32 * (MASTDOCK_SIZE(n) + 1))              /* bytes of an opening */
 #define MASTDOCK_HEAD_SIZE(t) MASTDOCK_SIZE((t) < 128 ? 67 : 68)            /* bytes before the openings */
 #define MASTDOCK_FILE_SIZE(n, t) (MASTDOCK_HEAD_SIZE(t) + MASTDOCK_SIZE(t) * MASTDOCK_OPENING_SIZE(n))
@@ -186,6 +188,52 @@ mastdock_run_recorded mastdock_run_record(mastdock_run run, uint8_t *out, size_t
  * 4); 18 (bytes too few or too many for them). */
 mastdock_run_started mastdock_run_resume(const uint8_t *record, size_t record_len);
 
+/* ---- Several runs in one unit (W-208) ----
+ *
+ * A unit carries 1 to MASTDOCK_MAX_RUNS runs, each with its own statement, edition, depth and memory level. Their stores lie end to end
+ * in one piece of lent memory, in the order of the runs: run 1's is its first MASTDOCK_STORE_SIZE(memory) bytes, run 2's begins right
+ * behind it, and so on. A unit has no start of its own: start each run with mastdock_run_start, which asks only for the length of its
+ * store, or resume it from its record, and put it in its place of the unit. Each run's root and store are those that it would have
+ * alone; only how far it has come depends on its neighbours. */
+
+/* A unit: how many runs it has, the number of the run served last, and the runs; run i, from 1, is runs[i - 1]. `last` names one of
+ * runs 1 to count, finished or not; 0 is refused. To begin with run 1, name the last run: last = count. Places of the array beyond the
+ * count are not looked at. When all labels of a run are made, its root is in its held[0..31]. */
+typedef struct mastdock_unit {
+    uint64_t count;
+    uint64_t last;
+    mastdock_run runs[MASTDOCK_MAX_RUNS];
+} mastdock_unit;
+
+typedef struct mastdock_unit_advanced {
+    uint64_t refusal;
+    uint64_t labels;
+    uint64_t blocks;
+    mastdock_unit unit;
+} mastdock_unit_advanced;
+
+/* A part of lent bytes; 0 and 0 where there is none. */
+typedef struct mastdock_place {
+    size_t offset;
+    size_t length;
+} mastdock_place;
+
+/* Makes exactly the smaller of the budget and the labels that remain of all runs together, one at a time, in turn, beginning after the
+ * run named as served last; after run `count` comes run 1, and finished runs are passed over. The unit handed back names the run that
+ * made the last label; a call that makes none leaves the name as it was. If the unit is handed on as it was handed back, the others
+ * together make at most 7 labels between two of an unfinished run. If no run finishes in a call, the numbers of labels got by those
+ * unfinished at its start differ by at most one. `labels` and `blocks` are of all runs together, blocks counted as by
+ * mastdock_run_advance; what one run got is read off its `made`. Bytes behind the last store and places of the array beyond the count
+ * come back as they were. Refusals: 21 (count not 1..8, or last not 1..count); then each run in order, as by mastdock_run_advance: run 1
+ * with 4, 3; run 2 with 4, 3; and so on to run `count`. The store of a run is short if fewer bytes than it needs are left behind those
+ * of the runs before it. One refusal changes nothing in any run. Holds copies of the unit on the stack: its thread wants 0.1 MB. */
+mastdock_unit_advanced mastdock_unit_advance(mastdock_unit unit, uint64_t budget, uint8_t *store, size_t store_len);
+
+/* Where the store of run i, from 1, lies in the memory of the unit: nowhere if count is not 1..8, i is not 1..count, or one of runs 1
+ * to i would be refused with 4 or 3; `last` and the runs after run i are not looked at. That part alone is the store that the calls for
+ * one run, for its openings and for its file take. No refusal. */
+mastdock_place mastdock_unit_store_place(mastdock_unit unit, uint64_t i, const uint8_t *store, size_t store_len);
+
 /* ---- Openings ---- */
 
 /* An opening under way: a run's state with the leaf; count and held labels are those of the nodes labelled anew. */
@@ -227,12 +275,6 @@ typedef struct mastdock_challenged {
     uint64_t refusal;
     uint64_t leaf;
 } mastdock_challenged;
-
-/* A part of lent bytes; 0 and 0 where there is none. */
-typedef struct mastdock_place {
-    size_t offset;
-    size_t length;
-} mastdock_place;
 
 /* The leaf of challenge i, from 1. Refusals: 12, 1, 8. */
 mastdock_challenged mastdock_challenge(uint64_t edition, const uint8_t statement[32], const uint8_t root[32], uint64_t depth, uint64_t i);
@@ -419,6 +461,17 @@ MASTDOCK_AT(mastdock_run_advanced, run, 24);
 MASTDOCK_ASSERT(sizeof(mastdock_run_recorded) == 16);
 MASTDOCK_AT(mastdock_run_recorded, refusal, 0);
 MASTDOCK_AT(mastdock_run_recorded, size, 8);
+
+MASTDOCK_ASSERT(sizeof(mastdock_unit) == 11024);
+MASTDOCK_AT(mastdock_unit, count, 0);
+MASTDOCK_AT(mastdock_unit, last, 8);
+MASTDOCK_AT(mastdock_unit, runs, 16);
+
+MASTDOCK_ASSERT(sizeof(mastdock_unit_advanced) == 11048);
+MASTDOCK_AT(mastdock_unit_advanced, refusal, 0);
+MASTDOCK_AT(mastdock_unit_advanced, labels, 8);
+MASTDOCK_AT(mastdock_unit_advanced, blocks, 16);
+MASTDOCK_AT(mastdock_unit_advanced, unit, 24);
 
 MASTDOCK_ASSERT(sizeof(mastdock_opening) == 1384);
 MASTDOCK_AT(mastdock_opening, statement, 0);

@@ -1,6 +1,6 @@
 /* What include/mastdock.h says of lent memory and of answers: a null pointer where the number is 0, for every call that takes a
-   pointer with a number, and answers without padding; of the memory level's limit; of a run's record; of blocks; and of editions. The
-   refusals are document 01's for memory of no bytes. Prints nothing. */
+   pointer with a number, and answers without padding; of the memory level's limit; of a run's record; of blocks; of editions; and of
+   several runs in one unit. The refusals are document 01's for memory of no bytes. Prints nothing. */
 #include "mastdock.h"
 #include <stdio.h>
 #include <stdlib.h>
@@ -55,6 +55,9 @@ static void null_states(void) {
     EXPECT(mastdock_run_advance(run.run, 1, NULL, 0).refusal, MASTDOCK_SHORT_STORE);
     EXPECT(mastdock_run_record(run.run, NULL, 0).refusal, MASTDOCK_SHORT_OUTPUT);
     EXPECT(mastdock_run_resume(NULL, 0).refusal, MASTDOCK_BYTES_END);
+    mastdock_unit unit = {.count = 1, .last = 1, .runs = {run.run}};
+    EXPECT(mastdock_unit_advance(unit, 1, NULL, 0).refusal, MASTDOCK_SHORT_STORE);
+    EXPECT(mastdock_unit_store_place(unit, 1, NULL, 0).length, 0);
     EXPECT(mastdock_opening_start(2, ZERO, 1, 1, 0, NULL, 0, NULL, 0).refusal, MASTDOCK_SHORT_STORE);
     EXPECT(mastdock_opening_start(2, ZERO, 1, 1, 0, store, sizeof store, NULL, 0).refusal, MASTDOCK_SHORT_OUTPUT);
     EXPECT(mastdock_opening_advance(opening.opening, 1, NULL, 0, NULL, 0).refusal, MASTDOCK_SHORT_STORE);
@@ -242,6 +245,120 @@ static void editions(void) {
     EXPECT(mastdock_run_advance(run, 9, store, sizeof store).run.edition, 1);
 }
 
+/* W-208: three runs whose stores of 96, 224 and 32 bytes lie end to end; whose turn it is, label by label, beginning with run 1. */
+enum { UNIT_STORE = 96 + 224 + 32, UNIT_LABELS = 15 + 7 + 3 };
+static const uint8_t TURNS[UNIT_LABELS] = {1, 2, 3, 1, 2, 3, 1, 2, 3, 1, 2, 1, 2, 1, 2, 1, 2, 1, 1, 1, 1, 1, 1, 1, 1};
+
+/* The places beyond the count hold other bytes. */
+static mastdock_unit three_runs(void) {
+    const uint64_t depths[] = {3, 2, 1}, memories[] = {1, 2, 0};
+    const uint8_t store[224] = {0};
+    mastdock_unit unit;
+    memset(&unit, 0xa5, sizeof unit);
+    unit.count = unit.last = 3;
+    for (uint8_t i = 0; i < 3; i++) {
+        const uint8_t statement[32] = {i};
+        unit.runs[i] = mastdock_run_start(statement, depths[i], memories[i], store, sizeof store).run;
+    }
+    return unit;
+}
+
+/* One call with a budget: each run and its store are as alone after as many labels, and all else is as it was. */
+static void unit_after(uint64_t budget) {
+    uint8_t store[UNIT_STORE + 5], alone[UNIT_STORE + 5];
+    uint64_t got[3] = {0}, blocks = 0, labels = budget < UNIT_LABELS ? budget : UNIT_LABELS;
+    mastdock_unit unit = three_runs();
+    memset(store, 90, sizeof store);
+    memset(alone, 90, sizeof alone);
+    mastdock_unit_advanced answer = mastdock_unit_advance(unit, budget, store, sizeof store);
+    for (uint64_t k = 0; k < labels; k++) {
+        unit.last = TURNS[k];
+        got[TURNS[k] - 1]++;
+    }
+    for (uint64_t i = 0; i < 3; i++) {
+        mastdock_place place = mastdock_unit_store_place(unit, i + 1, alone, sizeof alone);
+        mastdock_run_advanced own = mastdock_run_advance(unit.runs[i], got[i], alone + place.offset, place.length);
+        EXPECT(own.labels, got[i]);
+        blocks += own.blocks;
+        unit.runs[i] = own.run;
+    }
+    EXPECT(answer.refusal, 0);
+    EXPECT(answer.labels, labels);
+    EXPECT(answer.blocks, blocks);
+    EXPECT((uint64_t)memcmp(&answer.unit, &unit, sizeof unit), 0);
+    EXPECT((uint64_t)memcmp(store, alone, sizeof store), 0);
+}
+
+/* A refused call of a unit changes nothing. */
+static void unit_refused(mastdock_unit unit, size_t len, uint64_t refusal) {
+    uint8_t store[UNIT_STORE];
+    memset(store, 90, sizeof store);
+    mastdock_unit_advanced answer = mastdock_unit_advance(unit, 9, store, len);
+    EXPECT(answer.refusal, refusal);
+    EXPECT(answer.labels + answer.blocks, 0);
+    EXPECT((uint64_t)memcmp(&answer.unit, &unit, sizeof unit), 0);
+    EXPECT(store[0], 90);
+    EXPECT((uint64_t)memcmp(store, store + 1, sizeof store - 1), 0);
+}
+
+/* 21 first, whatever else is wrong; then each run in order: 4 before 3 of one run, but 3 of run 2 before 4 of run 3. */
+static void units_refused(void) {
+    const uint64_t counts[] = {0, 9, UINT64_MAX, 3, 3, 3}, names[] = {1, 1, 1, 0, 4, UINT64_MAX};
+    mastdock_unit unit = three_runs();
+    unit.runs[0].edition = 0;
+    for (size_t i = 0; i < sizeof counts / sizeof *counts; i++) {
+        unit.count = counts[i];
+        unit.last = names[i];
+        unit_refused(unit, 0, MASTDOCK_RUNS);
+        EXPECT(mastdock_unit_advance(unit, 0, NULL, 0).refusal, MASTDOCK_RUNS);
+    }
+    unit = three_runs();
+    unit_refused(unit, 95, MASTDOCK_SHORT_STORE);
+    unit_refused(unit, 96 + 223, MASTDOCK_SHORT_STORE);
+    unit_refused(unit, UNIT_STORE - 1, MASTDOCK_SHORT_STORE);
+    unit.runs[2].made = 4;
+    unit_refused(unit, UNIT_STORE, MASTDOCK_STATE);
+    unit_refused(unit, UNIT_STORE - 1, MASTDOCK_STATE);
+    unit_refused(unit, 96 + 223, MASTDOCK_SHORT_STORE);
+    unit.runs[0].memory = 4;
+    unit_refused(unit, 0, MASTDOCK_STATE);
+}
+
+static void expect_place(int line, mastdock_place place, size_t offset, size_t length) {
+    expect(line, place.offset, offset);
+    expect(line, place.length, length);
+}
+#define EXPECT_PLACE(place, offset, length) expect_place(__LINE__, (place), (offset), (length))
+
+/* Where the stores lie: the named run and those before it are checked, `last` and those after it are not. */
+static void store_places(void) {
+    const uint8_t store[UNIT_STORE] = {0};
+    mastdock_unit unit = three_runs();
+    unit.last = 0;
+    EXPECT_PLACE(mastdock_unit_store_place(unit, 1, store, sizeof store), 0, 96);
+    EXPECT_PLACE(mastdock_unit_store_place(unit, 2, store, sizeof store), 96, 224);
+    EXPECT_PLACE(mastdock_unit_store_place(unit, 3, store, sizeof store), 320, 32);
+    EXPECT_PLACE(mastdock_unit_store_place(unit, 0, store, sizeof store), 0, 0);
+    EXPECT_PLACE(mastdock_unit_store_place(unit, 4, store, sizeof store), 0, 0);
+    EXPECT_PLACE(mastdock_unit_store_place(unit, UINT64_MAX, store, sizeof store), 0, 0);
+    EXPECT_PLACE(mastdock_unit_store_place(unit, 3, store, sizeof store - 1), 0, 0);
+    unit.runs[1].depth = 0;
+    EXPECT_PLACE(mastdock_unit_store_place(unit, 1, store, 96), 0, 96);
+    EXPECT_PLACE(mastdock_unit_store_place(unit, 3, store, sizeof store), 0, 0);
+    unit.count = 0;
+    EXPECT_PLACE(mastdock_unit_store_place(unit, 0, store, sizeof store), 0, 0);
+    unit.count = 9;
+    EXPECT_PLACE(mastdock_unit_store_place(unit, 1, store, sizeof store), 0, 0);
+}
+
+static void units(void) {
+    for (uint64_t budget = 0; budget <= UNIT_LABELS + 1; budget++)
+        unit_after(budget);
+    unit_after(UINT64_MAX);
+    units_refused();
+    store_places();
+}
+
 /* A file, an opening, leaves and a list of no elements. */
 static void null_files(void) {
     const uint64_t leaf = 0;
@@ -307,6 +424,7 @@ int main(void) {
     message_blocks();
     label_blocks();
     editions();
+    units();
     null_files();
     answers();
     return 0;

@@ -1,6 +1,6 @@
 //! The calls as the static library exports them: the same as `include/mastdock.h`, which says what pointers owe. A pointer may be
 //! null where the number of elements is 0. No struct has padding. Nothing here is needed where the safe functions serve.
-use crate::{Hash, Opening, Place, Run, Writing};
+use crate::{Hash, Opening, Place, Run, Unit, Writing};
 
 #[repr(C)]
 #[derive(Clone, Debug, PartialEq, Eq)]
@@ -47,6 +47,15 @@ pub struct RunAdvanced {
 pub struct RunRecorded {
     pub refusal: u64,
     pub size: usize,
+}
+
+#[repr(C)]
+#[derive(Clone, Debug, PartialEq, Eq)]
+pub struct UnitAdvanced {
+    pub refusal: u64,
+    pub labels: u64,
+    pub blocks: u64,
+    pub unit: Unit,
 }
 
 #[repr(C)]
@@ -147,6 +156,8 @@ extern "C" {
     pub fn mastdock_run_advance(run: Run, budget: u64, store: *mut u8, store_len: usize) -> RunAdvanced;
     pub fn mastdock_run_record(run: Run, out: *mut u8, out_len: usize) -> RunRecorded;
     pub fn mastdock_run_resume(record: *const u8, record_len: usize) -> RunStarted;
+    pub fn mastdock_unit_advance(unit: Unit, budget: u64, store: *mut u8, store_len: usize) -> UnitAdvanced;
+    pub fn mastdock_unit_store_place(unit: Unit, i: u64, store: *const u8, store_len: usize) -> Place;
     pub fn mastdock_opening_start(
         edition: u64,
         statement: *const [u8; 32],

@@ -1,6 +1,6 @@
 //! The layout that the library was compiled with: the assertions of `include/mastdock.h`.
 use crate::ffi::*;
-use crate::{Hash, Opening, Place, Run, Writing};
+use crate::{Hash, Opening, Place, Run, Unit, Writing};
 use std::mem::{align_of, offset_of, size_of};
 
 /// Size and alignment of a struct, and the offset of each field.
@@ -23,6 +23,8 @@ layout!(Run, 1376, 8, statement 0, edition 32, depth 40, memory 48, made 56, hel
 layout!(RunStarted, 1384, 8, refusal 0, run 8);
 layout!(RunAdvanced, 1400, 8, refusal 0, labels 8, blocks 16, run 24);
 layout!(RunRecorded, 16, 8, refusal 0, size 8);
+layout!(Unit, 11024, 8, count 0, last 8, runs 16);
+layout!(UnitAdvanced, 11048, 8, refusal 0, labels 8, blocks 16, unit 24);
 layout!(Opening, 1384, 8, statement 0, edition 32, depth 40, memory 48, leaf 56, made 64, held 72);
 layout!(OpeningStarted, 1392, 8, refusal 0, opening 8);
 layout!(OpeningAdvanced, 1408, 8, refusal 0, labels 8, blocks 16, opening 24);

@@ -1,7 +1,7 @@
 //! Proofs of sequential work of Cohen and Pietrzak, for reports sealed with no network: safe calls of the proved static library
 //! `libcapi.a`. Every call is decided for every argument; a refusal is a [`Refusal`] with document 01's number, or a change
 //! request's. States are plain data and may be kept and continued later; a run that goes on elsewhere has a record ([`Run::record`]).
-//! All memory is lent by the caller.
+//! Up to eight runs may share one [`Unit`] and its budget. All memory is lent by the caller.
 //!
 //! # Editions
 //!
@@ -56,6 +56,7 @@ mod opening;
 mod refusal;
 mod run;
 mod sizes;
+mod unit;
 mod writing;
 
 pub use chain::{compare, draw, plan, Clash, Drawing};
@@ -66,6 +67,7 @@ pub use refusal::{Refusal, Rejected};
 pub use run::{Made, Run};
 pub use sizes::{
     file_size, head_size, labels, labels_anew, opening_size, store_size, HELD_SIZE, MAX_CHAIN, MAX_COUNT, MAX_DEPTH,
-    MAX_EDITION, MAX_MEMORY, MAX_RECORD, MAX_STORE, NEW_EDITION,
+    MAX_EDITION, MAX_MEMORY, MAX_RECORD, MAX_RUNS, MAX_STORE, NEW_EDITION,
 };
+pub use unit::Unit;
 pub use writing::Writing;

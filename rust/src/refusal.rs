@@ -42,11 +42,13 @@ pub enum Refusal {
     Input = 17,
     /// The record's length is not what its numbers require.
     RecordLength = 18,
+    /// Not 1 to 8 runs in a unit, or the run named as served last not among them.
+    Runs = 21,
 }
 
 impl Refusal {
     /// All of them, in the order of their numbers.
-    pub const ALL: [Refusal; 18] = [
+    pub const ALL: [Refusal; 19] = [
         Refusal::Depth,
         Refusal::MemoryLevel,
         Refusal::ShortStore,
@@ -65,6 +67,7 @@ impl Refusal {
         Refusal::ShortList,
         Refusal::Input,
         Refusal::RecordLength,
+        Refusal::Runs,
     ];
 
     /// Its number.
@@ -97,6 +100,7 @@ impl Refusal {
             Refusal::ShortList => "list short",
             Refusal::Input => "planning input wrong",
             Refusal::RecordLength => "record length not what its numbers require",
+            Refusal::Runs => "not 1 to 8 runs, or the run served last not among them",
         }
     }
 }

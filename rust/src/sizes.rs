@@ -10,7 +10,9 @@ pub const MAX_DEPTH: u64 = 40;
 pub const MAX_MEMORY: u64 = 14;
 /// The most challenges, openings or leaves.
 pub const MAX_COUNT: u64 = 200;
-/// The bytes of a store of the largest memory level: no call asks for more.
+/// The most runs of a unit.
+pub const MAX_RUNS: usize = 8;
+/// The bytes of a store of the largest memory level: no run asks for more.
 pub const MAX_STORE: usize = 1048544;
 /// The bytes of 41 held labels.
 pub const HELD_SIZE: usize = 1312;

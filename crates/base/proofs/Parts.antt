@@ -1,11 +1,12 @@
 -- Parts of bytes: taken from a place on, and written.
 use mathlib.Core.Path.{_≡_, ap, _∙_}
-use mathlib.Core.List.{List, [], _++_, append-nil}
+use mathlib.Core.List.{List, [], _++_, append-assoc, append-nil}
 use Prim.Native.Nat.{ℕ, _+_, _-_, _≤_}
 use native.Mathlib.Nat.{zero-add}
 use native.Mathlib.Omega.{arith}
 use lib.ListN.{length, take, drop, length-append, length-take, length-drop}
-use lib.Seq.{take-at, take-all, drop-length, length-take-le}
+use lib.Seq.{take-at, take-all, drop-drop, drop-length, length-take-le}
+use borrow.Rule.Slice.PartMut.{putMid}
 use Rattle.base.specs.Bytes.{written}
 
 -- a part from a start to an end is as long as they are apart
@@ -32,3 +33,10 @@ pub written-behind : (d part : List ℕ) (len count : ℕ) → len ≤ length d 
 unfolding written
 written-behind d part len count h n =
     take-at (take len d ++ part) (drop (len + length part) d) (len + count) (rw (length-append, length-take-le len d h, n))
+
+-- a list whose lent part came back
+pub lent-back : (bytes part : List ℕ) (at size : ℕ) → length part ≡ size → putMid at (at + size - at) bytes part ≡ written bytes at part
+unfolding written
+lent-back bytes part at size e =
+    let k : at + size - at ≡ size = omega arith in
+    rw (k, e, drop-drop, append-assoc)

@@ -5,6 +5,7 @@ mod files; // files.rt: challenges, the head, and the checks of openings and fil
 mod hashes; // hashes.rt: SHA-256
 mod openings; // openings.rt: openings
 mod runs; // runs.rt: runs, and their records
+mod units; // units.rt: several runs in one unit
 mod writings; // writings.rt: whole files by budgets
 
 pub use chains::Clash;
@@ -40,6 +41,9 @@ pub use runs::mastdock_run_advance;
 pub use runs::mastdock_run_record;
 pub use runs::mastdock_run_resume;
 pub use runs::mastdock_run_start;
+pub use units::UnitAdvanced;
+pub use units::mastdock_unit_advance;
+pub use units::mastdock_unit_store_place;
 pub use writings::WritingAdvanced;
 pub use writings::WritingStarted;
 pub use writings::mastdock_writing_advance;

@@ -5,6 +5,8 @@ use mathlib.Core.Path.{_≡_, sym}
 use Rattle.sha256.specs.declared.Hash.{Hash}
 use Rattle.run.specs.declared.Run.{Run}
 use Rattle.opening.specs.declared.Opening.{Opening}
+use Rattle.unit.specs.declared.StampingUnit.{StampingUnit}
+use Rattle.unit.specs.declared.StorePlace.{StorePlace}
 use Rattle.writing.specs.declared.Writing.{Writing}
 use Rattle.proof_file.specs.declared.place.Place.{Place}
 use Rattle.capi.specs.declared.hashes.HashUpdated.{HashUpdated}
@@ -15,6 +17,7 @@ use Rattle.capi.specs.declared.runs.RunAdvanced.{RunAdvanced}
 use Rattle.capi.specs.declared.runs.RunRecorded.{RunRecorded}
 use Rattle.capi.specs.declared.openings.OpeningStarted.{OpeningStarted}
 use Rattle.capi.specs.declared.openings.OpeningAdvanced.{OpeningAdvanced}
+use Rattle.capi.specs.declared.units.UnitAdvanced.{UnitAdvanced}
 use Rattle.capi.specs.declared.files.Challenged.{Challenged}
 use Rattle.capi.specs.declared.files.HeadRead.{HeadRead}
 use Rattle.capi.specs.declared.writings.WritingStarted.{WritingStarted}
@@ -68,6 +71,15 @@ pub opening-advanced :
     r .refusal ≡ a → r .labels ≡ b → r .blocks ≡ c → r .opening ≡ d →
     r ≡ record { refusal = a; labels = b; blocks = c; opening = d }
 opening-advanced r pa pb pc pd = rw (sym pa, sym pb, sym pc, sym pd)
+
+pub unit-advanced :
+    (r : UnitAdvanced) {a b c : ℕ} {d : StampingUnit} →
+    r .refusal ≡ a → r .labels ≡ b → r .blocks ≡ c → r .unit ≡ d →
+    r ≡ record { refusal = a; labels = b; blocks = c; unit = d }
+unit-advanced r pa pb pc pd = rw (sym pa, sym pb, sym pc, sym pd)
+
+pub store-place : (r : StorePlace) {a b : ℕ} → r .offset ≡ a → r .length ≡ b → r ≡ record { offset = a; length = b }
+store-place r pa pb = rw (sym pa, sym pb)
 
 pub challenged : (r : Challenged) {a b : ℕ} → r .refusal ≡ a → r .leaf ≡ b → r ≡ record { refusal = a; leaf = b }
 challenged r pa pb = rw (sym pa, sym pb)

@@ -14,6 +14,10 @@ use Rattle.opening.specs.declared.Opening.{Opening}
 use Rattle.opening.specs.Rows.{openRow, reopenRow}
 use Rattle.opening.specs.Names.{openOf}
 use Rattle.opening.specs.Steps as openings
+use Rattle.unit.specs.declared.StampingUnit.{StampingUnit}
+use Rattle.unit.specs.declared.StorePlace.{StorePlace}
+use Rattle.unit.specs.Rows.{unitRow}
+use Rattle.unit.specs.Turns as units
 use Rattle.proof_file.specs.declared.place.Place.{Place}
 use Rattle.file_head.specs.Challenge.{challengeRow, challenged}
 use Rattle.file_head.specs.Head.{headRefusal, headEdition, headDepth, headCount, headOf, partStart, partLength}
@@ -34,6 +38,7 @@ use Rattle.capi.specs.declared.runs.RunAdvanced.{RunAdvanced}
 use Rattle.capi.specs.declared.runs.RunRecorded.{RunRecorded}
 use Rattle.capi.specs.declared.openings.OpeningStarted.{OpeningStarted}
 use Rattle.capi.specs.declared.openings.OpeningAdvanced.{OpeningAdvanced}
+use Rattle.capi.specs.declared.units.UnitAdvanced.{UnitAdvanced}
 use Rattle.capi.specs.declared.files.Challenged.{Challenged}
 use Rattle.capi.specs.declared.files.HeadRead.{HeadRead}
 use Rattle.capi.specs.declared.writings.WritingStarted.{WritingStarted}
@@ -99,6 +104,19 @@ openingAdvance opening budget store out =
       blocks = openings.blocksIn store (openOf opening out) budget;
       opening = openings.advanced store (openOf opening out) budget .opening;
     }
+
+abbrev pub unitAdvance : StampingUnit → ℕ → List ℕ → UnitAdvanced
+unitAdvance unit budget store =
+    record {
+      refusal = unitRow unit (length store);
+      labels = units.labelsIn (units.carried unit store) budget;
+      blocks = units.blocksIn (units.carried unit store) budget;
+      unit = units.advanced (units.carried unit store) budget .unit;
+    }
+
+abbrev pub unitStorePlace : StampingUnit → ℕ → List ℕ → StorePlace
+unitStorePlace unit i store =
+    record { offset = units.placeOffset unit i (length store); length = units.placeLength unit i (length store) }
 
 abbrev pub challenge : ℕ → List ℕ → List ℕ → ℕ → ℕ → Challenged
 challenge edition statement root depth i =

@@ -7,6 +7,7 @@ ghost use Rattle.run.specs.Steps as runs;
 ghost use Rattle.run_record.specs.Layout.{recordWritten};
 ghost use Rattle.opening.specs.Names.{openOf};
 ghost use Rattle.opening.specs.Steps as openings;
+ghost use Rattle.unit.specs.Turns as units;
 ghost use Rattle.opening_check.specs.OpeningCheck.{openingRow};
 ghost use Rattle.file_head.specs.Layout.{headRow, headWritten};
 ghost use Rattle.proof_file.specs.FileCheck.{fileCheck};
@@ -16,6 +17,7 @@ ghost use Rattle.chain.specs.PlanRow.{plannedList};
 ghost use Rattle.draw.specs.Drawing.{drawnList};
 ghost use Rattle.capi_answers.specs.Answers.{hashUpdate, hashFinish, digest, runStart, runAdvance, runRecord, runResume, openingStart};
 ghost use Rattle.capi_answers.specs.Answers.{openingAdvance, challenge, readHead, openingPlace, writingStart, writingAdvance, plan, compare, draw};
+ghost use Rattle.capi_answers.specs.Answers.{unitAdvance, unitStorePlace};
 use capi::Challenged;
 use capi::Compared;
 use capi::Drawn;
@@ -29,12 +31,15 @@ use capi::Planned;
 use capi::RunAdvanced;
 use capi::RunRecorded;
 use capi::RunStarted;
+use capi::UnitAdvanced;
 use capi::WritingAdvanced;
 use capi::WritingStarted;
 use opening::Opening;
 use proof_file::Place;
 use run::Run;
 use sha256::Hash;
+use unit::StampingUnit;
+use unit::StorePlace;
 use writing::Writing;
 
 pub fn hash_new() -> Hash
@@ -112,6 +117,19 @@ pub fn opening_advance(
     ensures { λ _. ⌜ now (out .exit) ≡ openings.advanced (now (store .entry)) (openOf opening (now (out .entry))) budget .out ⌝ }
 {
     capi::mastdock_opening_advance(opening, budget, store, out)
+}
+
+pub fn unit_advance(unit: StampingUnit, budget: u64, store: &mut [u8]) -> UnitAdvanced
+    ensures { λ r. ⌜ r ≡ unitAdvance unit budget (now (store .entry)) ⌝ }
+    ensures { λ _. ⌜ now (store .exit) ≡ units.advanced (units.carried unit (now (store .entry))) budget .store ⌝ }
+{
+    capi::mastdock_unit_advance(unit, budget, store)
+}
+
+pub fn unit_store_place(unit: StampingUnit, i: u64, store: &[u8]) -> StorePlace
+    ensures { λ r. ⌜ r ≡ unitStorePlace unit i (now (store .entry)) ⌝ }
+{
+    capi::mastdock_unit_store_place(unit, i, store)
 }
 
 pub fn challenge(

@@ -2,7 +2,7 @@
 use mathlib.Core.Path.{_≡_, sym, ap, _∙_}
 use mathlib.Core.Logic.{inl}
 use mathlib.Core.Bool.{Bool, true, false}
-use mathlib.Core.List.{List, [], _∷_, _++_, append-assoc, append-nil}
+use mathlib.Core.List.{List, [], _∷_, _++_, append-nil}
 use Prim.Native.Nat.{ℕ, suc, _+_, _-_, _*_, _/_, _%_, _^_, _≤_, _<_}
 use native.Mathlib.Nat.{mul-suc, suc-mul, mul-le-mul, mul-le-mul-left, mul-le-mul-right}
 use native.Mathlib.Numerals.{add-one}
@@ -10,7 +10,6 @@ use native.Mathlib.Omega.{arith}
 use borrow.Author.Count.{below-more}
 use lib.ListN.{length, getD, take, drop, length-append}
 use lib.Seq.{drop-drop}
-use borrow.Rule.Slice.PartMut.{putMid}
 use Rattle.base.specs.Choice.{odd}
 use Rattle.base.specs.Bytes.{joined, written}
 use Rattle.base.specs.Limits.{maxDepth, maxChallenges}
@@ -101,13 +100,6 @@ row-more edition statement bytes first row after n leaf h child small most size 
     }
 
 -- ---- the rows
--- a list whose lent part came back
-pub lent-back : (bytes part : List ℕ) (at size : ℕ) → length part ≡ size → putMid at (at + size - at) bytes part ≡ written bytes at part
-unfolding written
-lent-back bytes part at size e =
-    let k : at + size - at ≡ size = omega arith in
-    rw (k, e, drop-drop, append-assoc)
-
 pub opening-fits : (n i t : ℕ) → i < t → i * openingSize n + openingSize n ≤ t * openingSize n
 opening-fits n i t h = rw (← suc-mul i (openingSize n)) (mul-le-mul-right {m = suc i} {n = t} (openingSize n) h)
 

@@ -1,7 +1,7 @@
 -- W-208, 'One unit, several surveyors', sentence by sentence. Its row and what a refused call leaves as it is stand with the others in Demand1.
 use mathlib.Core.Path.{_≡_}
 use mathlib.Core.Logic.{_⊎_}
-use Prim.Native.Nat.{ℕ, _+_, _-_, _*_, _^_, _≤_, _<_, min}
+use Prim.Native.Nat.{ℕ, _+_, _-_, _*_, _^_, _≤_, _<_}
 use mathlib.Core.List.{List}
 use lib.ListN.{length, getD, take, drop}
 use Rattle.machine.specs.Calls.{total}

@@ -1,25 +1,17 @@
 -- One label of a run in its part of the slice, which is lent and comes back.
 use mathlib.Core.Path.{_≡_, ap, _∙_}
-use mathlib.Core.List.{List, _++_, append-assoc}
+use mathlib.Core.List.{List}
 use Prim.Native.Nat.{ℕ, _+_, _-_, _≤_}
 use native.Mathlib.Omega.{arith}
 use borrow.Rule.Slice.PartMut.{putMid}
 use lib.ListN.{length, take, drop}
-use lib.Seq.{drop-drop}
 use Rattle.base.specs.Bytes.{written}
-use Rattle.base.proofs.Parts.{part-size, part-length}
+use Rattle.base.proofs.Parts.{part-size, part-length, lent-back}
 use Rattle.tree.specs.Store.{storeSize}
 use Rattle.labelling.specs.Blocks.{mostBlocks}
 use Rattle.run.specs.declared.Run.{Run}
 use Rattle.run.specs.Steps.{Stamped, runOf, stamped, stepped, stepBlocks}
 use Rattle.unit.specs.Runs.{partFrom}
-
--- a list whose lent part came back
-lent-back : (bytes part : List ℕ) (at size : ℕ) → length part ≡ size → putMid at (at + size - at) bytes part ≡ written bytes at part
-unfolding written
-lent-back bytes part at size e =
-    let k : at + size - at ≡ size = omega arith in
-    rw (k, e, drop-drop, append-assoc)
 
 module _ (run : Run) (held store : List ℕ) (from size : ℕ) (is : size ≡ storeSize (run .memory)) (fits : from + storeSize (run .memory) ≤ length store) where
   abbrev with-part : List ℕ → Stamped

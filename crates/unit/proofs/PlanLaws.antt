@@ -1,5 +1,5 @@
 -- The runs looked over in order: the row so far, and the arrays that are filled beside it.
-use mathlib.Core.Path.{_≡_, refl, sym, ap, ap₂, subst, _∙_}
+use mathlib.Core.Path.{_≡_, sym, ap, ap₂, subst, _∙_}
 use mathlib.Core.Logic.{⊎-elim}
 use mathlib.Core.Bool.{true, false}
 use mathlib.Core.List.{List}
@@ -23,7 +23,7 @@ use Rattle.run.specs.Rows.{continueRow}
 use Rattle.run.proofs.RowLaws.{Whole, may-go-on}
 use Rattle.run.proofs.StepLaws.{small-nodes}
 use Rattle.unit.specs.declared.StampingUnit.{StampingUnit}
-use Rattle.unit.specs.Runs.{outsideRun, runAt, leftOf, sumTo, sumOf, sizeOf, storeFrom}
+use Rattle.unit.specs.Runs.{outsideRun, runAt, leftOf, sumTo, sumOf, sizeOf}
 use Rattle.unit.specs.Rows.{runsRow, namedRow}
 use Rattle.unit.specs.Turns.{Carried}
 use Rattle.unit.specs.Plans.{Planned}

@@ -2,10 +2,10 @@
 use mathlib.Core.Path.{_≡_, refl, ap, _∙_}
 use Prim.Native.Nat.{_-_, _*_, _≤_}
 use lib.ListN.{length}
-use Rattle.base.proofs.Parts.{part-size, part-length}
+use Rattle.base.proofs.Parts.{part-size, part-length, lent-back}
 use Rattle.tree.specs.Openings.{openingSize}
 use Rattle.compare.specs.Table.{TableOf, rowSize, tableSize}
-use Rattle.compare.proofs.Filling.{Lies, lies, lent-back, table-more}
+use Rattle.compare.proofs.Filling.{Lies, lies, table-more}
 use borrow.Author.Needs.{needs}
 use native.Mathlib.Nat.{le-trans, le-add-right, lt-of-lt-of-le}
 use native.Mathlib.Omega.{arith}

@@ -1,5 +1,4 @@
 -- `unit::turns::after` meets its contract, by the test.
-use mathlib.Core.Path.{refl}
 use borrow.Author.Needs.{needs}
 use borrow.Author.Tests.{lt-ltb, le-ltb}
 use Rattle.unit.proofs.turns.after.Statement.{statement}
