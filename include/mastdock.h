@@ -231,7 +231,7 @@ mastdock_unit_advanced mastdock_unit_advance(mastdock_unit unit, uint64_t budget
 
 /* Where the store of run i, from 1, lies in the memory of the unit: nowhere if count is not 1..8, i is not 1..count, or one of runs 1
  * to i would be refused with 4 or 3; `last` and the runs after run i are not looked at. That part alone is the store that the calls for
- * one run, for its openings and for its file take. No refusal. */
+ * one run, for its openings and for its file take. No refusal. Its stack is that of mastdock_unit_advance at most. */
 mastdock_place mastdock_unit_store_place(mastdock_unit unit, uint64_t i, const uint8_t *store, size_t store_len);
 
 /* ---- Openings ---- */

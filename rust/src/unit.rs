@@ -39,7 +39,7 @@ use std::array;
 pub struct Unit {
     /// How many runs it carries: the first so many of `runs`.
     pub count: u64,
-    /// The number, from 1, of the run served last; never 0. The next label is of the first unfinished run after it.
+    /// The number, from 1, of the run served last, finished or not; 0 is refused. The next label is of the first unfinished run after it.
     pub last: u64,
     /// Run `i` is `runs[i - 1]`. Places beyond the count are not looked at and stay as they are.
     pub runs: [Run; MAX_RUNS],
@@ -60,7 +60,7 @@ impl Unit {
     /// Makes exactly the smaller of the budget and the labels that remain of all runs, one at a time, in turn, beginning after the run
     /// served last; finished runs are passed over. Gives that number with the blocks of these labels; what one run got is read off its
     /// `made`. Bytes behind the last store stay as they are. Refused with 21, then for each run in order with 4, 3, which changes nothing
-    /// in any.
+    /// in any. Holds copies of the unit on the stack: its thread wants 0.1 MB.
     pub fn advance(&mut self, budget: u64, store: &mut [u8]) -> Result<Made, Refusal> {
         // SAFETY: pointer and length are a slice's, which is borrowed alone, and every state is allowed.
         let advanced = unsafe { ffi::mastdock_unit_advance(self.clone(), budget, store.as_mut_ptr(), store.len()) };

@@ -1,4 +1,4 @@
--- Document 01, 'The checks, by place': the number of each refusal, and a check's answer as one number.
+-- Document 01, 'The checks, by place': the number of each refusal, from 18 on a change request's, and a check's answer as one number.
 use Prim.Native.Nat.{ℕ, _+_, _*_}
 use Rattle.base.specs.declared.refusal.Refusal.{Refusal}
 use Rattle.base.specs.declared.refusal.Refusal.the-variants.{Depth, MemoryLevel, ShortStore, State, TooManyBytes, LeafPosition, ShortOutput, Count}

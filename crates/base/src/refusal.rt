@@ -1,10 +1,10 @@
-// The refusals of document 01 and the answers that carry them.
+// The refusals of document 01 and of the change requests, and the answers that carry them.
 ghost use mathlib.Core.Path.{_≡_};
 ghost use Rattle.base.specs.Number.{numberOf, outcomeNumber, codeOf};
 ghost use Rattle.base.specs.Row.{outside, memoryOver};
 use crate::MAX_MEMORY;
 
-// What was wrong. Document 01's number of each case is `numberOf` of specs/Number.antt.
+// What was wrong. The number of each case, document 01's or a change request's, is `numberOf` of specs/Number.antt.
 pub enum Refusal {
     Depth,
     MemoryLevel,
@@ -40,7 +40,7 @@ pub enum Check {
     Rejected(Refusal, u8),
 }
 
-// Document 01's number of a refusal.
+// The number of a refusal.
 pub fn number(r: Refusal) -> u64
     ensures { λ n. ⌜ n ≡ numberOf r ⌝ }
 {

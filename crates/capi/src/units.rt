@@ -41,7 +41,7 @@ pub extern "C" fn mastdock_unit_advance(
     }
 }
 
-// Where run i's store, from 1, lies in the slice; 0 and 0 where there is none.
+// Where the store of run i, from 1, lies in the slice; 0 and 0 where there is none.
 #[no_mangle]
 pub extern "C" fn mastdock_unit_store_place(unit: StampingUnit, i: u64, store: &[u8]) -> StorePlace
     ensures { λ r. ⌜ r .offset ≡ placeOffset unit i (length (now (store .entry))) ⌝ }

@@ -11,7 +11,7 @@ use Rattle.base.specs.Choice.{pick}
 use Rattle.base.specs.Limits.{maxRuns}
 use Rattle.base.specs.Row.{outside, either, isDone}
 use Rattle.base.proofs.RowLaws.{some-refused}
-use Rattle.machine.proofs.StepLaws.{done-refused, cost-refused, advanced-refused, done-idle, advanced-idle}
+use Rattle.machine.proofs.StepLaws.{done-refused, cost-refused, advanced-refused, done-idle, cost-idle, advanced-idle}
 use Rattle.tree.specs.Walk.{nodesIn}
 use Rattle.tree.specs.Store.{storeSize}
 use Rattle.run.specs.declared.Run.{Run}
@@ -21,7 +21,7 @@ use Rattle.unit.specs.Runs.{runAt, leftOf, sumOf, sizeOf}
 use Rattle.unit.specs.Rows.{runsRow, namedRow, unitRow}
 use Rattle.unit.specs.Turns.{Carried, carried, unitMachine, turnBlocks}
 use Rattle.unit.proofs.SumLaws.{none-sum}
-use Rattle.demands.specs.Rows.{Row, IsFirst, Outside, continuingRun, servingRuns, servingUnit}
+use Rattle.demands.specs.Rows.{Row, IsFirst, Outside, continuingRun, servingRuns, namingRun}
 use Rattle.demands.specs.Demand1.{ServingUnit}
 use Rattle.demands.proofs.Decisions.{Decides, decides-outside, decides-lt, decides-either, given}
 use Rattle.demands.proofs.Checks.{decides-impossible}
@@ -56,33 +56,33 @@ runs-first runs store (suc more) i from left e =
     (run-first run (store - from) (drop 2 (servingRuns runs i (suc more) from store)) (runsRow runs (i + 1) more (store - from - sizeOf run))
     (runs-first runs store more (i + 1) _ (store - from - sizeOf run) (omega arith)))
 
-module _ (unit : StampingUnit) (store : ℕ) where
+module _ (unit : StampingUnit) (name end store : ℕ) where
   abbrev notNamed : Bool
-  notNamed = either (outside 1 maxRuns (unit .count)) (outside 1 (unit .count) (unit .last))
+  notNamed = either (outside 1 maxRuns (unit .count)) (outside 1 (unit .count) name)
 
-  decides-named : Decides notNamed (Outside 1 maxRuns (unit .count) ⊎ Outside 1 (unit .count) (unit .last))
-  decides-named = decides-either (decides-outside 1 maxRuns (unit .count)) (decides-outside 1 (unit .count) (unit .last))
+  decides-named : Decides notNamed (Outside 1 maxRuns (unit .count) ⊎ Outside 1 (unit .count) name)
+  decides-named = decides-either (decides-outside 1 maxRuns (unit .count)) (decides-outside 1 (unit .count) name)
 
   -- 21 is answered whatever the runs are
-  not-named : notNamed ≡ true → IsFirst (servingUnit unit store) 21
+  not-named : notNamed ≡ true → IsFirst (namingRun unit name end store) 21
   not-named e =
       given (omega arith)
       (⊎-elim (λ over. inl (λ within. over (omega (arith, within .0), omega (arith, within .1)))) (λ other. inr other) (decides-named .yes e))
 
   named-by :
-      (t : Bool) → notNamed ≡ t → IsFirst (servingUnit unit store) (pick t 21 (runsRow (unit .runs) 1 (unit .count) store))
+      (t : Bool) → notNamed ≡ t → IsFirst (namingRun unit name end store) (pick t 21 (runsRow (unit .runs) 1 end store))
   named-by true e = not-named e
   named-by false e =
       inr (
         λ wrong.
             decides-named .no e
             (⊎-elim (λ over. inl (λ within. over (omega (arith, within .0), omega (arith, within .1)))) (λ other. inr other) wrong),
-        runs-first (unit .runs) store (unit .count) 1 _ store (omega arith),
+        runs-first (unit .runs) store end 1 _ store (omega arith),
       )
 
-  unit-first : IsFirst (servingUnit unit store) (namedRow unit (unit .last) (unit .count) store)
+  pub naming-run : IsFirst (namingRun unit name end store) (namedRow unit name end store)
   unfolding namedRow
-  unit-first = named-by notNamed refl
+  naming-run = named-by notNamed refl
 
 -- ---- a call that makes no label
 pub serving-unit : (unit : StampingUnit) (store : List ℕ) (budget : ℕ) → ServingUnit unit store budget
@@ -90,7 +90,7 @@ unfolding unitMachine nodesIn
 serving-unit unit store budget =
     let s : Carried = carried unit store in
     record {
-      answer = unit-first unit (length store);
+      answer = naming-run unit (unit .last) (unit .count) (length store);
       refused =
           λ some.
           let no = some-refused (unitRow unit (length store)) some in (
@@ -103,5 +103,5 @@ serving-unit unit store budget =
           ⊎-elim (λ e. inl e)
           (λ finished. inr (none-sum _ (unit .count) (λ i some few. omega (arith, finished i (some, few)))))
           h in
-          (done-idle unitMachine s budget none, advanced-idle unitMachine s budget none);
+          (done-idle unitMachine s budget none, (cost-idle unitMachine s budget turnBlocks none, advanced-idle unitMachine s budget none));
     }

@@ -23,17 +23,19 @@ use Rattle.unit.proofs.PlaceLaws.{place-offset, place-length, place-before, no-
 use Rattle.unit.proofs.TurnLaws.{next-some, unit-goes}
 use Rattle.unit_theory.specs.Served.{servedOver, times, called}
 use Rattle.unit_theory.proofs.AloneCalls.{turnsMade, report-is, served-is, still-served, sum-over, blocks-over, name-over, kept-over}
-use Rattle.unit_theory.proofs.AloneCalls.{alone-labels, alone-call, finished-over, finished-kept, ends-alone}
+use Rattle.unit_theory.proofs.AloneCalls.{alone-labels, alone-call, made-over, finished-over, finished-kept, ends-over, ends-alone}
 use Rattle.unit_theory.proofs.Turns as turns
 use Rattle.demands.specs.Demand1.{CarriedOut}
 use Rattle.demands.specs.Units.{NotRefused, IsRun, Unfinished, allLeft, PassedOn, InTurn, AsAlone, UnitCalls, WaitsAtMost7}
 use Rattle.demands.specs.Units.{EqualShares, NeverServed, StorePlaces, OwnPart, Units}
 use Rattle.demands.proofs.Carrying.{carried-out}
+use Rattle.demands.proofs.Serving.{naming-run}
 
 -- ---- where the stores lie
 pub store-places : (unit : StampingUnit) (store : ℕ) → StorePlaces unit store
 store-places unit store =
     record {
+      row = λ i. naming-run unit i i store;
       first = omega (arith, first-place unit store);
       next =
           λ i some e.
@@ -120,8 +122,10 @@ module _ (s : Carried) (budgets : List ℕ) (e : NotRefused s) where
         record {
           same = alone-call s e budgets i among;
           labels = alone-labels s e budgets i among;
+          made = made-over s e budgets i among;
           place = same-place;
-          ends = λ enough own fits. ends-alone s e budgets i among (omega (arith, enough, all-left s)) own (omega (arith, fits));
+          ends = λ finished own fits. ends-alone s e budgets i among (omega (arith, finished)) own (omega (arith, fits));
+          finishes = λ enough un. omega (arith, un, ends-over s e budgets i among (omega (arith, enough, all-left s)));
         }
 
   -- the stores end where that of one run more would begin

@@ -262,7 +262,8 @@ pub record ServingUnit (unit : StampingUnit) (store : List ℕ) (budget : ℕ) :
       × ((units.blocksIn (carried unit store) budget ≡ 0) × (units.advanced (carried unit store) budget ≡ carried unit store))
   pub idle :
       (budget ≡ 0) ⊎ ((i : ℕ) → (1 ≤ i) × (i ≤ unit .count) → 2 ^ (runAt (unit .runs) i .depth + 1) - 1 ≤ runAt (unit .runs) i .made)
-      → (units.labelsIn (carried unit store) budget ≡ 0) × (units.advanced (carried unit store) budget ≡ carried unit store)
+      → (units.labelsIn (carried unit store) budget ≡ 0)
+      × ((units.blocksIn (carried unit store) budget ≡ 0) × (units.advanced (carried unit store) budget ≡ carried unit store))
 
 -- ---- the demand
 pub record Demand1 : Type 0 where

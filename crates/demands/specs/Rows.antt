@@ -322,7 +322,14 @@ servingRuns runs i (suc more) from store =
     let run : Run = runAt runs i in
     continuingRun run (store - from) ++ servingRuns runs (i + 1) more (from + 32 * (2 ^ (run .memory + 1) - 1)) store
 
--- '21, not 1 to 8 runs, or the run named as served last not among them; checked first'
+-- '21, not 1 to 8 runs, or the run named as served last not among them; checked first': a run is named, and those up to `end` follow
+abbrev pub namingRun : StampingUnit → ℕ → ℕ → ℕ → Row
+namingRun unit name end store =
+    (Outside 1 8 (unit .count) ⊎ Outside 1 (unit .count) name, 21) ∷ servingRuns (unit .runs) 1 end 0 store
+
+-- a call names the run served last and takes all runs; where run i's store lies is asked by naming it, and takes the runs up to it
 abbrev pub servingUnit : StampingUnit → ℕ → Row
-servingUnit unit store =
-    (Outside 1 8 (unit .count) ⊎ Outside 1 (unit .count) (unit .last), 21) ∷ servingRuns (unit .runs) 1 (unit .count) 0 store
+servingUnit unit store = namingRun unit (unit .last) (unit .count) store
+
+abbrev pub askingPlace : StampingUnit → ℕ → ℕ → Row
+askingPlace unit i store = namingRun unit i i store

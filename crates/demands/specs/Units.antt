@@ -13,6 +13,7 @@ use Rattle.unit.specs.Runs.{runAt, sumTo}
 use Rattle.unit.specs.Rows.{unitRow, placeRow}
 use Rattle.unit.specs.Turns.{Carried, ownOf, nextRun, labelsIn, advanced, placeOffset, placeLength}
 use Rattle.unit_theory.specs.Served.{servedIn, servedOver, times, lastNamed, called, reported, reportedBlocks}
+use Rattle.demands.specs.Rows.{IsFirst, askingPlace}
 use Rattle.demands.specs.Demand1.{CarriedOut}
 
 -- a unit and its slice that a call does not refuse
@@ -35,7 +36,7 @@ abbrev pub allLeft : Carried → ℕ
 allLeft s = sumTo (λ i. labelsLeft (runAt (s .unit .runs) i)) (s .unit .count)
 
 -- ---- 'in turn, beginning after the run named as served last'; 'finished runs are passed over'
--- run j comes before `next` when the runs are gone through after `last`, from the highest on to run 1
+-- run j comes before `next` when the runs are gone through in turn from the one after `last` on; after the highest comes run 1
 abbrev pub PassedOn : ℕ → ℕ → ℕ → Type 0
 PassedOn last next j = ((last < j) × (j < next)) ⊎ ((next ≤ last) × ((last < j) ⊎ (j < next)))
 
@@ -51,12 +52,14 @@ pub record InTurn (s : Carried) : Type 0 where
 pub record AsAlone (s : Carried) (budgets : List ℕ) (i : ℕ) : Type 0 where
   pub same : ownOf (called s budgets) i ≡ runs.advanced (ownOf s i) (times i (servedOver s budgets))
   pub labels : runs.labelsIn (ownOf s i) (times i (servedOver s budgets)) ≡ times i (servedOver s budgets)
+  pub made : runAt (called s budgets .unit .runs) i .made ≡ runAt (s .unit .runs) i .made + times i (servedOver s budgets)
   -- its part lies where it lay
   pub place : placeOffset (called s budgets .unit) i (length (s .store)) ≡ placeOffset (s .unit) i (length (s .store))
-  -- when the unit has no labels left it is what the run alone is at its end
+  -- when it is finished it is what the run alone is at its end, and budgets that suffice for all runs finish it
   pub ends :
-      allLeft s ≤ total budgets → (own : List ℕ) → labelsLeft (runAt (s .unit .runs) i) ≤ total own
+      (Unfinished (called s budgets) i → ⊥) → (own : List ℕ) → labelsLeft (runAt (s .unit .runs) i) ≤ total own
       → ownOf (called s budgets) i ≡ alone.called (ownOf s i) own
+  pub finishes : allLeft s ≤ total budgets → Unfinished (called s budgets) i → ⊥
 
 pub record UnitCalls (s : Carried) (budgets : List ℕ) : Type 0 where
   pub asAlone : (i : ℕ) → IsRun s i → AsAlone s budgets i
@@ -102,6 +105,8 @@ pub record NeverServed (s : Carried) (budgets : List ℕ) (i : ℕ) : Type 0 whe
 
 -- ---- 'their stores end to end in one lent slice': where they lie, over a slice of so many bytes
 pub record StorePlaces (unit : StampingUnit) (store : ℕ) : Type 0 where
+  -- a run has one if the unit has that run, and neither it nor one before it is refused
+  pub row : (i : ℕ) → IsFirst (askingPlace unit i store) (placeRow unit i store)
   pub first : placeOffset unit 1 store ≡ 0
   pub next :
       (i : ℕ) → 1 ≤ i → placeRow unit (i + 1) store ≡ 0

@@ -2,7 +2,7 @@
 use mathlib.Core.Path.{_≡_, refl, sym, ap, _∙_}
 use mathlib.Core.Logic.{_⊎_, ⊎-elim}
 use mathlib.Core.Bool.{Bool, true, false}
-use mathlib.Core.List.{_++_, append-assoc, append-nil}
+use mathlib.Core.List.{[], _∷_, _++_, append-assoc, append-nil}
 use Prim.Native.Nat.{ℕ, zero, suc, _+_, _≤_, _<_, min}
 use native.Mathlib.Nat.{add-zero, add-suc}
 use native.Mathlib.Numerals.{add-one}
@@ -76,8 +76,10 @@ module _ {S : Type 0} (machine : Machine S) where
     unfolding readings
     readings-add zero k s = rw (add-zero k) (append-nil (readings machine of k s))
     readings-add (suc j) k s =
-        rw (add-suc k j, ← readings-add j k s, steps-add j k s)
-        (sym (append-assoc (readings machine of k s) (readings machine of j (steps machine k s)) _))
+        rw (add-suc k j)
+        (sym (append-assoc (readings machine of k s) (readings machine of j (steps machine k s)) (of (steps machine j (steps machine k s)) ∷ []))
+        ∙ ap (λ l. l ++ of (steps machine j (steps machine k s)) ∷ []) (readings-add j k s)
+        ∙ ap (λ t. readings machine of (k + j) s ++ of t ∷ []) (steps-add j k s))
 
     pub readings-length : (k : ℕ) (s : S) → length (readings machine of k s) ≡ k
     unfolding readings

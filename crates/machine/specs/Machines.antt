@@ -1,5 +1,5 @@
--- Document 01, 'Runs in lent memory': work that is done a step at a time, in calls with budgets. A run, an opening and the
--- writing of a file are such machines.
+-- Document 01, 'Runs in lent memory': work that is done a step at a time, in calls with budgets. A run, an opening, the
+-- writing of a file and a unit of several runs (W-208) are such machines.
 use mathlib.Core.Path.{_≡_}
 use Prim.Native.Nat.{ℕ, zero, suc, _+_, _-_, _≤_, min}
 use mathlib.Core.List.{List, [], _∷_, _++_}

@@ -1,4 +1,5 @@
 // What a call answered, the digest of a whole unit, and where the stores of its runs lie.
+use base::HELD_SIZE;
 use base::MAX_RUNS;
 use base::big_endian;
 use base::outcome_number;
@@ -13,7 +14,7 @@ use vector_helpers::named_hex;
 // The labels made of each place.
 fn made_columns(runs: [Run; MAX_RUNS]) {
     let mut i: usize = 0;
-    while i < 8 {
+    while i < MAX_RUNS {
         let run = runs[i];
         column(run.made);
         i += 1;
@@ -39,7 +40,7 @@ fn with_number(state: Hash, x: u64) -> Hash {
     step.hash
 }
 
-fn with_places(state: Hash, held: [u8; 1312]) -> Hash {
+fn with_places(state: Hash, held: [u8; HELD_SIZE]) -> Hash {
     let step = state.update(&held);
     step.hash
 }
@@ -64,7 +65,7 @@ fn with_run(state: Hash, run: Run) -> Hash {
 fn with_runs(before: Hash, runs: [Run; MAX_RUNS]) -> Hash {
     let mut state = before;
     let mut i: usize = 0;
-    while i < 8 {
+    while i < MAX_RUNS {
         let run = runs[i];
         let next = with_run(state, run);
         state = next;
@@ -89,7 +90,7 @@ fn place(unit: StampingUnit, name: u64, store: &[u8]) {
     column(at.length as u64);
 }
 
-// Where the store of each name lies, from 0 to 9 and of the greatest number.
+// Where the store of each name lies: of 0 to 9, of 2^32 + 1 and of the greatest number.
 pub fn places(unit: StampingUnit, store: &[u8]) {
     let mut name: u64 = 0;
     while name < 10 {

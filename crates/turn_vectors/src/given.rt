@@ -57,7 +57,7 @@ fn runs_of(line: &[u8], first: u64) -> [Run; MAX_RUNS]
     let none = new_run(0, [0u8; 32], 0, 0);
     let mut runs = [none; MAX_RUNS];
     let mut i: usize = 0;
-    while i < 8 {
+    while i < MAX_RUNS {
         let run = run_at(line, i as u64 + 1, first + 4 * (i as u64));
         runs[i] = run;
         i += 1;

@@ -21,9 +21,6 @@ module _ (run : Run) (held store : List ℕ) (from size : ℕ) (is : size ≡ st
   lent-is : take (from + size - from) (drop from store) ≡ partFrom from (run .memory) store
   lent-is = part-size store from size ∙ ap (λ (k : ℕ). take k (drop from store)) is
 
-  pub lent-room : storeSize (run .memory) ≤ length (take (from + size - from) (drop from store))
-  lent-room = omega (arith, ap length lent-is, part-length store from (storeSize (run .memory)) fits)
-
   pub labelled :
       (held′ part : List ℕ) (blocks : ℕ) → length part ≡ length (take (from + size - from) (drop from store))
       → held′ ≡ stepped (with-part (take (from + size - from) (drop from store))) .run .held

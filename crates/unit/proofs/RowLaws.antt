@@ -1,6 +1,5 @@
 -- W-208's row of a unit: what it tells of the runs where it refuses none.
 use mathlib.Core.Path.{_≡_, refl, ap, subst, _∙_}
-use mathlib.Core.Bool.{false}
 use mathlib.Core.Logic.{_⊎_, inl, inr}
 use mathlib.Core.List.{List}
 use Prim.Native.Nat.{ℕ, zero, suc, _+_, _-_, _≤_, _<_}
@@ -16,7 +15,6 @@ use Rattle.base.proofs.ChoiceLaws.{lt-or-le}
 use Rattle.base.proofs.Ranges.{within, range-of, neither}
 use Rattle.base.proofs.RowLaws.{passed}
 use Rattle.base.proofs.Parts.{part-length}
-use Rattle.tree.specs.Walk.{nodesIn}
 use Rattle.tree.specs.Store.{storeSize}
 use Rattle.run.specs.declared.Run.{Run}
 use Rattle.run.specs.Rows.{continueRow}
@@ -40,10 +38,6 @@ module _ (runs : List Run) (i more left : ℕ) where
   unfolding runsRow
   runs-pass e = rw e
 
-  pub runs-refuse : isDone (continueRow (runAt runs i) left) ≡ false → runsRow runs i (suc more) left ≡ continueRow (runAt runs i) left
-  unfolding runsRow
-  runs-refuse e = rw e
-
   both-done : (row rest : ℕ) → pick (isDone row) rest row ≡ 0 → (row ≡ 0) × (rest ≡ 0)
   both-done zero rest e = (refl, e)
   both-done (suc row) rest e = absurd (omega arith)
@@ -56,20 +50,6 @@ module _ (runs : List Run) (i more left : ℕ) where
 pub runs-none : (runs : List Run) (i left : ℕ) → runsRow runs i 0 left ≡ 0
 unfolding runsRow
 runs-none runs i left = refl
-
--- the same for a loop that counts i up to `end`, over what is left of the slice
-module _ (runs : List Run) (i end left : ℕ) (few : i ≤ end) where
-  one-more : suc (end - i) ≡ end + 1 - i
-  one-more = omega arith
-
-  pub runs-go-on : continueRow (runAt runs i) left ≡ 0
-      → runsRow runs i (end + 1 - i) left ≡ runsRow runs (i + 1) (end + 1 - (i + 1)) (left - sizeOf (runAt runs i))
-  runs-go-on e =
-      let f : end - i ≡ end + 1 - (i + 1) = omega arith in
-      rw (← one-more, ← f) (runs-pass runs i (end - i) left e)
-
-  pub runs-stop : isDone (continueRow (runAt runs i) left) ≡ false → runsRow runs i (end + 1 - i) left ≡ continueRow (runAt runs i) left
-  runs-stop e = rw (← one-more) (runs-refuse runs i (end - i) left e)
 
 -- ---- each of the runs, over a slice of so many bytes
 abbrev pub RunGoes : List Run → ℕ → ℕ → Type 0
@@ -156,9 +136,6 @@ module _ (runs : List Run) (store i : ℕ) (goes : RunGoes runs store i) where
 
   pub memory-fits : runAt runs i .memory ≤ maxMemory
   memory-fits = whole .possible .memory
-
-  pub made-fits : runAt runs i .made ≤ nodesIn (runAt runs i .depth)
-  made-fits = whole .possible .made-few
 
   -- its store lies in the slice
   pub fits : storeFrom runs i + sizeOf (runAt runs i) ≤ store

@@ -23,7 +23,7 @@ use Rattle.run_theory.proofs.GoesOn.{After, after-steps, still-goes, goes-possi
 use Rattle.unit.specs.Runs.{runAt, leftOf, unfinished, sumOf, sizeOf, storeFrom, partFrom, outsideRun}
 use Rattle.unit.specs.Rows.{unitRow}
 use Rattle.unit.specs.Turns.{Carried, ownOf, nextRun, served, turned, unitMachine, turns, turnBlocks}
-use Rattle.unit.proofs.SumLaws.{sum-next, sum-grows, term-fits, some-term, sumTo-same, sumTo-less}
+use Rattle.unit.proofs.SumLaws.{sum-next, sum-grows, some-term, sumTo-same, sumTo-less}
 use Rattle.unit.proofs.RowLaws.{Sound, sound, sound-row, RunGoes, fits, present, own-length, own-goes}
 use Rattle.unit.proofs.NextLaws.{first-holds, first-found}
 
@@ -96,9 +96,6 @@ module _ (s : Carried) (ok : Sound s) (i : ℕ) (among : (1 ≤ i) × (i ≤ s .
 
   pub served-memory : (j : ℕ) → 1 ≤ j → runAt runs′ j .memory ≡ runAt runs j .memory
   served-memory = kept (λ run. run .memory) (step-after .memory)
-
-  pub served-depth : (j : ℕ) → 1 ≤ j → runAt runs′ j .depth ≡ runAt runs j .depth
-  served-depth = kept (λ run. run .depth) (step-after .depth)
 
   pub served-from : (j : ℕ) → storeFrom runs′ j ≡ storeFrom runs j
   served-from j =
@@ -194,21 +191,6 @@ module _ (s : Carried) (ok : Sound s) where
       → ((1 ≤ nextRun (s .unit)) × (nextRun (s .unit) ≤ s .unit .count)) × (unfinished (runAt (s .unit .runs) (nextRun (s .unit))) ≡ true)
   next-some more = let (a, b) = next-holds (next-found more) in (b, a)
 
-  pub next-none : allLeft s ≡ 0 → nextRun (s .unit) ≡ 0
-  next-none none = cases (lt-or-le 0 (nextRun (s .unit)))
-    where
-      cases : (0 < nextRun (s .unit)) ⊎ (nextRun (s .unit) ≤ 0) → nextRun (s .unit) ≡ 0
-      cases (inl found) =
-          let (un, among) = next-holds found in
-          absurd
-          (omega (
-            arith,
-            none,
-            ltb-true 0 (leftOf (runAt (s .unit .runs) (nextRun (s .unit)))) un,
-            term-fits (λ i. leftOf (runAt (s .unit .runs) i)) (s .unit .count) (nextRun (s .unit)) (among .0) (among .1),
-          ))
-      cases (inr no-run) = omega arith
-
   -- ---- one turn
   pub turned-is : 0 < allLeft s → turned s ≡ served (nextRun (s .unit)) s
   unfolding turned
@@ -217,10 +199,6 @@ module _ (s : Carried) (ok : Sound s) where
   pub turn-costs : 0 < allLeft s → turnBlocks s ≡ alone.stepBlocks (ownOf s (nextRun (s .unit)))
   unfolding turnBlocks
   turn-costs more = rw (ne-eqb (nextRun (s .unit)) 0 (λ (e : nextRun (s .unit) ≡ 0). omega (arith, next-found more)))
-
-  pub turned-idle : allLeft s ≡ 0 → turned s ≡ s
-  unfolding turned
-  turned-idle none = rw (next-none none)
 
   pub turned-sound : 0 < allLeft s → Sound (turned s)
   turned-sound more =

@@ -59,7 +59,7 @@ served i s =
     (unitOf (s .unit .count) i (set runs (i - 1) (next .run)))
     (written (s .store) (storeFrom runs i) (next .store))
 
--- the run whose turn it is; nothing where all are finished
+-- the run whose turn it is makes a label; nothing changes where all are finished
 unfoldable pub turned : Carried → Carried
 turned s = let i : ℕ = nextRun (s .unit) in pick (eqb i 0) s (served i s)
 

@@ -71,7 +71,7 @@ fn label_run(run: Run, from: usize, held: &mut [u8], store: &mut [u8]) -> u64
     )
 }
 
-// A run's held places. The length of what a call answers is known, that of an array element's field is not.
+// A run's held places. The length of an array that a function answers is known to the prover, that of a field of an array's element is not.
 fn held_of(run: Run) -> [u8; HELD_SIZE]
     ensures { λ r. ⌜ r ≡ run .held ⌝ }
 {
@@ -100,7 +100,7 @@ pub struct Turned {
     pub blocks: u64,
 }
 
-// So many labels. The runs are copied once, and of each label's run there and back.
+// So many labels. The array of runs is copied once; for each label its run is copied out of it and back.
 pub fn label_turns(
     unit: StampingUnit,
     from: [usize; MAX_RUNS],

@@ -1,20 +1,20 @@
 -- W-208: the same of calls with any budgets. From a unit that is not refused on they make the smaller of their sum and all labels that
--- remain; each run is what one call of it alone gives with as many labels as it got; and budgets that suffice finish every run.
+-- remain; each run is what one call of it alone gives with as many labels as it got, and at its end what it would be alone; and budgets that
+-- suffice finish every run.
 use mathlib.Core.Path.{_≡_, sym, ap, _∙_}
 use mathlib.Core.Bool.{false}
 use mathlib.Core.List.{List}
-use Prim.Native.Nat.{ℕ, _+_, _≤_, _<_, min}
+use Prim.Native.Nat.{ℕ, _+_, _-_, _≤_, _<_, min}
 use native.Mathlib.Omega.{arith}
 use lib.ListN.{length, drop}
 use Rattle.machine.specs.Calls.{total}
 use Rattle.machine.proofs.StepLaws.{done-some, advanced-by}
 use Rattle.machine.proofs.CallLaws.{calls-state, calls-report, calls-cost, calls-read, calls-done, calls-end}
-use Rattle.tree.specs.Walk.{nodesIn}
 use Rattle.run.specs.Rows.{continueRow}
 use Rattle.run.specs.Steps as alone
 use Rattle.run.specs.Steps.{runMachine}
 use Rattle.run_theory.specs.Runs as runs
-use Rattle.run_theory.proofs.GoesOn.{goes-on, all-made}
+use Rattle.run_theory.proofs.GoesOn.{After, after-steps, goes-on}
 use Rattle.unit.specs.Runs.{runAt, leftOf, unfinished, sumTo, storeFrom}
 use Rattle.unit.specs.Rows.{unitRow}
 use Rattle.unit.specs.Turns.{Carried, ownOf, nextRun, unitMachine, turns, turnBlocks, blocksOver}
@@ -99,20 +99,29 @@ module _ (s : Carried) (goes : unitRow (s .unit) (length (s .store)) ≡ 0) (bud
     pub finished-kept : unfinished (runAt (s .unit .runs) i) ≡ false → ownOf (called s budgets) i ≡ ownOf s i
     finished-kept e = rw state-is (finished-own s (sound s goes) (turnsMade s budgets) made-few i among e)
 
-    -- budgets that suffice finish it: its root and store are those it would have alone
-    module _ (enough : allLeft s ≤ total budgets) where
-      pub all-over : times i (servedOver s budgets) ≡ leftOf (runAt (s .unit .runs) i)
-      all-over =
-          let e : turnsMade s budgets ≡ allLeft s = omega arith in
-          rw (served-is, e) (got-all s (sound s goes) i among)
+    -- how far it has come
+    own-after : After (times i (servedOver s budgets)) (ownOf s i) (ownOf (called s budgets) i)
+    own-after = rw alone-steps (after-steps (ownOf s i) own-row (times i (servedOver s budgets)) most-over)
 
-      pub ends-made : runAt (called s budgets .unit .runs) i .made ≡ nodesIn (runAt (s .unit .runs) i .depth)
-      ends-made =
-          ap (λ t. t .run .made) (alone-steps ∙ ap (λ (k : ℕ). alone.steps k (ownOf s i)) all-over)
-          ∙ all-made (ownOf s i) own-row
+    pub made-over : runAt (called s budgets .unit .runs) i .made ≡ runAt (s .unit .runs) i .made + times i (servedOver s budgets)
+    made-over = own-after .made
 
-      pub ends-alone : (bs : List ℕ) → leftOf (runAt (s .unit .runs) i) ≤ total bs → ownOf (called s budgets) i ≡ runs.called (ownOf s i) bs
-      ends-alone bs suffices =
-          alone-steps
-          ∙ ap (λ (k : ℕ). alone.steps k (ownOf s i)) all-over
-          ∙ sym (calls-end runMachine (ownOf s i) (leftOf (runAt (s .unit .runs) i)) (goes-on (ownOf s i) own-row) bs suffices)
+    left-over : leftOf (runAt (called s budgets .unit .runs) i) ≡ leftOf (runAt (s .unit .runs) i) - times i (servedOver s budgets)
+    left-over = rw (own-after .depth, own-after .made) (omega arith)
+
+    -- budgets that suffice for all runs finish it
+    pub ends-over : allLeft s ≤ total budgets → leftOf (runAt (called s budgets .unit .runs) i) ≡ 0
+    ends-over enough =
+        let e : turnsMade s budgets ≡ allLeft s = omega arith in
+        let f : times i (servedOver s budgets) ≡ leftOf (runAt (s .unit .runs) i) = rw (served-is, e) (got-all s (sound s goes) i among) in
+        omega (arith, left-over)
+
+    -- when it is finished its root and store are those it would have alone
+    pub ends-alone :
+        leftOf (runAt (called s budgets .unit .runs) i) ≡ 0 → (bs : List ℕ) → leftOf (runAt (s .unit .runs) i) ≤ total bs
+        → ownOf (called s budgets) i ≡ runs.called (ownOf s i) bs
+    ends-alone none bs suffices =
+        let all : times i (servedOver s budgets) ≡ leftOf (runAt (s .unit .runs) i) = omega (arith, none, left-over, most-over) in
+        alone-steps
+        ∙ ap (λ (k : ℕ). alone.steps k (ownOf s i)) all
+        ∙ sym (calls-end runMachine (ownOf s i) (leftOf (runAt (s .unit .runs) i)) (goes-on (ownOf s i) own-row) bs suffices)

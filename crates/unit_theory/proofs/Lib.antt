@@ -2,5 +2,4 @@ pub mod NameLaws
 pub mod Alone
 pub mod AloneCalls
 pub mod Schedule
-pub mod TimesLaws
 pub mod Turns

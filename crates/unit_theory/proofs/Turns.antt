@@ -28,8 +28,7 @@ use Rattle.unit.proofs.TurnLaws.{allLeft, reached, sound-after, unit-goes, next
 use Rattle.unit_theory.specs.Schedules.{TakesTurns, taken}
 use Rattle.unit_theory.specs.Served.{servedBy, servedIn, servedOver, times}
 use Rattle.unit_theory.proofs.Schedule as schedule
-use Rattle.unit_theory.proofs.NameLaws.{times-append}
-use Rattle.unit_theory.proofs.TimesLaws.{times-one, times-some}
+use Rattle.unit_theory.proofs.NameLaws.{times-append, times-one, times-some}
 
 -- the number of runs stays as it is
 pub turned-count : (t : Carried) → turned t .unit .count ≡ t .unit .count

@@ -1,4 +1,4 @@
--- Turns taken in order by so many parties, named from 1. Of a unit nothing else matters for how its labels are shared out: who was served
+-- Turns taken in order by so many parties, named from 1. For how a unit's labels are shared out only two things matter: who was served
 -- last, and who may be served.
 use mathlib.Core.Path.{_≡_}
 use Prim.Native.Nat.{ℕ, zero, suc, _+_, _≤_, _<_}
