@@ -1,4 +1,6 @@
 // What every layer shares: specs/ has the words of the definitions; here are the limits, the one copy of bytes, numbers as bytes.
+#![tactic(auto)]
+
 mod refusal; // refusal.rt: the refusals, and the answers that carry them
 
 ghost use Rattle.std.specs.Prelude.{◌≡◌, ◌+◌, ◌<◌, ◌≤◌, min, length, take, drop};
