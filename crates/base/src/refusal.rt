@@ -6,7 +6,7 @@ ghost use Rattle.base.specs.Row.{outside, memory_over};
 use crate::MAX_MEMORY;
 
 // What was wrong. The number of each case, document 01's or a change request's, is `number_of` of specs/Number.antt.
-#[derive(Drop)]
+#[derive(Clone, Copy)]
 pub enum Refusal {
     Depth,
     MemoryLevel,
@@ -30,7 +30,7 @@ pub enum Refusal {
 }
 
 // The answer of a call that is done whole or refused.
-#[derive(Drop)]
+#[derive(Clone, Copy)]
 pub enum Outcome {
     Done,
     Refused(Refusal),
@@ -38,7 +38,7 @@ pub enum Outcome {
 
 // The answer of a check: accepted, or a refusal with the opening that it was found in, from 1, or 0
 // outside openings.
-#[derive(Drop)]
+#[derive(Clone, Copy)]
 pub enum Check {
     Accepted,
     Rejected(Refusal, u8),

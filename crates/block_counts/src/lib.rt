@@ -1,4 +1,6 @@
 // The blocks of labels, told without making them: of a whole run, of an opening, and of all that a proof file takes.
+#![tactic(auto)]
+
 ghost use Rattle.std.specs.Prelude.{◌≡◌, ◌+◌, ◌^◌, ◌<◌, ◌≤◌};
 ghost use Rattle.base.specs.Limits.{max_depth, max_challenges, IsDepth, IsMemory};
 ghost use Rattle.tree.specs.Nodes.{node, order_below};

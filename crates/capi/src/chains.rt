@@ -11,7 +11,7 @@ use compare::Pair;
 use draw::Drawing;
 
 #[repr(C)]
-#[derive(Drop)]
+#[derive(Clone, Copy)]
 pub struct Planned {
     pub refusal: u64,
     pub count: u64,
@@ -36,7 +36,7 @@ pub extern "C" fn mastdock_plan(depth: u64, leaves: &[u64], list: &mut [u64]) ->
 // Two openings that disagree: the pair i < j, from 1, the smallest level, and both hash inputs there; all zero where no pair does.
 // `zero` is always 0: it names the bytes that would be padding.
 #[repr(C)]
-#[derive(Drop)]
+#[derive(Clone, Copy)]
 pub struct Clash {
     pub i: u64,
     pub j: u64,
@@ -73,7 +73,7 @@ fn clash_of(pair: Pair, first: [u8; 105], second: [u8; 105]) -> Clash
 }
 
 #[repr(C)]
-#[derive(Drop)]
+#[derive(Clone, Copy)]
 pub struct Compared {
     pub refusal: u64,
     pub clash: Clash,
@@ -112,7 +112,7 @@ pub extern "C" fn mastdock_compare(
 }
 
 // A drawing in numbers, but for its clash.
-#[derive(Drop)]
+#[derive(Clone, Copy)]
 struct Parts {
     kind: u64,
     code: u64,
@@ -154,7 +154,7 @@ fn clash_pair(drawing: Drawing) -> Pair
 }
 
 #[repr(C)]
-#[derive(Drop)]
+#[derive(Clone, Copy)]
 pub struct Drawn {
     pub kind: u64,
     pub code: u64,

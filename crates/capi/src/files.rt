@@ -11,7 +11,7 @@ use file_head::HeadNumbers;
 use proof_file::Place;
 
 #[repr(C)]
-#[derive(Drop)]
+#[derive(Clone, Copy)]
 pub struct Challenged {
     pub refusal: u64,
     pub leaf: u64,
@@ -56,7 +56,7 @@ pub extern "C" fn mastdock_write_head(
 }
 
 #[repr(C)]
-#[derive(Drop)]
+#[derive(Clone, Copy)]
 pub struct HeadRead {
     pub refusal: u64,
     pub edition: u64,

@@ -6,14 +6,14 @@ use base::outcome_number;
 use sha256::Hash;
 
 #[repr(C)]
-#[derive(Drop)]
+#[derive(Clone, Copy)]
 pub struct HashUpdated {
     pub refusal: u64,
     pub hash: Hash,
 }
 
 #[repr(C)]
-#[derive(Drop)]
+#[derive(Clone, Copy)]
 pub struct HashFinished {
     pub refusal: u64,
     pub blocks: u64,
@@ -22,7 +22,7 @@ pub struct HashFinished {
 }
 
 #[repr(C)]
-#[derive(Drop)]
+#[derive(Clone, Copy)]
 pub struct HashDigest {
     pub refusal: u64,
     pub blocks: u64,

@@ -8,14 +8,14 @@ use base::outcome_number;
 use opening::Opening;
 
 #[repr(C)]
-#[derive(Drop)]
+#[derive(Clone, Copy)]
 pub struct OpeningStarted {
     pub refusal: u64,
     pub opening: Opening,
 }
 
 #[repr(C)]
-#[derive(Drop)]
+#[derive(Clone, Copy)]
 pub struct OpeningAdvanced {
     pub refusal: u64,
     pub labels: u64,

@@ -9,14 +9,14 @@ use base::outcome_number;
 use run::Run;
 
 #[repr(C)]
-#[derive(Drop)]
+#[derive(Clone, Copy)]
 pub struct RunStarted {
     pub refusal: u64,
     pub run: Run,
 }
 
 #[repr(C)]
-#[derive(Drop)]
+#[derive(Clone, Copy)]
 pub struct RunAdvanced {
     pub refusal: u64,
     pub labels: u64,
@@ -25,7 +25,7 @@ pub struct RunAdvanced {
 }
 
 #[repr(C)]
-#[derive(Drop)]
+#[derive(Clone, Copy)]
 pub struct RunRecorded {
     pub refusal: u64,
     pub size: usize,

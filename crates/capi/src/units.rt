@@ -7,7 +7,7 @@ use base::outcome_number;
 use unit::{StampingUnit, StorePlace};
 
 #[repr(C)]
-#[derive(Drop)]
+#[derive(Clone, Copy)]
 pub struct UnitAdvanced {
     pub refusal: u64,
     pub labels: u64,

@@ -8,14 +8,14 @@ use base::outcome_number;
 use writing::Writing;
 
 #[repr(C)]
-#[derive(Drop)]
+#[derive(Clone, Copy)]
 pub struct WritingStarted {
     pub refusal: u64,
     pub writing: Writing,
 }
 
 #[repr(C)]
-#[derive(Drop)]
+#[derive(Clone, Copy)]
 pub struct WritingAdvanced {
     pub refusal: u64,
     pub labels: u64,

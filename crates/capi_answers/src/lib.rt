@@ -1,5 +1,7 @@
 // Every exported call again, with its whole answer as one record of the definitions, proved from capi's contracts alone. A contract
 // there that says less, an answer with a field that none decides, or parameters in another order are refused here.
+#![tactic(auto)]
+
 ghost use Rattle.std.specs.Prelude.{◌≡◌, length};
 ghost use Rattle.sha256.specs.Portions.{new_hash};
 ghost use Rattle.run.specs.Steps as runs;

@@ -13,7 +13,7 @@ use crate::sorting::sort_leaves;
 use base::{MAX_DEPTH, MAX_LEAVES, Outcome, Refusal, beyond};
 
 // Done with the count of codes written, or refused with 0.
-#[derive(Drop)]
+#[derive(Clone, Copy)]
 pub struct Planned {
     pub outcome: Outcome,
     pub count: u64,

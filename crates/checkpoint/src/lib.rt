@@ -1,4 +1,6 @@
 // A checkpoint as bytes: what the order was, the store and the run's record, with a SHA-256 over all of it; and any bytes read as one.
+#![tactic(auto)]
+
 mod openings; // openings.rt: the finished openings behind a checkpoint
 mod reading; // reading.rt: any bytes read as a checkpoint
 mod writing; // writing.rt: the checkpoint written
@@ -15,14 +17,14 @@ pub const HEAD_SIZE: usize = 20;
 pub const MAX_CHECKPOINT: usize = HEAD_SIZE + MAX_STORE + MAX_RECORD + 32;
 
 // What writing gives: done with the number of bytes written, or refused with 0.
-#[derive(Drop)]
+#[derive(Clone, Copy)]
 pub struct Checkpointed {
     pub outcome: Outcome,
     pub size: usize,
 }
 
 // Whole; no checkpoint at all; one that is cut off or changed; or one whose SHA-256 is right and which is of no run.
-#[derive(Drop)]
+#[derive(Clone, Copy)]
 pub enum Fault {
     Whole,
     Foreign,
@@ -31,7 +33,7 @@ pub enum Fault {
 }
 
 // What reading gives: the order's challenges, the run, and how many bytes the checkpoint has; all zero beside a fault.
-#[derive(Drop)]
+#[derive(Clone, Copy)]
 pub struct Found {
     pub fault: Fault,
     pub count: u64,

@@ -6,7 +6,7 @@ use drawing_text::{found_in, larger};
 use files::{empty_file, load_proof, state_report};
 
 // The verdict by the depth and count of the head, by those given, or by those at least; or the chain.
-#[derive(Drop)]
+#[derive(Clone, Copy)]
 pub enum Asked {
     Verdict,
     VerdictFor(u64, u64),

@@ -1,5 +1,7 @@
 // The program's words: seal a report, verify a proof, draw its chain, tell of a proof. Everything is told by lines on two descriptors and by
 // a status: 0 done, 1 refused, 2 could not be tried.
+#![tactic(auto)]
+
 mod advice; // advice.rt: usage, and what is wrong with the words
 mod arguments; // arguments.rt: the program's arguments as one line of words
 mod asking; // asking.rt: report and proof read, and what is asked of them told
@@ -22,7 +24,7 @@ const REFUSED: u8 = 1;
 const UNTRIED: u8 = 2;
 
 // What is to be sealed: depth, challenges, memory level, and the seconds between checkpoints.
-#[derive(Drop)]
+#[derive(Clone, Copy)]
 pub struct Ordered {
     pub depth: u64,
     pub count: u64,

@@ -18,7 +18,7 @@ use run::{Run, nodes, not_possible};
 use sealing::{all_labels, seal_on};
 
 // What is told of a seal: its order, its root, and its labels with their blocks.
-#[derive(Drop)]
+#[derive(Clone, Copy)]
 pub struct Facts {
     pub statement: [u8; 32],
     pub root: [u8; 32],

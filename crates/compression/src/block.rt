@@ -4,7 +4,7 @@ ghost use Rattle.compression.specs.Compression.{scheduled};
 
 use crate::bits::{add, small0, small1};
 
-#[derive(Drop)]
+#[derive(Clone, Copy)]
 pub struct Block {
     pub w0: u32,
     pub w1: u32,

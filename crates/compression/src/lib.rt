@@ -1,4 +1,6 @@
 // The compression of SHA-256 (FIPS 180-4, 6.2.2): eight new hash words from the eight old ones and the sixteen of a block. No byte occurs here.
+#![tactic(auto)]
+
 mod bits; // bits.rt: the operations on words of sections 3.2 and 4.1.2
 mod block; // block.rt: the sixteen words of a block, and the message schedule
 mod rounds; // rounds.rt: rounds, and the compression of a block
@@ -8,7 +10,7 @@ pub use rounds::compress;
 
 // The eight hash words, or the working variables a to h.
 #[repr(C)]
-#[derive(Drop)]
+#[derive(Clone, Copy)]
 pub struct Words {
     pub a: u32,
     pub b: u32,

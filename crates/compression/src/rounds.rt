@@ -85,7 +85,7 @@ const K3: Block = Block {
 };
 
 // The working variables after sixteen rounds, and the next sixteen words.
-#[derive(Drop)]
+#[derive(Clone, Copy)]
 pub struct Turned {
     pub words: Words,
     pub block: Block,

@@ -1,4 +1,6 @@
 // Decimal numbers: read from a text, and laid out as one.
+#![tactic(auto)]
+
 mod reading; // reading.rt: the numbers of a text
 mod texts; // texts.rt: a number as text
 

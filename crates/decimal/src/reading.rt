@@ -8,7 +8,7 @@ use base::{MAX_LEAVES, wide};
 
 // What a byte does to the number before it: it can be read, it is a digit, the value after it. The last two are decided where
 // it can be read, and nobody reads them elsewhere.
-#[derive(Drop)]
+#[derive(Clone, Copy)]
 struct Stepped {
     good: bool,
     digit: bool,
@@ -19,7 +19,7 @@ struct Stepped {
 pub const MAX_NUMBERS: usize = MAX_LEAVES + 2;
 
 // The first numbers of an input.
-#[derive(Drop)]
+#[derive(Clone, Copy)]
 pub struct Numbers {
     pub list: [u64; MAX_NUMBERS],
     pub count: usize,

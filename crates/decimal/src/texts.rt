@@ -7,7 +7,7 @@ ghost use Rattle.decimal.specs.Steps.{Wrote};
 use base::put;
 
 // The digits of a number, from a place on; zeros before it.
-#[derive(Drop)]
+#[derive(Clone, Copy)]
 pub struct Spelled {
     pub text: [u8; 20],
     pub start: usize,

@@ -1,5 +1,7 @@
 // Demands 2 and 3 speak of bytes below 256, which every slice's are: here they are the contracts of two calls, with nothing asked
 // of the bytes.
+#![tactic(auto)]
+
 ghost use Rattle.std.specs.Prelude.{◌≡◌, true, ◌↔◌, length, ℕ};
 ghost use Rattle.check_theory.specs.IsProof.{IsProof};
 ghost use Rattle.draw.specs.Drawing.{drawing_answer, drawing_of};

@@ -1,4 +1,6 @@
 // What the programs ask of the system, by descriptors.
+#![tactic(auto)]
+
 mod clock; // clock.rt: the time that has passed
 mod process; // process.rt: processes by their numbers
 mod same_file; // same_file.rt: whether a name leads to the file that a descriptor has open

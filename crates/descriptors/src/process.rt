@@ -2,7 +2,7 @@
 use crate::small_file::{behind, behind_last, number_at, read_small};
 
 // A process's number and when it was started, in the system's ticks; 0 and 0 for none.
-#[derive(Drop)]
+#[derive(Clone, Copy)]
 pub struct Process {
     pub number: u64,
     pub start: u64,

@@ -8,7 +8,7 @@ use libc::PATH_MAX;
 use libc::types::{stat, timespec};
 
 // A file's device and its number there.
-#[derive(Drop)]
+#[derive(Clone, Copy)]
 pub struct FileId {
     pub good: bool,
     pub device: u64,
@@ -16,7 +16,7 @@ pub struct FileId {
 }
 
 // What a call answered, and what it filled in.
-#[derive(Drop)]
+#[derive(Clone, Copy)]
 pub struct Known {
     pub answer: i32,
     pub stat: stat,

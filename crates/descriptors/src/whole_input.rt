@@ -3,14 +3,14 @@ ghost use Rattle.std.specs.Prelude.{◌<◌, ◌≡◌, length};
 ghost use Rattle.io.specs.Counts.{IsPrefixLen};
 
 // How many bytes a read gave, and whether it failed.
-#[derive(Drop)]
+#[derive(Clone, Copy)]
 pub struct Given {
     pub size: usize,
     pub failed: bool,
 }
 
 // How many bytes came, how many of them by the last read, and whether that one failed.
-#[derive(Drop)]
+#[derive(Clone, Copy)]
 pub struct Input {
     pub size: usize,
     pub last: usize,

@@ -1,4 +1,6 @@
 // Drawing a chain from a proof: the chain, or the first clash of two openings.
+#![tactic(auto)]
+
 mod leaves; // leaves.rt: the leaves opened
 mod whole; // whole.rt: the chain or the clash
 
@@ -8,7 +10,7 @@ pub use whole::draw;
 
 // Refused, with the opening's number; a chain, with its count of nodes; or a clash: the first pair i < j, from 1, that disagrees,
 // and the smallest level.
-#[derive(Drop)]
+#[derive(Clone, Copy)]
 pub enum Drawing {
     NotDrawn(Refusal, u8),
     Chain(u64),
@@ -16,7 +18,7 @@ pub enum Drawing {
 }
 
 // The inputs are all zero but for a clash.
-#[derive(Drop)]
+#[derive(Clone, Copy)]
 pub struct Drawn {
     pub drawing: Drawing,
     pub first: [u8; 105],

@@ -1,4 +1,6 @@
 // What is told of a proof and its drawing, as text: the verdict, a refusal, a clash, a chain, a head; and the exit status.
+#![tactic(auto)]
+
 mod differing; // differing.rt: what of a file is not as wanted
 mod drawing; // drawing.rt: what `chain` prints
 mod facts; // facts.rt: what `info` prints
@@ -15,7 +17,7 @@ pub use status::{chain_status, info_status, verdict_status};
 pub use telling::{clash_lines, refused, verdict};
 
 // What a file's head says: edition, depth and count, each 0 if it cannot be read, and whether the statement behind them is the report's.
-#[derive(Drop)]
+#[derive(Clone, Copy)]
 pub struct Found {
     pub edition: u64,
     pub depth: u64,

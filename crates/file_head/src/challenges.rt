@@ -10,7 +10,7 @@ use base::{
 };
 
 // A challenge's outcome, and its leaf: 0, if refused.
-#[derive(Drop)]
+#[derive(Clone, Copy)]
 pub struct Challenged {
     pub outcome: Outcome,
     pub leaf: u64,

@@ -1,6 +1,8 @@
 // Files written, opened and checked, openings compared, and chains drawn and planned, in both editions: the shared files, of which those of
 // edition 1 are the standard input, and the shared checks and chains, which are data as the files of edition 2 are. The chains of edition 2 are
 // an independent model's. The stored output has the vectors' digests and answers, and that model's.
+#![tactic(auto)]
+
 mod challenged; // challenged.rt: the openings of the shared files
 mod checks; // checks.rt: files checked, and the rows of a challenge and of a head
 mod compared; // compared.rt: openings compared
@@ -17,7 +19,7 @@ use edges::edges;
 use written::written;
 
 // What is done with a line.
-#[derive(Drop)]
+#[derive(Clone, Copy)]
 enum Task {
     Write,
     Open,

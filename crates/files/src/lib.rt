@@ -1,5 +1,7 @@
 // Reports, proofs and checkpoints on the disk: each written under a temporary name, synced, and renamed only when it is whole. What cannot
 // be done is told by one line on a descriptor.
+#![tactic(auto)]
+
 mod folder; // folder.rt: the folder of a file, synced
 mod keeping; // keeping.rt: the proof written, read back and renamed
 mod lock; // lock.rt: PROOF.lock, so that one run at a time works on a proof

@@ -6,7 +6,7 @@ use descriptors::{Process, are_same, behind, follows, number_at, process_at, rea
 use lines::{Line, add, add_number, complain, complain_of, empty, say};
 
 // Held; held by another process; or not to be had.
-#[derive(Drop)]
+#[derive(Clone, Copy)]
 pub enum Holding {
     Held,
     Busy,

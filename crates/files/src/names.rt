@@ -4,7 +4,7 @@ ghost use Rattle.io.specs.Counts.{IsPrefixLen};
 use base::put;
 
 // A path: the first `length` bytes of its text.
-#[derive(Drop)]
+#[derive(Clone, Copy)]
 pub struct Name {
     pub text: [u8; 4096],
     pub length: usize,

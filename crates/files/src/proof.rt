@@ -5,7 +5,7 @@ use descriptors::{follows, read_whole};
 use lines::{complain, complain_of};
 
 // Whether a proof could be read, and how many bytes it has.
-#[derive(Drop)]
+#[derive(Clone, Copy)]
 pub struct Loaded {
     pub good: bool,
     pub size: usize,

@@ -14,7 +14,7 @@ use lines::{complain, complain_of};
 use sha256::Hash;
 
 // Whether the report could be read, how many bytes it has, and its statement.
-#[derive(Drop)]
+#[derive(Clone, Copy)]
 pub struct Stated {
     pub good: bool,
     pub size: u64,
@@ -22,7 +22,7 @@ pub struct Stated {
 }
 
 // How many bytes a read gave, whether it failed, and the hash with them.
-#[derive(Drop)]
+#[derive(Clone, Copy)]
 pub struct Portion {
     pub size: usize,
     pub failed: bool,
@@ -31,7 +31,7 @@ pub struct Portion {
 }
 
 // Whether all was hashed, how many bytes the last read gave, and the hash.
-#[derive(Drop)]
+#[derive(Clone, Copy)]
 pub struct Hashed {
     pub good: bool,
     pub last: usize,

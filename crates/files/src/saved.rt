@@ -6,7 +6,7 @@ use descriptors::{read_once, read_whole};
 use lines::{Line, complain, complain_line, complain_of};
 
 // What is there of a checkpoint: none, its bytes, or something that cannot be read.
-#[derive(Drop)]
+#[derive(Clone, Copy)]
 pub enum There {
     Nothing,
     Bytes(usize),

@@ -1,4 +1,6 @@
 // Numbers in seven-bit groups, read at a place of the caller's bytes and written there.
+#![tactic(auto)]
+
 ghost use Rattle.std.specs.Prelude.{◌≡◌, ◌+◌, ◌*◌, ◌^◌, ◌<◌, ◌≤◌, min, leb, length, take};
 ghost use Rattle.base.specs.Bytes.{written};
 ghost use Rattle.base.specs.Number.{outcome_number};
@@ -12,27 +14,27 @@ use base::{Outcome, Refusal, wide};
 pub const NUMBER_GROUPS: usize = 2;
 
 // A place in the caller's bytes.
-#[derive(Drop)]
+#[derive(Clone, Copy)]
 pub struct Cursor {
     pub at: usize,
 }
 
 // What reading a number gives: its value and the place after it, or the refusal.
-#[derive(Drop)]
+#[derive(Clone, Copy)]
 pub enum Number {
     Value(u64, Cursor),
     Refused(Refusal),
 }
 
 // What writing a number gives: done with the count of bytes written, or refused with 0.
-#[derive(Drop)]
+#[derive(Clone, Copy)]
 pub struct Put {
     pub outcome: Outcome,
     pub count: usize,
 }
 
 // A number's groups: the first `count` of ten bytes.
-#[derive(Drop)]
+#[derive(Clone, Copy)]
 struct Laid {
     bytes: [u8; 10],
     count: usize,

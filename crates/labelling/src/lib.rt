@@ -1,4 +1,6 @@
 // A node's label by document 01's rule, and the next label of a subtree whose nodes are labelled in order, for runs and openings alike.
+#![tactic(auto)]
+
 mod next; // next.rt: one step
 mod rule; // rule.rt: a label from its parents' labels
 mod walk; // walk.rt: the next node from the number of nodes labelled

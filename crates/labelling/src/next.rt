@@ -15,7 +15,7 @@ use crate::walk::{Place, next_node};
 use base::put;
 
 // A node with its label, and the blocks that were compressed for it.
-#[derive(Drop)]
+#[derive(Clone, Copy)]
 pub struct Labelled {
     pub level: u64,
     pub position: u64,

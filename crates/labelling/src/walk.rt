@@ -7,7 +7,7 @@ ghost use Rattle.tree.specs.Walk.{nodes_in};
 ghost use Rattle.labelling.specs.Step.{next_node};
 
 // A node's level and position.
-#[derive(Drop)]
+#[derive(Clone, Copy)]
 pub struct Place {
     pub level: u64,
     pub position: u64,

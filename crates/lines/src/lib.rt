@@ -1,4 +1,6 @@
 // Lines of text, built in a place of 8,192 bytes and written in one piece.
+#![tactic(auto)]
+
 mod adding; // adding.rt: a line under way
 mod saying; // saying.rt: lines to a descriptor
 mod telling; // telling.rt: how far a run is, and how long it takes
@@ -10,7 +12,7 @@ pub use telling::{anew, duration, forecast, progress, resumed_at, resumed_openin
 pub use texts::{accepted, clash, fact, fact_bytes, rejected};
 
 // A line under way: the first `length` bytes of its text. What stands behind them says nothing and is never printed.
-#[derive(Drop)]
+#[derive(Clone, Copy)]
 pub struct Line {
     pub text: [u8; 8192],
     pub length: usize,

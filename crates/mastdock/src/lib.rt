@@ -1,4 +1,5 @@
 // The program without its `main`: a program of this language has no exit status, so program/main.c calls this and ends with its answer.
+#![tactic(auto)]
 
 // The status as C has it.
 fn status(number: u8) -> i32 {

@@ -17,7 +17,7 @@ use labelling::label_next;
 use opening_places::{labels_above, put_label};
 
 // An opening, and the blocks of the labels that were made.
-#[derive(Drop)]
+#[derive(Clone, Copy)]
 pub struct Stepped {
     pub opening: Opening,
     pub blocks: u64,

@@ -1,4 +1,6 @@
 // The opening of a leaf in lent memory: started from a store, then labelled anew below level m by calls with a budget.
+#![tactic(auto)]
+
 mod checks; // checks.rt: what may be started and continued
 mod labels; // labels.rt: one step, and several
 
@@ -17,7 +19,7 @@ use opening_places::copy_held;
 
 // Document 01's opening: a run's state with the leaf besides; count and held labels are those of the nodes labelled anew.
 #[repr(C)]
-#[derive(Drop)]
+#[derive(Clone, Copy)]
 pub struct Opening {
     pub statement: [u8; 32],
     pub edition: u64,
@@ -29,14 +31,14 @@ pub struct Opening {
 }
 
 // A refused start's opening is all zero.
-#[derive(Drop)]
+#[derive(Clone, Copy)]
 pub struct Started {
     pub outcome: Outcome,
     pub opening: Opening,
 }
 
 // What a call did: its outcome, the labels it made, the 64-byte blocks compressed for them, and the opening as it now is.
-#[derive(Drop)]
+#[derive(Clone, Copy)]
 pub struct Advanced {
     pub outcome: Outcome,
     pub labels: u64,

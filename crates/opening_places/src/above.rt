@@ -14,7 +14,7 @@ use base::{MAX_MEMORY, put};
 const FRONT_SIZE: usize = 32 * MAX_MEMORY as usize;
 
 // The labels as bytes: the first `len` of these.
-#[derive(Drop)]
+#[derive(Clone, Copy)]
 pub struct Front {
     pub bytes: [u8; FRONT_SIZE],
     pub len: usize,

@@ -1,4 +1,6 @@
 // What of an opening the store holds: labels put in their places, and the left siblings' labels on levels 1 to m.
+#![tactic(auto)]
+
 mod above; // above.rt: the left siblings' labels above level m
 mod places; // places.rt: labels put in their places
 

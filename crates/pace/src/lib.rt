@@ -1,4 +1,6 @@
 // How fast labels are made, and how long those that are left take.
+#![tactic(auto)]
+
 ghost use Rattle.std.specs.Prelude.{◌≡◌, ◌≤◌};
 ghost use Rattle.pace.specs.Pace.{rate_of, height, seconds_left};
 

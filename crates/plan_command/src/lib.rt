@@ -1,4 +1,6 @@
 // The planning program over descriptors. What it prints is `printed` of planning's specs/Output.antt.
+#![tactic(auto)]
+
 ghost use Rattle.std.specs.Prelude.{◌+◌, ◌≡◌};
 ghost use Rattle.base.specs.Bytes.{zeros};
 ghost use Rattle.base.specs.Limits.{max_input};

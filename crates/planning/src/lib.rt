@@ -1,4 +1,6 @@
 // What the planning program does, on slices: reads its input, plans, and lays out what is printed.
+#![tactic(auto)]
+
 mod answering;
 mod texts;
 

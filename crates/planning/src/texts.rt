@@ -7,7 +7,7 @@ ghost use Rattle.decimal.specs.Steps.{Wrote};
 use decimal::{end_line, put_field};
 
 // A node by its level and position.
-#[derive(Drop)]
+#[derive(Clone, Copy)]
 pub struct Spot {
     pub level: u64,
     pub position: u64,

@@ -1,5 +1,7 @@
 // The planning program's answers, and then the file `scenarios`, line after line: each calls `mastdock` or does something to the files of the
 // folder, and is headed by its words. Answers, progress and complaints go to standard output, which is compared with a stored one.
+#![tactic(auto)]
+
 mod acts; // acts.rt: files made, copied, changed and told of, and checkpoints
 mod meanwhile; // meanwhile.rt: what can happen between the start of a run and its end
 mod plans; // plans.rt: the planning program

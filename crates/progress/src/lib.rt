@@ -1,5 +1,7 @@
 // How far a seal is, told by the clock: on a terminal in one line that is written over each second, elsewhere in a line a minute; and when
 // the next checkpoint is due.
+#![tactic(auto)]
+
 mod due; // due.rt: when a checkpoint is due
 mod telling; // telling.rt: what is told, and when
 
@@ -8,7 +10,7 @@ pub use telling::{begin, finish, tick};
 
 // Times are in milliseconds. `made` labels of `all` are made, `first` of them before this process began. `ended` says that the checkpoint on
 // the disk is of the finished run, so that openings go behind it.
-#[derive(Drop)]
+#[derive(Clone, Copy)]
 pub struct Progress {
     pub err: i32,
     pub terminal: bool,

@@ -11,7 +11,7 @@ use file_head::{HeadNumbers, file_length, opening_start, read_head};
 
 // A part of the bytes; 0 and 0 where there is none.
 #[repr(C)]
-#[derive(Drop)]
+#[derive(Clone, Copy)]
 pub struct Place {
     pub offset: usize,
     pub length: usize,

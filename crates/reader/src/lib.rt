@@ -1,5 +1,7 @@
 // Document 01, 'A proof under reading is the caller's bytes with a place': a struct that holds the slice. Each function takes it
 // apart and calls one with a plain slice.
+#![tactic(auto)]
+
 ghost use Rattle.std.specs.Prelude.{◌≡◌, ◌+◌, min, length};
 ghost use Rattle.groups.specs.Groups.{max_groups};
 ghost use Rattle.groups.specs.Reading.{answer_of, read_at};
@@ -10,7 +12,7 @@ use file_head::HeadNumbers;
 use groups::{Cursor, Number};
 
 // The caller's bytes and a place in them.
-#[derive(Drop)]
+#[derive(Clone, Copy)]
 pub struct Reader<'a> {
     pub src: &'a [u8],
     pub at: usize,

@@ -33,7 +33,7 @@ fn cuts(edition: u64, depth: u64, memory: u64, made: u64) {
 }
 
 // Bytes of which those before a place are laid.
-#[derive(Drop)]
+#[derive(Clone, Copy)]
 struct Laid {
     bytes: [u8; 140],
     at: usize,

@@ -24,7 +24,7 @@ fn keep(store: &mut [u8], memory: u64, w: Labelled)
 }
 
 // A run, and the blocks of the labels that were made.
-#[derive(Drop)]
+#[derive(Clone, Copy)]
 pub struct Stepped {
     pub run: Run,
     pub blocks: u64,

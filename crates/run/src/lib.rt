@@ -1,4 +1,6 @@
 // A run in lent memory: labels are made one at a time, as many as a call's budget allows.
+#![tactic(auto)]
+
 mod checks; // checks.rt: what may be started and continued
 mod labels; // labels.rt: one step, and several
 
@@ -15,7 +17,7 @@ pub use labels::label_one;
 
 // Document 01's run: statement, edition (W-206), n, m, the number of labels made, and 41 places of 32 bytes for held labels.
 #[repr(C)]
-#[derive(Drop)]
+#[derive(Clone, Copy)]
 pub struct Run {
     pub statement: [u8; 32],
     pub edition: u64,
@@ -26,14 +28,14 @@ pub struct Run {
 }
 
 // A refused start's run is all zero.
-#[derive(Drop)]
+#[derive(Clone, Copy)]
 pub struct Started {
     pub outcome: Outcome,
     pub run: Run,
 }
 
 // What a call did: its outcome, the labels it made, the 64-byte blocks compressed for them, and the run as it now is.
-#[derive(Drop)]
+#[derive(Clone, Copy)]
 pub struct Advanced {
     pub outcome: Outcome,
     pub labels: u64,

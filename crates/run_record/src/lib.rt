@@ -1,4 +1,6 @@
 // W-201: a run written out as bytes, its record, and taken up elsewhere. The store travels separately.
+#![tactic(auto)]
+
 mod numbers; // numbers.rt: the record's numbers read
 mod reading; // reading.rt: any bytes read as a run
 mod writing; // writing.rt: the record written
@@ -14,14 +16,14 @@ const MADE_GROUPS: usize = 6;
 const NUMBERS_SPACE: usize = 3 * NUMBER_GROUPS + MADE_GROUPS;
 
 // What reading the numbers gives: edition, depth, memory level, labels made and the place after them, or the refusal.
-#[derive(Drop)]
+#[derive(Clone, Copy)]
 pub enum RecordNumbers {
     Numbers(u64, u64, u64, u64, Cursor),
     NotRead(Refusal),
 }
 
 // What writing a record gives: done with the number of bytes written, or refused with 0.
-#[derive(Drop)]
+#[derive(Clone, Copy)]
 pub struct Recorded {
     pub outcome: Outcome,
     pub size: usize,

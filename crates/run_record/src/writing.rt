@@ -13,7 +13,7 @@ use labelling::next_node;
 use run::{Run, nodes, not_possible};
 
 // A record's numbers: the first `count` of these bytes.
-#[derive(Drop)]
+#[derive(Clone, Copy)]
 struct NumbersLaid {
     bytes: [u8; NUMBERS_SPACE],
     count: usize,

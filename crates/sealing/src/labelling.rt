@@ -11,7 +11,7 @@ use progress::{Progress, tick};
 use run::Run;
 
 // The run at its end, and how far the seal is.
-#[derive(Drop)]
+#[derive(Clone, Copy)]
 pub struct Labelled {
     pub run: Run,
     pub progress: Progress,

@@ -1,4 +1,6 @@
 // Sealing a statement: labels, openings and the proof file, a portion of labels at a time, with progress and checkpoints by the clock.
+#![tactic(auto)]
+
 mod labelling; // labelling.rt: the tree labelled
 mod opening_all; // opening_all.rt: the openings made
 mod portions; // portions.rt: how many labels in all
@@ -25,7 +27,7 @@ use saving::save_after_labels;
 const PORTION: u64 = 16384;
 
 // The root, and how far the seal is.
-#[derive(Drop)]
+#[derive(Clone, Copy)]
 pub struct Made {
     pub root: [u8; 32],
     pub progress: Progress,

@@ -13,7 +13,7 @@ use file_head::file_size;
 use run::{Run, nodes};
 
 // What a checkpoint holds: the order's challenges, how many openings are finished, and the run; all zero beside a fault.
-#[derive(Drop)]
+#[derive(Clone, Copy)]
 pub struct TakenUp {
     pub fault: Fault,
     pub count: u64,

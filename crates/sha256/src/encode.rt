@@ -10,7 +10,7 @@ use base::{big_endian, put};
 use compression::Words;
 
 // The four bytes of a word, highest first.
-#[derive(Drop)]
+#[derive(Clone, Copy)]
 struct FourBytes {
     first: u8,
     second: u8,

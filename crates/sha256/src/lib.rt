@@ -1,4 +1,6 @@
 // SHA-256 (FIPS 180-4): in portions, in one call, and of bytes that are padded already.
+#![tactic(auto)]
+
 mod absorb; // absorb.rt: whole blocks, straight from a slice
 mod encode; // encode.rt: numbers as bytes, and the padding
 mod parse; // parse.rt: the sixteen words of a block
@@ -23,7 +25,7 @@ use push::{closed, pushed};
 // A hash under way: the hash words, the bytes that wait for their block to fill, and how many
 // bytes were taken in all.
 #[repr(C)]
-#[derive(Drop)]
+#[derive(Clone, Copy)]
 pub struct Hash {
     pub words: Words,
     pub tail: [u8; 64],
@@ -31,14 +33,14 @@ pub struct Hash {
 }
 
 // A portion's outcome, and the state afterwards: the state as it was, if refused.
-#[derive(Drop)]
+#[derive(Clone, Copy)]
 pub struct Updated {
     pub outcome: Outcome,
     pub hash: Hash,
 }
 
 // The end's outcome, the blocks of the whole message, the digest, and the state as it was.
-#[derive(Drop)]
+#[derive(Clone, Copy)]
 pub struct Finished {
     pub outcome: Outcome,
     pub blocks: u64,
@@ -47,7 +49,7 @@ pub struct Finished {
 }
 
 // The outcome of one call, the message's blocks, and the digest: 0 and 32 zero bytes, if refused.
-#[derive(Drop)]
+#[derive(Clone, Copy)]
 pub struct Digested {
     pub outcome: Outcome,
     pub blocks: u64,

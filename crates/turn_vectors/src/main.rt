@@ -1,4 +1,6 @@
 // W-208: units of 1 to 8 runs, each line of the standard input a unit and its calls. The stored output is an independent model's.
+#![tactic(auto)]
+
 mod answers; // answers.rt: what a call answered, the whole unit, and where the stores lie
 mod calls; // calls.rt: a line's calls over a store of its length
 mod given; // given.rt: the unit that a line gives

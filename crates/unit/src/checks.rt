@@ -11,7 +11,7 @@ use base::{MAX_RUNS, Outcome, Refusal, beyond};
 use run::{may_continue, nodes, store_size};
 
 // Where each run's store begins, the labels that remain of each, and their sum. Without meaning beside a refusal.
-#[derive(Drop)]
+#[derive(Clone, Copy)]
 pub struct Plan {
     pub outcome: Outcome,
     pub from: [usize; MAX_RUNS],

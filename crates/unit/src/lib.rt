@@ -1,4 +1,6 @@
 // W-208: one unit that carries several runs. Their labels are made in turn, their stores lie end to end in one lent slice.
+#![tactic(auto)]
+
 mod checks; // checks.rt: what may be served, and what is to be known of the runs
 mod turns; // turns.rt: whose turn it is, and the labels of a call
 
@@ -15,7 +17,7 @@ use turns::label_turns;
 
 // The first `count` of the runs are the unit's; they are named from 1, and `last` names the one served last.
 #[repr(C)]
-#[derive(Drop)]
+#[derive(Clone, Copy)]
 pub struct StampingUnit {
     pub count: u64,
     pub last: u64,
@@ -23,7 +25,7 @@ pub struct StampingUnit {
 }
 
 // What a call did: its outcome, the labels that it made of all runs, their blocks, and the unit as it now is.
-#[derive(Drop)]
+#[derive(Clone, Copy)]
 pub struct Served {
     pub outcome: Outcome,
     pub labels: u64,
@@ -33,7 +35,7 @@ pub struct Served {
 
 // A part of the slice; 0 and 0 where there is none.
 #[repr(C)]
-#[derive(Drop)]
+#[derive(Clone, Copy)]
 pub struct StorePlace {
     pub offset: usize,
     pub length: usize,

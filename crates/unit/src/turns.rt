@@ -90,7 +90,7 @@ fn with_label(run: Run, held: [u8; HELD_SIZE]) -> Run
 }
 
 // A unit, and the blocks of the labels that were made.
-#[derive(Drop)]
+#[derive(Clone, Copy)]
 pub struct Turned {
     pub unit: StampingUnit,
     pub blocks: u64,

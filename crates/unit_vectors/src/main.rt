@@ -1,4 +1,6 @@
 // SHA-256, runs and openings over lent memory, and openings checked. The stored output is an independent model's.
+#![tactic(auto)]
+
 mod blocks; // blocks.rt: blocks of messages, and of calls on runs and openings
 mod checked; // checked.rt: openings checked upward to the root
 mod digests; // digests.rt: SHA-256

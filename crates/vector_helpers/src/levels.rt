@@ -2,7 +2,7 @@
 ghost use Rattle.std.specs.Prelude.{◌≡◌, ◌/◌, ◌%◌, [], ◌∷◌, slice_index};
 
 // A depth, a memory level and a store's length.
-#[derive(Drop)]
+#[derive(Clone, Copy)]
 pub struct LevelEdge {
     pub depth: u64,
     pub memory: u64,

@@ -1,4 +1,6 @@
 // What the vector programs share: a line of vectors read, text and numbers printed, and runs, openings and files carried to their end.
+#![tactic(auto)]
+
 mod carried; // carried.rt: runs and openings
 mod filled; // filled.rt: files, and the leaves of challenges
 mod levels; // levels.rt: the edges of the memory level's limit

@@ -1,4 +1,6 @@
 // What the program is asked: its words as one line of bytes, read into an order.
+#![tactic(auto)]
+
 mod kinds; // kinds.rt: the words that are known
 mod operands; // operands.rt: an option and the operands
 mod orders; // orders.rt: the order, or what is wrong with the words
@@ -12,7 +14,7 @@ pub use parting::{join, word, word_count};
 pub use values::value;
 
 // What is wrong with the words.
-#[derive(Drop)]
+#[derive(Clone, Copy)]
 pub enum Problem {
     NoWord,
     UnknownWord,
@@ -27,7 +29,7 @@ pub enum Problem {
 }
 
 // The answer of a row of tests.
-#[derive(Drop)]
+#[derive(Clone, Copy)]
 pub enum Words {
     Right,
     Wrong(Problem),
@@ -35,7 +37,7 @@ pub enum Words {
 
 // The parts of a line: the first word's kind, how many words there are, the place of the option or 0, the place of the first operand, and
 // how many operands there are.
-#[derive(Drop)]
+#[derive(Clone, Copy)]
 pub struct Parts {
     pub kind: u64,
     pub all: u64,
@@ -46,7 +48,7 @@ pub struct Parts {
 
 // Seal with depth, challenges, memory level and the seconds between checkpoints; verify with what the head says, with depth and count wanted,
 // or with the least of both; chain; info; help; version.
-#[derive(Drop)]
+#[derive(Clone, Copy)]
 pub enum Order {
     Seal(u64, u64, u64, u64),
     Verify,

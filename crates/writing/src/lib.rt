@@ -1,4 +1,6 @@
 // The openings of a proof file, written in calls with a budget.
+#![tactic(auto)]
+
 mod checks; // checks.rt: what may be started and continued
 mod labels; // labels.rt: labels made opening after opening
 mod parts; // parts.rt: an opening in its part of the file
@@ -17,7 +19,7 @@ use opening::Opening;
 
 // A file under writing: its root and count, the number of the opening under way, from 1, and that opening.
 #[repr(C)]
-#[derive(Drop)]
+#[derive(Clone, Copy)]
 pub struct Writing {
     pub root: [u8; 32],
     pub count: u64,
@@ -26,14 +28,14 @@ pub struct Writing {
 }
 
 // A refused start's writing is all zero.
-#[derive(Drop)]
+#[derive(Clone, Copy)]
 pub struct Started {
     pub outcome: Outcome,
     pub writing: Writing,
 }
 
 // What a call did: its outcome, the labels it made, the 64-byte blocks compressed for them, and the writing as it now is.
-#[derive(Drop)]
+#[derive(Clone, Copy)]
 pub struct Advanced {
     pub outcome: Outcome,
     pub labels: u64,

@@ -53,7 +53,7 @@ pub fn begin(
 }
 
 // A writing, and the blocks of the labels that were made.
-#[derive(Drop)]
+#[derive(Clone, Copy)]
 pub struct Stepped {
     pub writing: Writing,
     pub blocks: u64,
