@@ -8,17 +8,16 @@ use native.Mathlib.Omega.{arith}
 use borrow.Author.Tests.{eqb-true, eqb-false}
 use lib.Count.{ones}
 use lib.Dec.{eqb}
-use lib.ListN.{length, take, drop, length-append, length-take, length-drop}
+use lib.ListN.{length, take, drop, length-take, length-drop}
 use lib.Pow.{pow-add, pow_pos, split}
 use Rattle.base.specs.Choice.{pick}
 use Rattle.base.specs.Limits.{max_depth, held_size}
 use Rattle.sha256.specs.Padding.{blocks_of}
 use Rattle.sha256.specs.Digest.{blocks_hashed}
 use Rattle.sha256.proofs.Digests.{blocks-hashed}
-use Rattle.tree.specs.Nodes.{Node, node}
+use Rattle.tree.specs.Nodes.{node}
 use Rattle.tree.specs.Walk.{nodes_in}
-use Rattle.tree.specs.Labels.{document_input, in_labels, input_size}
-use Rattle.tree.proofs.Order.{order-at, inside-level, inside-way}
+use Rattle.tree.specs.Labels.{document_input, in_labels}
 use Rattle.tree.proofs.InputLengths.{size-of-leaf, size-of-inner}
 use Rattle.labelling.specs.Step.{next_node, hashed_labels}
 use Rattle.labelling.specs.Blocks.{next_blocks, node_blocks}

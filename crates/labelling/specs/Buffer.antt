@@ -1,5 +1,5 @@
 -- The buffer in which a message is padded and hashed where it lies.
-use Rattle.std.specs.Prelude.{ℕ, ◌+◌, ◌-◌, ◌*◌, List, ◌++◌, length}
+use Rattle.std.specs.Prelude.{ℕ, ◌-◌, ◌*◌, List, ◌++◌, length}
 use Rattle.base.specs.Bytes.{zeros}
 use Rattle.sha256.specs.Padding.{padded}
 use Rattle.labelling.specs.Blocks.{most_blocks}

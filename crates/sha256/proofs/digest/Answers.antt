@@ -11,7 +11,6 @@ use Rattle.sha256.specs.Digest.{hash_after, digest_of}
 use Rattle.sha256.specs.Portions.{digest_row, digest_blocks, digest_answer}
 use Rattle.sha256.proofs.Blocks.{part-from}
 use Rattle.sha256.proofs.Digests.{digest-split, blocks-hashed}
-use borrow.Author.Rules.{rules}
 use Rattle.sha256.proofs.digest.Goals as goal
 
 pub returns-then-too_many : goal.returns-then-too_many
@@ -41,7 +40,7 @@ pub returns : goal.returns
 unfolding digest_row digest_blocks digest_answer
 returns c =
     let m = c.args.message.now in
-    let last = ap (λ (l : List ℕ). l ++ padding (length m)) (part-from (64 * blocks m) m) in 
+    let last = ap (λ (l : List ℕ). l ++ padding (length m)) (part-from (64 * blocks m) m) in
     rw (sym c.too_many.ensures ∙ c.if-too_many.false) (record {
       outcome_value = (refl, c.block_count-blocks.ensures ∙ sym (blocks-hashed m));
       digest_value = c.digest_after-digest.ensures ∙ (λ i. digest_of (hash_after (c.absorb-words.ensures i) (last i) (blocks (last i)))) ∙ digest-split m;

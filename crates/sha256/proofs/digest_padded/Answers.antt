@@ -1,7 +1,6 @@
 -- `sha256::digest_padded` meets its contract.
 use mathlib.Core.Path.{◌∙◌, ap}
 use Rattle.sha256.specs.Digest.{digest_of}
-use borrow.Author.Rules.{rules}
 use Rattle.sha256.proofs.digest_padded.Goals as goal
 
 pub returns : goal.returns

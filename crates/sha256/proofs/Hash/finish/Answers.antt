@@ -5,7 +5,6 @@ use native.Mathlib.Omega.{arith}
 use borrow.Author.Tests.{leb-false}
 use Rattle.base.specs.Limits.{max_hashed}
 use Rattle.sha256.specs.Portions.{finish_row, finish_blocks, finish_digest}
-use borrow.Author.Rules.{rules}
 use Rattle.sha256.proofs.Hash.finish.Goals as goal
 
 pub returns-then-too_many : goal.returns-then-too_many

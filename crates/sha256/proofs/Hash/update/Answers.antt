@@ -6,7 +6,6 @@ use native.Mathlib.Omega.{arith}
 use borrow.Author.Tests.{leb-false}
 use Rattle.base.specs.Limits.{max_hashed}
 use Rattle.sha256.specs.Portions.{update_row, update_state}
-use borrow.Author.Rules.{rules}
 use Rattle.sha256.proofs.Hash.update.Goals as goal
 
 pub returns-then-too_many : goal.returns-then-too_many

@@ -1,12 +1,8 @@
 -- `sha256::absorb::absorb` meets its contract. The invariant: v is the hash words after the first i blocks.
-use Prim.Native.Nat.{◌≤◌, ◌-◌, ◌*◌, ◌/◌}
-use mathlib.Core.Path.{◌≡◌, refl, ap, ◌∙◌}
-use native.Mathlib.Omega.{arith}
-use borrow.Author.Rules.{rules}
+use Prim.Native.Nat.{◌≤◌, ◌-◌, ◌/◌}
+use mathlib.Core.Path.{◌≡◌}
 use lib.ListN.{length}
-use Rattle.sha256.specs.Padding.{words}
 use Rattle.sha256.specs.Digest.{hash_after}
-use Rattle.sha256.proofs.Blocks.{hash_after-more, part-from}
 use Rattle.sha256.proofs.absorb.absorb.Given as goal
 
 abbrev pub invariant-loop-i : goal.invariant-loop-i
