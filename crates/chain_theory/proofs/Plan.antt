@@ -1,10 +1,11 @@
 -- The planned codes are the chain's.
-use mathlib.Core.Path.{◌≡◌, refl, sym, ap, ◌∙◌}
+use mathlib.Core.Path.{◌≡◌, refl, sym, ap, subst, ◌∙◌}
 use Prim.Native.Nat.{ℕ, zero, suc, ◌+◌, ◌*◌, ◌/◌, ◌^◌}
 use native.Mathlib.Omega.{arith}
 use native.Mathlib.Nat.{add-mul-div_right, zero-div, add_comm}
 use mathlib.Core.Bool.{true}
 use mathlib.Core.List.{List, [], ◌∷◌, ◌++◌, map, append-nil, append_assoc}
+use Rattle.std.proofs.Math.Nat.{pow-suc, pow-zero, one-mul}
 use lib.Pow.{pow_pos, pow-add}
 use borrow.Author.Tests.{eq-eqb, ne_eqb}
 use Rattle.base.specs.Choice.{every}
@@ -45,11 +46,18 @@ Writes n h l p xs vs =
     (rest : List ℕ) → Passed n h l p rest
     → plan_from n (xs ++ rest) ≡ map code vs ++ (climb l ((2 ^ l + p) / 2) (next_code n rest / 2 ^ suc h) ++ plan_from n rest)
 
-leaf-writes : (n l p : ℕ) → zero + l ≡ n → Writes n zero l p (p ∷ []) (node l p ∷ [])
+pow-one : (x : ℕ) → x ^ suc zero ≡ x
+pow-one x = rw (pow-suc x zero, pow-zero x, one-mul x)
+
+leaf-writes-at : (l p : ℕ) → Writes l zero l p (p ∷ []) (node l p ∷ [])
 unfolding plan_from
-leaf-writes n l p e rest ne =
-    let en : n ≡ l = omega arith in
-    rw (climb-on n (2 ^ n + p) (next_code n rest) (λ d. ne (rw (← en, div-zero (next_code n rest)) d))) (rw en)
+leaf-writes-at l p rest ne =
+    rw (climb-on l (2 ^ l + p) (next_code l rest) (λ d. ne (rw (div-zero (next_code l rest)) d))) (rw (pow-one 2))
+
+leaf-writes : (n l p : ℕ) → zero + l ≡ n → Writes n zero l p (p ∷ []) (node l p ∷ [])
+leaf-writes n l p e =
+    let en : l ≡ n = omega arith in
+    subst (λ (m : ℕ). Writes m zero l p (p ∷ []) (node l p ∷ [])) en (leaf-writes-at l p)
 
 -- the next leaf's ancestor, where a leaf of the subtree is next
 next-inside : (n h l p : ℕ) (xs rest : List ℕ) → h + l ≡ n → non_empty xs ≡ true → every (under h p) xs ≡ true
