@@ -1,0 +1,6 @@
+-- `run::checks::store_short` meets its contract.
+use borrow.Author.Rules.{rules}
+use Rattle.run.proofs.checks.store_short.Goals as goal
+
+pub returns : goal.returns
+returns c = rw c.store_size-size.ensures
