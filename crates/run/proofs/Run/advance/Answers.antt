@@ -3,7 +3,6 @@
 use mathlib.Core.Path.{ap, ◌∙◌}
 use Prim.Native.Nat.{ℕ, ◌-◌, min}
 use native.Mathlib.Omega.{arith}
-use borrow.Author.Rules.{rules}
 use lib.ListN.{length}
 use Rattle.base.proofs.RowLaws.{is-done, is-refused}
 use Rattle.run.proofs.RowLaws.{Whole, may-go-on, labels-done, labels-refused, advanced-by, blocks-by, no_blocks, unchanged}
@@ -47,7 +46,7 @@ returns-in-Done c =
     c.smaller-labels.ensures
     ∙ ap (λ (x : ℕ). min a.budget (x - a.self.made)) c.nodes.ensures
     ∙ labels-done a.self a.store.now a.budget
-    (is-done _ _ o.ensures c.in-Done.is) in 
+    (is-done _ _ o.ensures c.in-Done.is) in
     record {
       outcome_value = o.ensures;
       labels_value = k;
@@ -60,7 +59,7 @@ pub returns-in-Refused : goal.returns-in-Refused
 returns-in-Refused c =
     let a = c.args in
     let o = c.may_continue-outcome in
-    let z = labels-refused a.self a.store.now a.budget (is-refused _ _ _ o.ensures c.in-Refused.is) in 
+    let z = labels-refused a.self a.store.now a.budget (is-refused _ _ _ o.ensures c.in-Refused.is) in
     record {
       outcome_value = o.ensures;
       labels_value = z;

@@ -3,12 +3,11 @@ use mathlib.Core.Path.{◌∙◌}
 use lib.ListN.{length}
 use Rattle.base.proofs.RowLaws.{is-done, is-refused}
 use Rattle.run.proofs.RowLaws.{start-done, start-refused}
-use borrow.Author.Rules.{rules}
 use Rattle.run.proofs.Run.start.Goals as goal
 
 pub returns-in-Done : goal.returns-in-Done
 returns-in-Done c =
-    let may-start = c.may_start-outcome in 
+    let may-start = c.may_start-outcome in
     record {
       outcome_value = may-start.ensures;
       run_value = c.new_run-run.ensures
@@ -18,7 +17,7 @@ returns-in-Done c =
 
 pub returns-in-Refused : goal.returns-in-Refused
 returns-in-Refused c =
-    let may-start = c.may_start-outcome in 
+    let may-start = c.may_start-outcome in
     record {
       outcome_value = may-start.ensures;
       run_value = c.new_run-run-in-Refused.ensures

@@ -1,5 +1,4 @@
 -- `run::Run::step` meets its contract: it is a call with budget 1.
-use borrow.Author.Rules.{rules}
 use Rattle.run.proofs.Run.step.Goals as goal
 
 pub returns : goal.returns

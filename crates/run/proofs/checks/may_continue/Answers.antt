@@ -2,7 +2,6 @@
 use mathlib.Core.Path.{sym, ◌∙◌}
 use Rattle.run.specs.Rows.{continue_row}
 use Rattle.run.proofs.RowLaws.{possible}
-use borrow.Author.Rules.{rules}
 use Rattle.run.proofs.checks.may_continue.Goals as goal
 
 pub returns-then-not_possible : goal.returns-then-not_possible

@@ -2,7 +2,6 @@
 use mathlib.Core.Path.{sym, ◌∙◌}
 use Rattle.run.specs.Rows.{start_row}
 use Rattle.base.proofs.Ranges.{memory-inside}
-use borrow.Author.Rules.{rules}
 use Rattle.run.proofs.checks.may_start.Goals as goal
 
 pub returns-then-beyond : goal.returns-then-beyond

@@ -1,6 +1,5 @@
 -- `run::checks::nodes` meets its contract.
 use native.Mathlib.Omega.{arith}
-use borrow.Author.Rules.{rules}
 use lib.Pow.{pow_pos, pow_mono}
 use Rattle.base.specs.Limits.{max_depth}
 use Rattle.base.proofs.Powers.{shifted_one}

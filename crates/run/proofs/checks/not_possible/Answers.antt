@@ -1,7 +1,6 @@
 -- `run::checks::not_possible` meets its contract: each return by the tests passed.
 use mathlib.Core.Path.{sym, ◌∙◌}
 use Rattle.base.proofs.Ranges.{depth-inside}
-use borrow.Author.Rules.{rules}
 use Rattle.run.proofs.checks.not_possible.Goals as goal
 
 pub returns-then-beyond : goal.returns-then-beyond

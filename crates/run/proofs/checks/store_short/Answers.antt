@@ -1,5 +1,4 @@
 -- `run::checks::store_short` meets its contract.
-use borrow.Author.Rules.{rules}
 use Rattle.run.proofs.checks.store_short.Goals as goal
 
 pub returns : goal.returns

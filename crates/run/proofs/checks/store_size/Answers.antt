@@ -2,7 +2,6 @@
 use native.Mathlib.Omega.{arith}
 use Rattle.tree.specs.Walk.{nodes_in}
 use Rattle.tree.proofs.Slots.{store-fits}
-use borrow.Author.Rules.{rules}
 use Rattle.run.proofs.checks.store_size.Goals as goal
 
 pub overflow_mul-result : goal.overflow_mul-result

@@ -9,7 +9,6 @@ use Rattle.tree.specs.Nodes.{node}
 use Rattle.tree.proofs.Slots.{slot-inside}
 use Rattle.base.proofs.Powers.{shifted_one}
 use Rattle.run.proofs.StepLaws.{kept, not-kept}
-use borrow.Author.Rules.{rules}
 use Rattle.run.proofs.labels.keep.Goals as goal
 
 small_power : (l : ℕ) → l ≤ max_depth → ((1 * 2 ^ l) % 2 ^ 64 ≡ 2 ^ l) × (0 < 2 ^ l) × (2 ^ l ≤ 2 ^ max_depth)

@@ -1,13 +1,9 @@
 use mathlib.Core.Path.{◌≡◌, refl, sym}
-use Prim.Native.Nat.{◌+◌, ◌-◌, ◌*◌, ◌≤◌}
 use native.Mathlib.Omega.{arith}
 use borrow.Author.Rules.{rules}
-use lib.ListN.{length}
-use Rattle.base.specs.Limits.{held_size}
 use Rattle.machine.proofs.StepLaws.{cost-none, cost-more}
-use Rattle.labelling.specs.Blocks.{most_blocks}
-use Rattle.run.specs.Steps.{stamped, run_machine, step_blocks, steps, blocks_over}
-use Rattle.run.proofs.StepLaws.{small-nodes, state, no_step, next-step, all-steps}
+use Rattle.run.specs.Steps.{stamped, run_machine, step_blocks}
+use Rattle.run.proofs.StepLaws.{small-nodes, no_step, next-step, all-steps}
 use Rattle.run.proofs.labels.label_many.Goals as goal
 
 pub loop-i-init : goal.loop-i-init
@@ -49,7 +45,7 @@ loop-i-preserved c =
           c.args.run.memory c.args.run.made l.i l.held l.store l.invariant.1 _ _ o.ensures.held_after o.ensures.store_after,
       omega (arith, o.auto, l.invariant.2),
       omega (arith, o.auto, l.invariant.3),
-      cost-more run_machine step_blocks l.i (stamped c.args.run c.args.store.now) _ l.blocks _ l.invariant.1
+      cost-more run_machine step_blocks l.i (stamped c.args.run c.args.store.now) _ _ _ l.invariant.1
           l.invariant.4 o.ensures.value.0,
       omega (arith, l.invariant.5, o.ensures.value.1),
     )
@@ -68,7 +64,7 @@ returns c =
     all-steps (stamped c.args.run c.args.store.now) c.args.run.edition c.args.run.statement c.args.run.depth
     c.args.run.memory c.args.run.made l.i l.held l.store l.invariant.1 c.args.count l.invariant.0
     c.loop-i-test.false in
-    let e : l.i ≡ c.args.count = omega (arith, l.invariant.0, c.loop-i-test.false) in 
+    let e : l.i ≡ c.args.count = omega (arith, l.invariant.0, c.loop-i-test.false) in
     record {
       run_value = run;
       store_after = store;

@@ -1,15 +1,12 @@
 -- `run::labels::label_many` meets its contract. The invariant: i steps from the start give this state and cost these blocks. The measure is
 -- what is left of the count.
-use mathlib.Core.Path.{◌≡◌, refl, sym}
+use mathlib.Core.Path.{◌≡◌}
 use Prim.Native.Nat.{◌+◌, ◌-◌, ◌*◌, ◌≤◌}
-use native.Mathlib.Omega.{arith}
-use borrow.Author.Rules.{rules}
 use lib.ListN.{length}
 use Rattle.base.specs.Limits.{held_size}
-use Rattle.machine.proofs.StepLaws.{cost-none, cost-more}
 use Rattle.labelling.specs.Blocks.{most_blocks}
-use Rattle.run.specs.Steps.{stamped, run_machine, step_blocks, steps, blocks_over}
-use Rattle.run.proofs.StepLaws.{small-nodes, state, no_step, next-step, all-steps}
+use Rattle.run.specs.Steps.{steps, blocks_over}
+use Rattle.run.proofs.StepLaws.{state}
 use Rattle.run.proofs.labels.label_many.Given as goal
 
 abbrev pub invariant-loop-i : goal.invariant-loop-i
