@@ -1,4 +1,5 @@
 -- `opening::Opening::start` meets its contract, by the answer.
+-- what a row of 0 tells
 use mathlib.Core.Path.{◌≡◌, refl, ◌∙◌}
 use mathlib.Core.Bool.{Bool}
 use mathlib.Core.List.{List, ◌∷◌, ◌++◌}
@@ -13,10 +14,8 @@ use Rattle.tree.specs.Openings.{opening_size}
 use Rattle.run.specs.Rows.{start_checks}
 use Rattle.opening.specs.Rows.{leaf_checks, open_row}
 use Rattle.opening.proofs.RowLaws.{Ready, possible, start-done, start-refused}
-use Rattle.opening.proofs.Opening.start.Statement.{statement}
-use Rattle.opening.proofs.Opening.start.Tie as tie
+use Rattle.opening.proofs.Opening.start.Goals as goal
 
--- what a row of 0 tells
 start-ready : (edition n m leaf store out : ℕ) → open_row edition n m leaf store out ≡ 0 → Ready n m leaf store out
 unfolding open_row
 start-ready edition n m leaf store out e =
@@ -29,40 +28,47 @@ start-ready edition n m leaf store out e =
     }
 
 -- the row's answer, and that the opening may be started
-abbrev row : tie.Start → ℕ
+
+abbrev row : goal.After-copy_held-arg-1 → ℕ
 row s = open_row s.args.edition s.args.depth s.args.memory s.args.leaf (length s.args.store.now) (length s.args.out.now)
 
-done : (c : tie.After-enum-told) → row c.before.before.before.before.before ≡ 0
-done c = is-done _ _ c.before.before.may-start.ensures c.enum_told.given.1
+done : (c : goal.After-copy_held-arg-1) → row c ≡ 0
+done c = is-done _ _ c.may_start-outcome.ensures c.in-Done.is
 
-copy-held-requires : tie.Need-copy-held-requires
-copy-held-requires c κs = let r = start-ready _ _ _ _ _ _ (done c.before) in (r.possible, (r.room, r.out_room))
+pub copy_held-requires : goal.copy_held-requires
+copy_held-requires c = let r = start-ready _ _ _ _ _ _ (done c) in 
+    record {
+      possible = r.possible;
+      memory_in_bounds = (r.room, r.out_room);
+    }
 
-returns : tie.Need-returns
-returns c =
-    let copy-held = c.before.before.before in
-    let may-start = copy-held.before.before.before.before in
-    let s = may-start.before.before.before in
-    let a = s.args in
+abbrev row-at-after-new_opening-opening : goal.After-new_opening-opening → ℕ
+row-at-after-new_opening-opening s = open_row s.args.edition s.args.depth s.args.memory s.args.leaf (length s.args.store.now) (length s.args.out.now)
+
+done-at-after-new_opening-opening : (c : goal.After-new_opening-opening) → row-at-after-new_opening-opening c ≡ 0
+done-at-after-new_opening-opening c = is-done _ _ c.may_start-outcome.ensures c.in-Done.is
+
+pub returns-in-Done : goal.returns-in-Done
+returns-in-Done c =
+    let a = c.args in
     let (o, w) =
     start-done a.edition a.statement a.depth a.memory a.leaf a.store.now a.out.now
-    (done copy-held.before.before) in (
-      may-start.may-start.ensures,
-      (c.new-opening.ensures ∙ o, copy-held.copy-held.ensures ∙ w),
-    )
+    (done-at-after-new_opening-opening c) in 
+    record {
+      outcome_value = c.may_start-outcome.ensures;
+      opening_value = c.new_opening-opening.ensures ∙ o;
+      out_after = c.copy_held.ensures ∙ w;
+    }
 
-returns-2 : tie.Need-returns-2
-returns-2 c =
-    let a = c.before.before.before.before.before.before.args in
-    let s = c.before.before.before.may-start in
+pub returns-in-Refused : goal.returns-in-Refused
+returns-in-Refused c =
+    let a = c.args in
+    let s = c.may_start-outcome in
     let (o, w) =
     start-refused a.edition a.statement a.depth a.memory a.leaf a.store.now a.out.now
-    (is-refused _ _ _ s.ensures c.before.enum-told2.given.1) in
-    (s.ensures, (c.new-opening2.ensures ∙ o, w))
-
-pub start_spec : {M : Type 1} → statement M
-start_spec =
-    tie.close
-    (tie.spec
-    (λ c κs. search rules) (λ c. search rules) copy-held-requires (λ c κs. search rules) (λ c. search rules)
-    (λ c κs. search rules) (λ c. search rules) returns returns-2)
+    (is-refused _ _ _ s.ensures c.in-Refused.is) in 
+    record {
+      outcome_value = s.ensures;
+      opening_value = c.new_opening-opening-in-Refused.ensures ∙ o;
+      out_after = w;
+    }
