@@ -3,11 +3,10 @@ use Prim.Native.Nat.{◌+◌, ◌-◌, ◌*◌, ◌/◌, ◌^◌, ◌≤◌}
 use native.Mathlib.Omega.{arith}
 use borrow.Author.Rules.{rules}
 use lib.Count.{ones}
-use lib.ListN.{length}
 use Rattle.tree.specs.Nodes.{node}
 use Rattle.tree.proofs.Slots.{slot-inside}
 use Rattle.opening_places.specs.Possible.{front_size}
-use Rattle.opening_places.proofs.AboveLaws.{Above, above-none, above_more, above-few, above-taken}
+use Rattle.opening_places.proofs.AboveLaws.{above-none, above_more, above-few, above-taken}
 use Rattle.opening_places.proofs.PlaceLaws.{way-inside}
 use Rattle.opening_places.proofs.above.labels_above.Goals as goal
 
@@ -51,7 +50,7 @@ add_left-filled-requires c =
     let a = c.args in
     let l = c.loop-level.level in
     let p = way-inside a.depth a.leaf (l + 1) (omega arith) c.requires.possible.inside in
-    let i = slot-inside a.memory (node (l + 1) (a.leaf / 2 ^ (a.depth - (l + 1)))) (omega arith, p) in 
+    let i = slot-inside a.memory (node (l + 1) (a.leaf / 2 ^ (a.depth - (l + 1)))) (omega arith, p) in
     record {
       level_le_max_depth = (omega arith, p, omega (arith, some-room c));
       position_in_bounds = omega arith;
@@ -87,7 +86,7 @@ returns c =
     let e : l.level ≡ a.memory = omega arith in
     let so = rw e at l.invariant.1 in
     let f : l.filled ≡ 32 * ones (a.leaf / 2 ^ (a.depth - a.memory)) = so.counted in
-    let t = above-taken a.depth a.leaf a.store.now a.memory l.filled l.bytes so in 
+    let t = above-taken a.depth a.leaf a.store.now a.memory l.filled l.bytes so in
     record {
       len_value = refl;
       bytes_value = rw f at t.0;

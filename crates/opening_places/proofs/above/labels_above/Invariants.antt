@@ -1,16 +1,10 @@
 -- `opening_places::above::labels_above` meets its contract. The invariant: the first `filled` bytes are the labels of levels 1 to `level`, and
 -- zeros follow. The measure is what is left of m.
-use mathlib.Core.Path.{◌≡◌, refl}
-use Prim.Native.Nat.{◌+◌, ◌-◌, ◌*◌, ◌/◌, ◌^◌, ◌≤◌}
-use native.Mathlib.Omega.{arith}
-use borrow.Author.Rules.{rules}
-use lib.Count.{ones}
+use mathlib.Core.Path.{◌≡◌}
+use Prim.Native.Nat.{◌-◌, ◌≤◌}
 use lib.ListN.{length}
-use Rattle.tree.specs.Nodes.{node}
-use Rattle.tree.proofs.Slots.{slot-inside}
 use Rattle.opening_places.specs.Possible.{front_size}
-use Rattle.opening_places.proofs.AboveLaws.{Above, above-none, above_more, above-few, above-taken}
-use Rattle.opening_places.proofs.PlaceLaws.{way-inside}
+use Rattle.opening_places.proofs.AboveLaws.{Above}
 use Rattle.opening_places.proofs.above.labels_above.Given as goal
 
 abbrev pub invariant-loop-level : goal.invariant-loop-level

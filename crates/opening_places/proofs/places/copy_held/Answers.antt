@@ -1,7 +1,6 @@
 -- `opening_places::places::copy_held` meets its contract, by whether m is n.
 use mathlib.Core.Path.{◌∙◌}
 use native.Mathlib.Omega.{arith}
-use borrow.Author.Rules.{rules}
 use Rattle.tree.specs.Nodes.{node}
 use Rattle.tree.proofs.Slots.{slot-inside}
 use Rattle.opening_places.proofs.PlaceLaws.{copied-with-leaf, copied-no-leaf}
@@ -10,7 +9,7 @@ use Rattle.opening_places.proofs.places.copy_held.Goals as goal
 pub copy_label-requires : goal.copy_label-requires
 copy_label-requires c =
     let a = c.args in
-    let k = slot-inside a.memory (node a.depth a.leaf) (omega arith, c.requires.possible.inside) in 
+    let k = slot-inside a.memory (node a.depth a.leaf) (omega arith, c.requires.possible.inside) in
     record {
       depth_le_max_depth = (c.requires.possible.deep, c.requires.possible.some, omega arith, c.requires.possible.inside);
       position_in_bounds = (omega arith, omega arith);

@@ -1,6 +1,5 @@
 -- `opening_places::places::copy_label` meets its contract: the part lent is the label in the store.
 use mathlib.Core.Path.{ap, ◌∙◌}
-use borrow.Author.Rules.{rules}
 use Rattle.opening_places.specs.Places.{placed}
 use Rattle.opening_places.proofs.PlaceLaws.{part_in}
 use Rattle.opening_places.proofs.places.copy_label.Goals as goal

@@ -1,11 +1,9 @@
 use mathlib.Core.Path.{◌≡◌, refl, ◌∙◌}
-use Prim.Native.Nat.{◌+◌, ◌-◌, ◌≤◌}
+use Prim.Native.Nat.{◌+◌}
 use native.Mathlib.Omega.{arith}
 use borrow.Author.Rules.{rules}
-use lib.ListN.{length}
 use Rattle.tree.specs.Nodes.{node}
 use Rattle.tree.proofs.Slots.{slot-inside}
-use Rattle.opening_places.specs.Places.{copied}
 use Rattle.opening_places.proofs.PlaceLaws.{beside-inside, copied_none, copied_more}
 use Rattle.opening_places.proofs.places.copy_siblings.Goals as goal
 
@@ -17,7 +15,7 @@ copy_label-requires c =
     let a = c.args in
     let l = c.loop-level.level in
     let b = beside-inside a.depth a.leaf l _ (omega arith) c.requires.possible.inside c.sibling_of-beside.ensures in
-    let s = slot-inside a.memory (node (l + 1) c.sibling_of-beside.result) (omega arith, b) in 
+    let s = slot-inside a.memory (node (l + 1) c.sibling_of-beside.result) (omega arith, b) in
     record {
       depth_le_max_depth = (c.requires.possible.deep, omega arith, omega arith, b);
       position_in_bounds = (omega arith, omega arith);

@@ -1,6 +1,5 @@
 -- `opening_places::places::put_label` meets its contract: each return by the two tests.
 use mathlib.Core.Path.{sym, ◌∙◌}
-use borrow.Author.Rules.{rules}
 use Rattle.opening_places.proofs.PlaceLaws.{placed-leaf, placed-beside, placed-nowhere}
 use Rattle.opening_places.proofs.places.put_label.Goals as goal
 

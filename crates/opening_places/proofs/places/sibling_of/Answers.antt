@@ -1,6 +1,5 @@
 -- `opening_places::places::sibling_of` meets its contract, by parity.
 use native.Mathlib.Omega.{arith}
-use borrow.Author.Rules.{rules}
 use Rattle.base.proofs.ChoiceLaws.{is_odd, is-even}
 use Rattle.opening_places.proofs.places.sibling_of.Goals as goal
 

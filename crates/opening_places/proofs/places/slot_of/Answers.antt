@@ -1,6 +1,5 @@
 -- `opening_places::places::slot_of` meets its contract: no number is beyond 2^46.
 use native.Mathlib.Omega.{arith}
-use borrow.Author.Rules.{rules}
 use lib.Pow.{pow_pos, pow_mono}
 use Rattle.base.specs.Limits.{max_depth}
 use Rattle.base.proofs.Powers.{shifted_one}

@@ -6,27 +6,18 @@ use Rattle.groups.proofs.Checked.{checked_refused, checked-next}
 use Rattle.run_record.specs.Layout.{made_groups}
 use Rattle.run_record.specs.Reading.{numbers, not_read, any_number}
 use Rattle.run_record.specs.ReadingSteps.{made_from}
-use Rattle.run_record.proofs.numbers.read_made.Statement.{statement}
-use Rattle.run_record.proofs.numbers.read_made.Tie as tie
+use Rattle.run_record.proofs.numbers.read_made.Goals as goal
 
-returns : tie.Need-returns
+pub returns-in-Refused : goal.returns-in-Refused
 unfolding made_from
-returns c =
-    let call = c.before.before.before in
-    let a = call.before.before.args in
+returns-in-Refused c =
+    let a = c.args in
     checked_refused not_read (read_at a.bytes.now a.from.at made_groups) any_number 4 (numbers a.edition a.n a.m) _
-    (sym call.read.ensures ∙ ap answer_of c.before.number.given.1)
+    (sym c.read-number.ensures ∙ ap answer_of c.in-Refused.is)
 
-returns-2 : tie.Need-returns-2
+pub returns-in-Value : goal.returns-in-Value
 unfolding made_from
-returns-2 c =
-    let call = c.before.before.before in
-    let a = call.before.before.args in
+returns-in-Value c =
+    let a = c.args in
     checked-next not_read (read_at a.bytes.now a.from.at made_groups) any_number 4 (numbers a.edition a.n a.m) _ _
-    (sym call.read.ensures ∙ ap answer_of c.before.number2.given.1) refl
-
-pub read-made-spec : {M : Type 1} → statement M
-read-made-spec =
-    tie.close
-    (tie.spec
-    (λ c κs. search rules) (λ c. search rules) (λ c. search rules) returns returns-2)
+    (sym c.read-number.ensures ∙ ap answer_of c.in-Value.is) refl

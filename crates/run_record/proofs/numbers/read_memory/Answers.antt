@@ -6,29 +6,19 @@ use Rattle.groups.specs.Reading.{answer_of, read_at}
 use Rattle.groups.proofs.Checked.{checked_refused, checked-next}
 use Rattle.run_record.specs.Reading.{not_read, any_number}
 use Rattle.run_record.specs.ReadingSteps.{made_from, memory_from}
-use Rattle.run_record.proofs.numbers.read_memory.Statement.{statement}
-use Rattle.run_record.proofs.numbers.read_memory.Tie as tie
+use Rattle.run_record.proofs.numbers.read_memory.Goals as goal
 
-returns : tie.Need-returns
+pub returns-in-Refused : goal.returns-in-Refused
 unfolding memory_from
-returns c =
-    let call = c.before.before.before in
-    let a = call.before.before.args in
+returns-in-Refused c =
+    let a = c.args in
     checked_refused not_read (read_at a.bytes.now a.from.at number_groups) any_number 4 (made_from a.bytes.now a.edition a.n) _
-    (sym call.read.ensures ∙ ap answer_of c.before.number.given.1)
+    (sym c.read-number.ensures ∙ ap answer_of c.in-Refused.is)
 
-returns-2 : tie.Need-returns-2
+pub returns-in-Value : goal.returns-in-Value
 unfolding memory_from
-returns-2 c =
-    let known = c.before.before in
-    let call = known.before.before in
-    let a = call.before.before.args in
+returns-in-Value c =
+    let a = c.args in
     c.read_made.ensures
     ∙ checked-next not_read (read_at a.bytes.now a.from.at number_groups) any_number 4 (made_from a.bytes.now a.edition a.n) _ _
-    (sym call.read.ensures ∙ ap answer_of known.number2.given.1) refl
-
-pub read-memory-spec : {M : Type 1} → statement M
-read-memory-spec =
-    tie.close
-    (tie.spec
-    (λ c κs. search rules) (λ c. search rules) (λ c. search rules) (λ c κs. search rules) returns returns-2)
+    (sym c.read-number.ensures ∙ ap answer_of c.in-Value.is) refl
