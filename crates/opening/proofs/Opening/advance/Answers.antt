@@ -3,7 +3,6 @@
 use mathlib.Core.Path.{◌≡◌, ap, ◌∙◌}
 use Prim.Native.Nat.{ℕ, ◌-◌, ◌≤◌, min}
 use native.Mathlib.Omega.{arith}
-use borrow.Author.Rules.{rules}
 use lib.ListN.{length}
 use Rattle.base.proofs.RowLaws.{is-done, is-refused}
 use Rattle.opening.specs.Rows.{nodes_anew, reopen_row}
@@ -62,7 +61,7 @@ ready-at-after-label_many-arg-1 c = continue-ready _ _ _ (done-at-after-label_ma
 
 pub label_many-done-requires : goal.label_many-done-requires
 label_many-done-requires c =
-    let (r, few) = ready-at-after-label_many-arg-1 c in 
+    let (r, few) = ready-at-after-label_many-arg-1 c in
     record {
       possible = (r.possible, omega (arith, c.smaller-labels.ensures, c.nodes_anew.ensures));
       memory_in_bounds = (r.room, r.out_room);
@@ -81,7 +80,7 @@ returns-in-Done c =
     let k =
     c.smaller-labels.ensures
     ∙ ap (λ (x : ℕ). min a.budget (x - a.self.made)) c.nodes_anew.ensures
-    ∙ labels-done a.self a.store.now a.out.now a.budget (done-at-after-opening-1 c) in 
+    ∙ labels-done a.self a.store.now a.out.now a.budget (done-at-after-opening-1 c) in
     record {
       outcome_value = c.may_continue-outcome.ensures;
       labels_value = k;
@@ -94,7 +93,7 @@ pub returns-in-Refused : goal.returns-in-Refused
 returns-in-Refused c =
     let a = c.args in
     let s = c.may_continue-outcome in
-    let z = labels-refused a.self a.store.now a.out.now a.budget (is-refused _ _ _ s.ensures c.in-Refused.is) in 
+    let z = labels-refused a.self a.store.now a.out.now a.budget (is-refused _ _ _ s.ensures c.in-Refused.is) in
     record {
       outcome_value = s.ensures;
       labels_value = z;

@@ -5,7 +5,6 @@ use mathlib.Core.Bool.{Bool}
 use mathlib.Core.List.{List, ◌∷◌, ◌++◌}
 use Prim.Native.Nat.{ℕ}
 use borrow.Author.Tests.{ltb-false}
-use borrow.Author.Rules.{rules}
 use lib.ListN.{length}
 use Rattle.base.specs.Row.{no_edition}
 use Rattle.tree.specs.Store.{store_size}
@@ -36,7 +35,7 @@ done : (c : goal.After-copy_held-arg-1) → row c ≡ 0
 done c = is-done _ _ c.may_start-outcome.ensures c.in-Done.is
 
 pub copy_held-requires : goal.copy_held-requires
-copy_held-requires c = let r = start-ready _ _ _ _ _ _ (done c) in 
+copy_held-requires c = let r = start-ready _ _ _ _ _ _ (done c) in
     record {
       possible = r.possible;
       memory_in_bounds = (r.room, r.out_room);
@@ -53,7 +52,7 @@ returns-in-Done c =
     let a = c.args in
     let (o, w) =
     start-done a.edition a.statement a.depth a.memory a.leaf a.store.now a.out.now
-    (done-at-after-new_opening-opening c) in 
+    (done-at-after-new_opening-opening c) in
     record {
       outcome_value = c.may_start-outcome.ensures;
       opening_value = c.new_opening-opening.ensures ∙ o;
@@ -66,7 +65,7 @@ returns-in-Refused c =
     let s = c.may_start-outcome in
     let (o, w) =
     start-refused a.edition a.statement a.depth a.memory a.leaf a.store.now a.out.now
-    (is-refused _ _ _ s.ensures c.in-Refused.is) in 
+    (is-refused _ _ _ s.ensures c.in-Refused.is) in
     record {
       outcome_value = s.ensures;
       opening_value = c.new_opening-opening-in-Refused.ensures ∙ o;

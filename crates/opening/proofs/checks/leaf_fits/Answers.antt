@@ -1,6 +1,5 @@
 -- `opening::checks::leaf_fits` meets its contract: each return by the tests passed.
 use mathlib.Core.Path.{sym, ◌∙◌}
-use borrow.Author.Rules.{rules}
 use Rattle.opening.proofs.checks.leaf_fits.Goals as goal
 
 pub returns-then-leaf_outside : goal.returns-then-leaf_outside

@@ -1,5 +1,4 @@
 -- `opening::checks::leaf_outside` meets its contract: 2^40 fits.
-use borrow.Author.Rules.{rules}
 use Rattle.base.proofs.Powers.{shifted_one}
 use Rattle.opening.proofs.checks.leaf_outside.Goals as goal
 

@@ -1,7 +1,6 @@
 -- `opening::checks::nodes_anew` meets its contract: a subtree has at least the node itself.
 use Prim.Native.Nat.{◌-◌}
 use native.Mathlib.Omega.{arith}
-use borrow.Author.Rules.{rules}
 use lib.Pow.{pow_pos}
 use Rattle.tree.proofs.Order.{nodes_in-suc}
 use Rattle.opening.proofs.RowLaws.{anew-nodes}

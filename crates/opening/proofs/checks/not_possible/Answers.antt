@@ -5,7 +5,6 @@ use mathlib.Core.Bool.{false}
 use Prim.Native.Nat.{◌<◌, ◌≤◌}
 use native.Mathlib.Omega.{arith}
 use borrow.Author.Tests.{lt-ltb, le-ltb}
-use borrow.Author.Rules.{rules}
 use Rattle.base.specs.Limits.{max_depth}
 use Rattle.base.specs.Row.{outside, memory_over, no_edition}
 use Rattle.base.proofs.Ranges.{depth-inside, memory-below}

@@ -1,15 +1,12 @@
 use mathlib.Core.Path.{sym, ◌≡◌, refl, ap, ◌∙◌}
-use Prim.Native.Nat.{◌+◌, ◌-◌, ◌*◌, ◌≤◌}
+use Prim.Native.Nat.{◌≤◌}
 use native.Mathlib.Omega.{arith}
 use borrow.Author.Rules.{rules}
 use lib.ListN.{length-take, length}
 use lib.Seq.{length-take-le}
-use Rattle.base.specs.Limits.{held_size}
 use Rattle.machine.proofs.StepLaws.{cost-none, cost-more}
-use Rattle.labelling.specs.Blocks.{most_blocks}
-use Rattle.opening.specs.Steps.{opening_of, Open, opening_machine, steps, step_blocks, blocks_over}
+use Rattle.opening.specs.Steps.{Open, opening_machine, step_blocks}
 use Rattle.opening_places.specs.Possible.{front_size}
-use Rattle.opening.specs.Names.{open_of}
 use Rattle.opening_places.proofs.AboveLaws.{above-few}
 use Rattle.opening.proofs.StepLaws.{anew-small, steps-none, steps-more, step-blocks}
 use Rattle.opening.proofs.labels.label_many.Goals as goal
@@ -100,7 +97,7 @@ shape_of-out c = c.loop-i.invariant.3
 pub returns : goal.returns
 returns c =
     let e : c.loop-i.i ≡ c.args.count = omega arith in
-    let f = rw e at c.loop-i.invariant.1 in 
+    let f = rw e at c.loop-i.invariant.1 in
     record {
       opening_value = sym (ap (λ (s : Open). s.opening) f);
       out_after = sym (ap (λ (s : Open). s.out) f);

@@ -1,19 +1,12 @@
 -- `opening::labels::label_many` meets its contract. The invariant: i steps from the start give this state and cost these blocks. The
 -- measure is what is left of the count.
-use mathlib.Core.Path.{sym, ◌≡◌, refl, ap, ◌∙◌}
+use mathlib.Core.Path.{◌≡◌}
 use Prim.Native.Nat.{◌+◌, ◌-◌, ◌*◌, ◌≤◌}
-use native.Mathlib.Omega.{arith}
-use borrow.Author.Rules.{rules}
-use lib.ListN.{length-take, length}
-use lib.Seq.{length-take-le}
+use lib.ListN.{length}
 use Rattle.base.specs.Limits.{held_size}
-use Rattle.machine.proofs.StepLaws.{cost-none, cost-more}
 use Rattle.labelling.specs.Blocks.{most_blocks}
-use Rattle.opening.specs.Steps.{opening_of, Open, opening_machine, steps, step_blocks, blocks_over}
-use Rattle.opening_places.specs.Possible.{front_size}
+use Rattle.opening.specs.Steps.{opening_of, steps, blocks_over}
 use Rattle.opening.specs.Names.{open_of}
-use Rattle.opening_places.proofs.AboveLaws.{above-few}
-use Rattle.opening.proofs.StepLaws.{anew-small, steps-none, steps-more, step-blocks}
 use Rattle.opening.proofs.labels.label_many.Given as goal
 
 abbrev pub invariant-loop-i : goal.invariant-loop-i

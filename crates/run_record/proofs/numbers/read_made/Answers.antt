@@ -1,6 +1,5 @@
 -- `run_record::numbers::read_made` meets its contract: refused, or the next is read.
 use mathlib.Core.Path.{refl, sym, ap, ◌∙◌}
-use borrow.Author.Rules.{rules}
 use Rattle.groups.specs.Reading.{answer_of, read_at}
 use Rattle.groups.proofs.Checked.{checked_refused, checked-next}
 use Rattle.run_record.specs.Layout.{made_groups}

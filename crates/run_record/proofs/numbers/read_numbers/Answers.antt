@@ -1,6 +1,5 @@
 -- `run_record::numbers::read_numbers` meets its contract: refused, an edition that does not exist, or the rest is read.
 use mathlib.Core.Path.{sym, ap, ◌∙◌}
-use borrow.Author.Rules.{rules}
 use Rattle.groups.specs.Reading.{answer_of}
 use Rattle.run_record.proofs.NumbersSteps.{edition-refused, edition-bad, edition-read}
 use Rattle.run_record.proofs.numbers.read_numbers.Goals as goal

@@ -2,7 +2,6 @@
 use mathlib.Core.Path.{◌≡◌, sym, ◌∙◌}
 use mathlib.Core.Bool.{false}
 use native.Mathlib.Omega.{arith}
-use borrow.Author.Rules.{rules}
 use Rattle.run.proofs.RowLaws.{Possible, possible}
 use Rattle.run_record.specs.Layout.{no_such_run}
 use Rattle.run_record.specs.Reading.{length_from}

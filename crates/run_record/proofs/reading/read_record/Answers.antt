@@ -1,7 +1,6 @@
 -- `run_record::reading::read_record` meets its contract: a number refused, the rest refused, or the run.
 -- the numbers that were read
 use mathlib.Core.Path.{◌≡◌, sym, ap, ◌∙◌}
-use borrow.Author.Rules.{rules}
 use Rattle.base.proofs.RowLaws.{is-done, refused-number, not_done}
 use Rattle.run_record.specs.Reading.{numbers_answer, numbers, numbers_of}
 use Rattle.run_record.proofs.NumbersLaws.{numbers-within}
@@ -26,7 +25,7 @@ run_at-run-requires c =
 pub returns-in-NotRead : goal.returns-in-NotRead
 returns-in-NotRead c =
     let bytes = c.args.bytes.now in
-    let (row, run) = not-read bytes _ (sym c.read_numbers-numbers.ensures ∙ ap numbers_answer c.in-NotRead.is) in 
+    let (row, run) = not-read bytes _ (sym c.read_numbers-numbers.ensures ∙ ap numbers_answer c.in-NotRead.is) in
     record {
       outcome_value = c.refused.ensures.outcome_value ∙ row;
       run_value = c.refused.ensures.run_value ∙ run;
@@ -42,7 +41,7 @@ pub returns-in-Refused : goal.returns-in-Refused
 returns-in-Refused c =
     let bytes = c.args.bytes.now in
     let number = refused-number _ _ _ c.may_resume-outcome.ensures c.in-Refused.is in
-    let so = read-at-after-refused-in-refused c in 
+    let so = read-at-after-refused-in-refused c in
     record {
       outcome_value = c.refused-in-Refused.ensures.outcome_value ∙ number ∙ row_is bytes _ _ _ _ _ so;
       run_value = c.refused-in-Refused.ensures.run_value ∙ rest-refused bytes _ _ _ _ _ so (not_done c.in-Refused.why _ number);
@@ -57,7 +56,7 @@ read-at-after-run_at-run c = let c = c in sym c.read_numbers-numbers.ensures ∙
 pub returns-in-Done : goal.returns-in-Done
 returns-in-Done c =
     let bytes = c.args.bytes.now in
-    let so = read-at-after-run_at-run c in 
+    let so = read-at-after-run_at-run c in
     record {
       outcome_value = c.may_resume-outcome.ensures ∙ row_is bytes _ _ _ _ _ so;
       run_value = c.run_at-run.ensures ∙ rest-done bytes _ _ _ _ _ so (is-done _ _ c.may_resume-outcome.ensures c.in-Done.is);

@@ -2,7 +2,6 @@
 -- the labels fit their places
 use Prim.Native.Nat.{◌+◌, ◌≤◌}
 use native.Mathlib.Omega.{arith}
-use borrow.Author.Rules.{rules}
 use lib.ListN.{length, drop, length-drop}
 use Rattle.base.specs.Limits.{held_size}
 use Rattle.base.proofs.Parts.{part-rest}

@@ -3,7 +3,6 @@ use mathlib.Core.Path.{◌∙◌}
 use Prim.Native.Nat.{◌≤◌, ◌<◌}
 use native.Mathlib.Omega.{arith}
 use lib.Count.{ones}
-use borrow.Author.Rules.{rules}
 use Rattle.base.specs.Limits.{max_depth}
 use Rattle.tree.specs.Walk.{nodes_in}
 use Rattle.run_record.proofs.HeldCounts.{count-done, count-inner, count-leaf, ones-few}

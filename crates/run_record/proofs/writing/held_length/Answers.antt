@@ -2,7 +2,6 @@
 use mathlib.Core.Path.{ap}
 use Prim.Native.Nat.{ℕ, ◌*◌}
 use native.Mathlib.Omega.{arith}
-use borrow.Author.Rules.{rules}
 use Rattle.run_record.proofs.HeldCounts.{held_fits}
 use Rattle.run_record.proofs.writing.held_length.Goals as goal
 

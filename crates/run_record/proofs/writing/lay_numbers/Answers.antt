@@ -5,7 +5,6 @@ use mathlib.Core.List.{List}
 use Prim.Native.Nat.{ℕ, ◌+◌, ◌≤◌}
 use native.Mathlib.Nat.{zero-add}
 use native.Mathlib.Omega.{arith}
-use borrow.Author.Rules.{rules}
 use lib.ListN.{length, take}
 use Rattle.groups.specs.Groups.{groups_of}
 use Rattle.run_record.specs.Layout.{numbers_space, record_numbers}
@@ -116,7 +115,7 @@ returns c =
     numbers-put a.edition a.depth a.memory a.made c.requires.0 c.requires.1 c.requires.2 c.requires.3 _ _ _ _ _ _ _ _
     c.put_number-first.ensures.out_after
     c.put_number-second.ensures.out_after c.put_number-third.ensures.out_after c.put_number-count.ensures.out_after
-    (c.put_number-first.ensures.value ∙ zero-add _) c.put_number-second.ensures.value c.put_number-third.ensures.value in 
+    (c.put_number-first.ensures.value ∙ zero-add _) c.put_number-second.ensures.value c.put_number-third.ensures.value in
     record {
       bytes_value = ap (λ (l : List ℕ). take c.put_number-count.result l) all ∙ front-written _ _ _ count;
       count_value = count;

@@ -20,7 +20,7 @@ use Rattle.run_record.proofs.writing.write_record.Goals as goal
 pub returns-then-not_possible : goal.returns-then-not_possible
 returns-then-not_possible c =
     let a = c.args in
-    let done = no-such-run a.run a.out.now (sym c.not_possible.ensures ∙ c.if-not_possible.true) in 
+    let done = no-such-run a.run a.out.now (sym c.not_possible.ensures ∙ c.if-not_possible.true) in
     record {
       outcome_value = done.row;
       size_value = done.bytes;
@@ -73,7 +73,7 @@ returns-then-out-size c =
     let a = c.args in
     let z = sizes c.args.run c.lay_numbers-numbers.result.count c.held_length-labels.result (sym c.not_possible.ensures ∙ c.if-not_possible.false) c.lay_numbers-numbers.ensures.count_value c.held_length-labels.ensures (search rules) (search rules) in
     let long : length a.out.now < length (record_of a.run) = omega (arith, z.whole, c.if-out-size.true) in
-    let short = short-buffer a.run a.out.now (sym c.not_possible.ensures ∙ c.if-not_possible.false) long in 
+    let short = short-buffer a.run a.out.now (sym c.not_possible.ensures ∙ c.if-not_possible.false) long in
     record {
       outcome_value = short.row;
       size_value = short.bytes;
@@ -115,7 +115,7 @@ returns c =
     let fits : length (record_of a.run) ≤ length a.out.now = omega (arith, z.whole, c.if-out-size.false) in
     let done =
     record-put a.run a.out.now (sym c.not_possible.ensures ∙ c.if-not_possible.false) _ _ fits z.whole
-    (c.put_parts.ensures ∙ ap (λ (l : List ℕ). written a.out.now 0 l) (parts_are a.run _ _ c.lay_numbers-numbers.ensures.bytes_value labels)) in 
+    (c.put_parts.ensures ∙ ap (λ (l : List ℕ). written a.out.now 0 l) (parts_are a.run _ _ c.lay_numbers-numbers.ensures.bytes_value labels)) in
     record {
       outcome_value = done.row;
       size_value = done.bytes;
