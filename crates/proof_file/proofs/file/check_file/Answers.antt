@@ -9,7 +9,7 @@ use Rattle.proof_file.proofs.file.check_file.Goals as goal
 pub check_rest-requires : goal.check_rest-requires
 check_rest-requires c =
     let w = head-within c.args.bytes.now _ _ _ _
-    (λ j. (c.shared_slice_known-1.given j).fits)
+    (λ j. (c.type_inv.bytes j).fits)
     (sym c.read_head-head.ensures ∙ ap head_answer c.in-Numbers.is) in
     omega (arith, w)
 

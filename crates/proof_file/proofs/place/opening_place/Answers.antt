@@ -8,7 +8,7 @@ use Rattle.proof_file.proofs.place.opening_place.Goals as goal
 pub place_at-requires : goal.place_at-requires
 place_at-requires c =
     let w = head-within c.args.bytes.now _ _ _ _
-    (λ j. (c.shared_slice_known-1.given j).fits)
+    (λ j. (c.type_inv.bytes j).fits)
     (sym c.read_head-head.ensures ∙ ap head_answer c.in-Numbers.is) in
     omega (arith, w)
 
