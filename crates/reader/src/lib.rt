@@ -74,7 +74,7 @@ pub fn head<'a>(r: Reader<'a>) -> HeadNumbers
 // Opening i, from 1, as that part of the caller's bytes; empty where there is none.
 pub fn opening<'a>(r: Reader<'a>, i: u64) -> &'a [u8]
     ensures { (result.now ≡ opening_part r.entry.src.now i)
-        × (result.ref_ptr ≡ (r.entry.src.ptr.0, r.entry.src.ptr.1 + part_start r.entry.src.now i (head_of r.entry.src.now))) }
+        × (result.ref_ptr ≡ (r.entry.src.ref_ptr.0, r.entry.src.ref_ptr.1 + part_start r.entry.src.now i (head_of r.entry.src.now))) }
 {
     proof_file::opening_part(r.src, i)
 }

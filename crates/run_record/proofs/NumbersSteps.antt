@@ -7,7 +7,7 @@ use Rattle.base.specs.Row.{no_edition}
 use Rattle.groups.specs.Groups.{number_groups}
 use Rattle.groups.specs.Reading.{value, refused, read_at, checked}
 use Rattle.groups.proofs.Checked.{checked_refused, checked-bad, checked-next}
-use Rattle.run_record.specs.Reading.{numbers, not_read, numbers_of}
+use Rattle.run_record.specs.Reading.{not_read, numbers_of}
 use Rattle.run_record.specs.ReadingSteps.{made_from, memory_from, depth_from}
 
 module _ (bytes : List ℕ) where

@@ -1,0 +1,45 @@
+-- `file_head::writing::put_head` meets its contract: numbers, statement and root one behind the other.
+use Prim.Native.Nat.{◌+◌, ◌≤◌}
+use native.Mathlib.Omega.{arith}
+use borrow.Author.Rules.{rules}
+use lib.ListN.{length}
+use Rattle.file_head.proofs.WritingLaws.{head-put, size-numbers}
+use Rattle.file_head.proofs.writing.put_head.Goals as goal
+
+pub put_numbers-at-requires : goal.put_numbers-at-requires
+put_numbers-at-requires c =
+    let a = c.args in
+    (c.requires.0, c.requires.1, c.requires.2, omega (arith, c.requires.3, size-numbers a.edition a.n a.t c.requires.0))
+
+-- statement and root fit behind the numbers
+
+room : (c : goal.After-statement-1) → c.put_numbers-at.result + 64 ≤ length c.args.out.now
+room c =
+    let a = c.args in
+    omega (arith, c.requires.3, size-numbers a.edition a.n a.t c.requires.0, c.put_numbers-at.ensures.value)
+
+pub put-requires : goal.put-requires
+put-requires c = omega (arith, room c)
+
+room-at-after-put-arg-2-1 : (c : goal.After-put-arg-2-1) → c.put_numbers-at.result + 64 ≤ length c.args.out.now
+room-at-after-put-arg-2-1 c =
+    let a = c.args in
+    omega (arith, c.requires.3, size-numbers a.edition a.n a.t c.requires.0, c.put_numbers-at.ensures.value)
+
+pub overflow_add-at : goal.overflow_add-at
+overflow_add-at c = omega (arith, room-at-after-put-arg-2-1 c)
+
+room-at-after-root-1 : (c : goal.After-root-1) → c.put_numbers-at.result + 64 ≤ length c.args.out.now
+room-at-after-root-1 c =
+    let a = c.args in
+    omega (arith, c.requires.3, size-numbers a.edition a.n a.t c.requires.0, c.put_numbers-at.ensures.value)
+
+pub put-requires-2 : goal.put-requires-2
+put-requires-2 c = omega (arith, room-at-after-root-1 c)
+
+pub returns : goal.returns
+returns c =
+    let put-numbers = c.put_numbers-at in
+    let a = c.args in
+    head-put a.edition a.statement a.root a.n a.t a.out.now _ _ _ _ (search rules) put-numbers.ensures.value
+    put-numbers.ensures.out_after c.put.ensures c.put-2.ensures

@@ -1,0 +1,22 @@
+-- `run_record::numbers::read_made` meets its contract: refused, or the next is read.
+use mathlib.Core.Path.{refl, sym, ap, ◌∙◌}
+use Rattle.groups.specs.Reading.{answer_of, read_at}
+use Rattle.groups.proofs.Checked.{checked_refused, checked-next}
+use Rattle.run_record.specs.Layout.{made_groups}
+use Rattle.run_record.specs.Reading.{numbers, not_read, any_number}
+use Rattle.run_record.specs.ReadingSteps.{made_from}
+use Rattle.run_record.proofs.numbers.read_made.Goals as goal
+
+pub returns-in-Refused : goal.returns-in-Refused
+unfolding made_from
+returns-in-Refused c =
+    let a = c.args in
+    checked_refused not_read (read_at a.bytes.now a.from.at made_groups) any_number 4 (numbers a.edition a.n a.m) _
+    (sym c.read-number.ensures ∙ ap answer_of c.in-Refused.is)
+
+pub returns-in-Value : goal.returns-in-Value
+unfolding made_from
+returns-in-Value c =
+    let a = c.args in
+    checked-next not_read (read_at a.bytes.now a.from.at made_groups) any_number 4 (numbers a.edition a.n a.m) _ _
+    (sym c.read-number.ensures ∙ ap answer_of c.in-Value.is) refl
