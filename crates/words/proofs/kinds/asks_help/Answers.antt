@@ -2,7 +2,6 @@
 use mathlib.Core.Path.{sym, ◌∙◌}
 use borrow.Author.Tests.{eq-eqb, ne_eqb}
 use Rattle.words.specs.Parts.{asks_help}
-use borrow.Author.Rules.{rules}
 use Rattle.words.proofs.kinds.asks_help.Goals as goal
 
 pub returns-then-kind-eq-HELP : goal.returns-then-kind-eq-HELP
@@ -20,4 +19,4 @@ returns c =
       ne_eqb _ 5 c.if-kind-eq-HELP.false,
       sym c.beyond.ensures ∙ c.if-beyond.false,
       ← c.word.ensures,
-    ) c.is_is_word.ensures
+    ) c.is_word.ensures

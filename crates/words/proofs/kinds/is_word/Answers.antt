@@ -2,7 +2,6 @@
 use mathlib.Core.Path.{sym, ap}
 use lib.ListN.{length}
 use Rattle.base.proofs.ListsLaws.{tells-bytes, test-differ}
-use borrow.Author.Rules.{rules}
 use Rattle.words.proofs.kinds.is_word.Goals as goal
 
 pub returns-then-word-name : goal.returns-then-word-name

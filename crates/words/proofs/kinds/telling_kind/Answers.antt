@@ -5,17 +5,16 @@ use Rattle.base.specs.Lists.{same_bytes}
 use Rattle.base.specs.Row.{either}
 use Rattle.decimal.specs.Ascii.{ascii}
 use Rattle.words.specs.Parts.{telling_kind}
-use borrow.Author.Rules.{rules}
 use Rattle.words.proofs.kinds.telling_kind.Goals as goal
 
 pub returns-then-is_word : goal.returns-then-is_word
 unfolding telling_kind
-returns-then-is_word c = rw (sym c.is_is_word.ensures ∙ c.if-is_word.true)
+returns-then-is_word c = rw (sym c.is_word.ensures ∙ c.if-is_word.true)
 
 pub returns-then-is_word-2 : goal.returns-then-is_word-2
 unfolding telling_kind
 returns-then-is_word-2 c =
-    rw (sym c.is_is_word.ensures ∙ c.if-is_word.false, sym c.is_word-2.ensures ∙ c.if-is_word-2.true)
+    rw (sym c.is_word.ensures ∙ c.if-is_word.false, sym c.is_word-2.ensures ∙ c.if-is_word-2.true)
 
 -- neither `help` nor `--help`
 
@@ -24,7 +23,7 @@ no-help :
     → let word = c.args.word.now in
     either (same_bytes word (ascii "help")) (same_bytes word (ascii "--help")) ≡ false
 no-help c =
-    rw (sym c.is_is_word.ensures ∙ c.if-is_word.false, sym c.is_word-2.ensures ∙ c.if-is_word-2.false)
+    rw (sym c.is_word.ensures ∙ c.if-is_word.false, sym c.is_word-2.ensures ∙ c.if-is_word-2.false)
 
 pub returns-then-is_word-3 : goal.returns-then-is_word-3
 unfolding telling_kind
@@ -35,7 +34,7 @@ no-help-at-else-is_word-3 :
     → let word = c.args.word.now in
     either (same_bytes word (ascii "help")) (same_bytes word (ascii "--help")) ≡ false
 no-help-at-else-is_word-3 c =
-    rw (sym c.is_is_word.ensures ∙ c.if-is_word.false, sym c.is_word-2.ensures ∙ c.if-is_word-2.false)
+    rw (sym c.is_word.ensures ∙ c.if-is_word.false, sym c.is_word-2.ensures ∙ c.if-is_word-2.false)
 
 pub returns : goal.returns
 unfolding telling_kind

@@ -1,6 +1,5 @@
 -- `words::operands::first_operand` meets its contract.
 use borrow.Author.Tests.{eq-eqb, ne_eqb}
-use borrow.Author.Rules.{rules}
 use Rattle.words.proofs.operands.first_operand.Goals as goal
 
 pub returns-then-option-eq1 : goal.returns-then-option-eq1

@@ -1,7 +1,6 @@
 -- `words::operands::option_of` meets its contract.
 use borrow.Author.Tests.{eq-eqb, ne_eqb}
 use Rattle.words.specs.Parts.{option_of}
-use borrow.Author.Rules.{rules}
 use Rattle.words.proofs.operands.option_of.Goals as goal
 
 pub returns-then-kind-eq-SEAL : goal.returns-then-kind-eq-SEAL

@@ -3,7 +3,6 @@ use Prim.Native.Nat.{◌≤◌}
 use native.Mathlib.Omega.{arith}
 use Rattle.words.specs.Parts.{parts_with}
 use Rattle.words.proofs.PartsLaws.{size_small}
-use borrow.Author.Rules.{rules}
 use Rattle.words.proofs.operands.parts_with.Goals as goal
 
 pub returns : goal.returns

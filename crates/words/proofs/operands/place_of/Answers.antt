@@ -6,7 +6,6 @@ use Rattle.base.specs.Lists.{same_bytes}
 use Rattle.words.specs.Parting.{word_at}
 use borrow.Author.Tests.{le-leb, lt-leb}
 use Rattle.words.specs.Parts.{place_of}
-use borrow.Author.Rules.{rules}
 use Rattle.words.proofs.operands.place_of.Goals as goal
 
 pub returns-then-all-size : goal.returns-then-all-size
@@ -16,7 +15,7 @@ returns-then-all-size c = rw (le-leb _ _ c.if-all-size.true)
 pub returns-then-is_word : goal.returns-then-is_word
 unfolding place_of
 returns-then-is_word c =
-    rw (lt-leb _ _ c.if-all-size.false, ← c.word.ensures, sym c.is_is_word.ensures ∙ c.if-is_word.true)
+    rw (lt-leb _ _ c.if-all-size.false, ← c.word.ensures, sym c.is_word.ensures ∙ c.if-is_word.true)
 
 -- it does not stand after the first word
 
@@ -27,7 +26,7 @@ not_first :
     ≡ pick (same_bytes (word_at (a.all - a.size) a.line.now) a.name.now) (a.all - a.size) 0
 unfolding place_of
 not_first c =
-    rw (lt-leb _ _ c.if-all-size.false, ← c.word.ensures, sym c.is_is_word.ensures ∙ c.if-is_word.false)
+    rw (lt-leb _ _ c.if-all-size.false, ← c.word.ensures, sym c.is_word.ensures ∙ c.if-is_word.false)
 
 pub returns-then-is_word-2 : goal.returns-then-is_word-2
 returns-then-is_word-2 c =
@@ -40,7 +39,7 @@ not_first-at-else-is_word-2 :
     ≡ pick (same_bytes (word_at (a.all - a.size) a.line.now) a.name.now) (a.all - a.size) 0
 unfolding place_of
 not_first-at-else-is_word-2 c =
-    rw (lt-leb _ _ c.if-all-size.false, ← c.word.ensures, sym c.is_is_word.ensures ∙ c.if-is_word.false)
+    rw (lt-leb _ _ c.if-all-size.false, ← c.word.ensures, sym c.is_word.ensures ∙ c.if-is_word.false)
 
 pub returns : goal.returns
 returns c =

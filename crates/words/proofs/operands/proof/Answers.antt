@@ -1,7 +1,6 @@
 -- `words::operands::proof` meets its contract.
 use borrow.Author.Tests.{eq-eqb, ne_eqb}
 use Rattle.words.specs.Parts.{proof_at, proof_in}
-use borrow.Author.Rules.{rules}
 use Rattle.words.proofs.operands.proof.Goals as goal
 
 pub returns-then-p-eq-INFO : goal.returns-then-p-eq-INFO

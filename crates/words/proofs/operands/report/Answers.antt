@@ -1,7 +1,6 @@
 -- `words::operands::report` meets its contract.
 use borrow.Author.Tests.{eq-eqb, ne_eqb}
 use Rattle.words.specs.Parts.{report_at, report_in}
-use borrow.Author.Rules.{rules}
 use Rattle.words.proofs.operands.report.Goals as goal
 
 pub returns-then-p-eq-INFO : goal.returns-then-p-eq-INFO

@@ -1,7 +1,6 @@
 -- `words::orders::asked_for` meets its contract.
 use borrow.Author.Tests.{eq-eqb, ne_eqb}
 use Rattle.words.specs.Orders.{asked}
-use borrow.Author.Rules.{rules}
 use Rattle.words.proofs.orders.asked_for.Goals as goal
 
 pub returns-then-p-eq-SEAL : goal.returns-then-p-eq-SEAL

@@ -1,7 +1,6 @@
 -- `words::orders::at_least` meets its contract.
 use mathlib.Core.Path.{sym, ◌∙◌}
 use Rattle.words.specs.Orders.{wanted_least}
-use borrow.Author.Rules.{rules}
 use Rattle.words.proofs.orders.at_least.Goals as goal
 
 pub returns-in-Wrong : goal.returns-in-Wrong

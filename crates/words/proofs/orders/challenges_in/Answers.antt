@@ -1,7 +1,6 @@
 -- `words::orders::challenges_in` meets its contract.
 use borrow.Author.Tests.{lt-ltb, le-ltb}
 use Rattle.words.specs.Orders.{challenges_in}
-use borrow.Author.Rules.{rules}
 use Rattle.words.proofs.orders.challenges_in.Goals as goal
 
 pub returns-then-p-lt4 : goal.returns-then-p-lt4

@@ -1,7 +1,6 @@
 -- `words::orders::in_time` meets its contract.
 use mathlib.Core.Path.{sym, ◌∙◌}
 use Rattle.words.specs.Orders.{timed}
-use borrow.Author.Rules.{rules}
 use Rattle.words.proofs.orders.in_time.Goals as goal
 
 pub returns-in-Wrong : goal.returns-in-Wrong

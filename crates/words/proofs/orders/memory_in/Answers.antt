@@ -1,7 +1,6 @@
 -- `words::orders::memory_in` meets its contract.
 use borrow.Author.Tests.{lt-ltb, le-ltb}
 use Rattle.words.specs.Orders.{memory_in}
-use borrow.Author.Rules.{rules}
 use Rattle.words.proofs.orders.memory_in.Goals as goal
 
 pub returns-then-p-lt5 : goal.returns-then-p-lt5

@@ -1,7 +1,6 @@
 -- `words::orders::number` meets its contract.
 use mathlib.Core.Path.{ap, ◌∙◌}
 use Rattle.words.specs.Values.{value_of}
-use borrow.Author.Rules.{rules}
 use Rattle.words.proofs.orders.number.Goals as goal
 
 pub returns : goal.returns

@@ -4,7 +4,6 @@ use lib.ListN.{length}
 use borrow.Author.Tests.{eq-eqb, ne_eqb}
 use Rattle.words.specs.Parts.{report_in, proof_in}
 use Rattle.words.specs.Orders.{paths_row, order_if, asked, order_of}
-use borrow.Author.Rules.{rules}
 use Rattle.words.proofs.orders.read_order.Goals as goal
 
 pub returns-then-asks_help : goal.returns-then-asks_help

@@ -1,6 +1,5 @@
 -- `words::orders::seal_order` meets its contract.
 use Rattle.words.specs.Orders.{depth_in, seal_order}
-use borrow.Author.Rules.{rules}
 use Rattle.words.proofs.orders.seal_order.Goals as goal
 
 pub returns : goal.returns

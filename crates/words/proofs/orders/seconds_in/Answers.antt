@@ -1,7 +1,6 @@
 -- `words::orders::seconds_in` meets its contract.
 use borrow.Author.Tests.{eq-eqb, ne_eqb}
 use Rattle.words.specs.Orders.{seconds_in}
-use borrow.Author.Rules.{rules}
 use Rattle.words.proofs.orders.seconds_in.Goals as goal
 
 pub returns-then-p-eq0 : goal.returns-then-p-eq0

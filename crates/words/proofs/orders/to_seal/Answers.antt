@@ -1,7 +1,6 @@
 -- `words::orders::to_seal` meets its contract.
 use mathlib.Core.Path.{sym, ◌∙◌}
 use Rattle.words.specs.Orders.{sealed}
-use borrow.Author.Rules.{rules}
 use Rattle.words.proofs.orders.to_seal.Goals as goal
 
 pub returns-in-Wrong : goal.returns-in-Wrong

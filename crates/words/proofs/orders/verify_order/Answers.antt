@@ -1,7 +1,6 @@
 -- `words::orders::verify_order` meets its contract.
 use borrow.Author.Tests.{eq-eqb, ne_eqb, lt-ltb, le-ltb}
 use Rattle.words.specs.Orders.{depth_in, verify_order}
-use borrow.Author.Rules.{rules}
 use Rattle.words.proofs.orders.verify_order.Goals as goal
 
 pub returns-then-p-ne0 : goal.returns-then-p-ne0
@@ -11,7 +10,7 @@ returns-then-p-ne0 c =
       ne_eqb _ 0 c.if-p-ne0.true,
       ← c.number.ensures,
       ← c.number-then-p-ne0.ensures,
-    ) c.at_least_lem.ensures
+    ) c.at_least.ensures
 
 pub returns-then-p-lt3 : goal.returns-then-p-lt3
 unfolding verify_order

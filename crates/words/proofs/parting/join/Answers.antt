@@ -2,7 +2,6 @@
 use mathlib.Core.Path.{refl}
 use native.Mathlib.Omega.{arith}
 use Rattle.words.proofs.WordLaws.{joins-none, joins-one}
-use borrow.Author.Rules.{rules}
 use Rattle.words.proofs.parting.join.Goals as goal
 
 pub returns-then-line-at : goal.returns-then-line-at

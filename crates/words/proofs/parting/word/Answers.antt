@@ -1,6 +1,5 @@
 -- `words::parting::word` meets its contract.
 use Rattle.words.proofs.WordLaws.{word-is}
-use borrow.Author.Rules.{rules}
 use Rattle.words.proofs.parting.word.Goals as goal
 
 pub returns : goal.returns

@@ -1,12 +1,8 @@
 -- `words::parting::word_count` meets its contract: the invariant: words counted and words left are all.
-use mathlib.Core.Logic.{⊎_elim}
 use mathlib.Core.Path.{◌≡◌}
-use borrow.Author.Rules.{rules}
-use native.Mathlib.Omega.{arith}
 use lib.ListN.{length, drop}
 use Prim.Native.Nat.{◌+◌, ◌-◌, ◌≤◌}
 use Rattle.words.specs.Parting.{word_count}
-use Rattle.words.proofs.WordLaws.{counts-here, counts-on, counts-none}
 use Rattle.words.proofs.parting.word_count.Given as goal
 
 abbrev pub invariant-loop-i : goal.invariant-loop-i

@@ -1,9 +1,5 @@
-use mathlib.Core.Path.{◌≡◌, refl}
-use borrow.Author.Rules.{rules}
+use mathlib.Core.Path.{refl}
 use native.Mathlib.Omega.{arith}
-use lib.ListN.{length, drop}
-use Prim.Native.Nat.{◌+◌, ◌-◌, ◌≤◌}
-use Rattle.words.specs.Parting.{up_to}
 use Rattle.words.proofs.WordLaws.{ends-here, goes_on, ends-none}
 use Rattle.words.proofs.parting.word_end.Goals as goal
 

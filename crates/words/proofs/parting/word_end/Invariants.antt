@@ -1,11 +1,8 @@
 -- `words::parting::word_end` meets its contract: the invariant: what is left to the next 0 ends at the same place.
-use mathlib.Core.Path.{◌≡◌, refl}
-use borrow.Author.Rules.{rules}
-use native.Mathlib.Omega.{arith}
+use mathlib.Core.Path.{◌≡◌}
 use lib.ListN.{length, drop}
 use Prim.Native.Nat.{◌+◌, ◌-◌, ◌≤◌}
 use Rattle.words.specs.Parting.{up_to}
-use Rattle.words.proofs.WordLaws.{ends-here, goes_on, ends-none}
 use Rattle.words.proofs.parting.word_end.Given as goal
 
 abbrev pub invariant-loop-i : goal.invariant-loop-i

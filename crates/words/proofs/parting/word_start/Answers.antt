@@ -1,9 +1,5 @@
-use mathlib.Core.Path.{◌≡◌, refl, sym, ◌∙◌}
-use borrow.Author.Rules.{rules}
+use mathlib.Core.Path.{refl, sym, ◌∙◌}
 use native.Mathlib.Omega.{arith}
-use lib.ListN.{length, drop}
-use Prim.Native.Nat.{◌≤◌}
-use Rattle.words.specs.Parting.{after}
 use Rattle.words.proofs.WordLaws.{passed, passed-all, passed_none}
 use Rattle.words.proofs.parting.word_start.Goals as goal
 

@@ -1,11 +1,8 @@
 -- `words::parting::word_start` meets its contract: the invariant: what is left to skip gives the same rest.
-use mathlib.Core.Path.{◌≡◌, refl, sym, ◌∙◌}
-use borrow.Author.Rules.{rules}
-use native.Mathlib.Omega.{arith}
+use mathlib.Core.Path.{◌≡◌}
 use lib.ListN.{length, drop}
 use Prim.Native.Nat.{◌≤◌}
 use Rattle.words.specs.Parting.{after}
-use Rattle.words.proofs.WordLaws.{passed, passed-all, passed_none}
 use Rattle.words.proofs.parting.word_start.Given as goal
 
 abbrev pub invariant-loop-left : goal.invariant-loop-left

@@ -1,7 +1,6 @@
 -- `words::rows::check_paths` meets its contract.
 use borrow.Author.Tests.{eq-eqb, ne_eqb}
 use Rattle.words.specs.Orders.{paths_row}
-use borrow.Author.Rules.{rules}
 use Rattle.words.proofs.rows.check_paths.Goals as goal
 
 pub returns-then-kind-eq-INFO : goal.returns-then-kind-eq-INFO

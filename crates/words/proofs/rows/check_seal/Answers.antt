@@ -1,7 +1,6 @@
 -- `words::rows::check_seal` meets its contract.
 use mathlib.Core.Path.{sym, ◌∙◌}
 use Rattle.words.specs.Orders.{seal_row}
-use borrow.Author.Rules.{rules}
 use Rattle.words.proofs.rows.check_seal.Goals as goal
 
 pub returns-then-beyond : goal.returns-then-beyond

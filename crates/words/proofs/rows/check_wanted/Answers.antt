@@ -1,7 +1,6 @@
 -- `words::rows::check_wanted` meets its contract.
 use mathlib.Core.Path.{sym, ◌∙◌}
 use Rattle.words.specs.Orders.{wanted_row}
-use borrow.Author.Rules.{rules}
 use Rattle.words.proofs.rows.check_wanted.Goals as goal
 
 pub returns-then-beyond : goal.returns-then-beyond

@@ -6,7 +6,6 @@ use Rattle.base.specs.Choice.{pick, both}
 use Rattle.words.specs.declared.Problem.TheVariants.{Missing}
 use Rattle.words.specs.declared.Words.TheVariants.{Right, Wrong}
 use Rattle.words.specs.Orders.{word_row}
-use borrow.Author.Rules.{rules}
 use Rattle.words.proofs.rows.check_words.Goals as goal
 
 pub returns-then-p-eq0 : goal.returns-then-p-eq0

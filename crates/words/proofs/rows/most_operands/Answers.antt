@@ -2,7 +2,6 @@
 use mathlib.Core.Path.{sym, ◌∙◌}
 use borrow.Author.Tests.{eq-eqb, ne_eqb}
 use Rattle.words.specs.Orders.{most}
-use borrow.Author.Rules.{rules}
 use Rattle.words.proofs.rows.most_operands.Goals as goal
 
 pub returns-then-kind-eq-SEAL : goal.returns-then-kind-eq-SEAL

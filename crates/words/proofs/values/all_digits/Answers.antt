@@ -1,11 +1,5 @@
-use mathlib.Core.Path.{◌≡◌, refl, sym, ◌∙◌}
-use borrow.Author.Rules.{rules}
-use borrow.Author.Tests.{not-true, not-false}
+use mathlib.Core.Path.{refl, sym, ◌∙◌}
 use native.Mathlib.Omega.{arith}
-use lib.ListN.{length, drop}
-use Prim.Native.Nat.{◌-◌, ◌≤◌}
-use Rattle.base.specs.Choice.{every}
-use Rattle.decimal.specs.Numbers.{is_digit}
 use Rattle.words.proofs.ValueLaws.{no_digit, digit-on, digits-end}
 use Rattle.words.proofs.values.all_digits.Goals as goal
 

@@ -1,13 +1,9 @@
 -- `words::values::all_digits` meets its contract: the invariant: the bytes that are left decide.
-use mathlib.Core.Path.{◌≡◌, refl, sym, ◌∙◌}
-use borrow.Author.Rules.{rules}
-use borrow.Author.Tests.{not-true, not-false}
-use native.Mathlib.Omega.{arith}
+use mathlib.Core.Path.{◌≡◌}
 use lib.ListN.{length, drop}
 use Prim.Native.Nat.{◌-◌, ◌≤◌}
 use Rattle.base.specs.Choice.{every}
 use Rattle.decimal.specs.Numbers.{is_digit}
-use Rattle.words.proofs.ValueLaws.{no_digit, digit-on, digits-end}
 use Rattle.words.proofs.values.all_digits.Given as goal
 
 abbrev pub invariant-loop-i : goal.invariant-loop-i

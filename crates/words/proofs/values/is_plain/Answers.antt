@@ -1,8 +1,6 @@
 -- `words::values::is_plain` meets its contract.
 use mathlib.Core.Path.{sym, ◌∙◌}
-use borrow.Author.Tests.{not-true, not-false}
 use Rattle.words.specs.Values.{is_plain}
-use borrow.Author.Rules.{rules}
 use Rattle.words.proofs.values.is_plain.Goals as goal
 
 pub returns-then-not-all_digits : goal.returns-then-not-all_digits

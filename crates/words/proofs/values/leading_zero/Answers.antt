@@ -3,7 +3,6 @@ use native.Mathlib.Omega.{arith}
 use lib.ListN.{length}
 use borrow.Author.Tests.{lt-ltb, le-ltb}
 use Rattle.words.specs.Values.{leading_zero}
-use borrow.Author.Rules.{rules}
 use Rattle.words.proofs.values.leading_zero.Goals as goal
 
 pub returns-then-word-le1 : goal.returns-then-word-le1

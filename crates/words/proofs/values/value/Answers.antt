@@ -2,12 +2,10 @@
 use mathlib.Core.Path.{◌≡◌, sym, ◌∙◌}
 use mathlib.Core.Bool.{true, false}
 use native.Mathlib.Omega.{arith}
-use borrow.Author.Tests.{not-true, not-false}
 use Rattle.decimal.specs.Steps.{all_fit}
 use Rattle.decimal.proofs.ReadLaws.{kept-all}
 use Rattle.words.specs.Values.{is_plain}
 use Rattle.words.proofs.ValueLaws.{not_plain, not-read, not-one, one}
-use borrow.Author.Rules.{rules}
 use Rattle.words.proofs.values.value.Goals as goal
 
 pub returns-then-not-is_plain : goal.returns-then-not-is_plain
