@@ -1,3 +1,2 @@
 pub mod PartLaws
-pub mod Room
 pub mod SameLaws

@@ -8,8 +8,7 @@ use mir.Syntax.{w32}
 use mir.Val.{of_z}
 use borrow.Author.Tests.{eq-eqb, ne_eqb}
 use Rattle.base.specs.Choice.{both}
-use Rattle.libc.specs.Io.{Status}
-use Rattle.descriptors.specs.SameFile.{good, identity_of}
+use Rattle.descriptors.specs.SameFile.{Status, good, identity_of}
 use Rattle.descriptors.specs.declared.same_file.FileId.{FileId}
 use Rattle.descriptors.specs.declared.same_file.Known.{Known}
 

@@ -1,8 +1,13 @@
 -- When two answers of the system are of one file.
-use Rattle.std.specs.Prelude.{Bool, false, eqb, ℤ, pos, negsuc}
+use Rattle.std.specs.Prelude.{◌≡◌, Bool, false, eqb, ℤ, pos, negsuc}
 use Rattle.base.specs.Choice.{both}
 use Rattle.descriptors.specs.declared.same_file.FileId.{FileId}
 use Rattle.descriptors.specs.declared.same_file.Known.{Known}
+
+-- what a call answers: 0, or -1 where it failed
+abbrev pub Status : ℤ → Type 0
+Status (pos k) = k ≡ 0
+Status (negsuc k) = k ≡ 0
 
 -- the call succeeded: it answered 0
 abbrev pub good : ℤ → Bool

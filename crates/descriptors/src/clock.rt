@@ -1,5 +1,5 @@
-// The time that has passed. A reference to C's struct for times is not covered by the borrow checker; the system's text is.
-use crate::small_file::{behind, number_at, read_small};
+// The time that has passed.
+use std::rt::Clock;
 
 // A time in milliseconds, of seconds and hundredths; a century at most.
 fn in_milliseconds(seconds: u64, hundredths: u64) -> u64 {
@@ -13,9 +13,9 @@ fn in_milliseconds(seconds: u64, hundredths: u64) -> u64 {
 }
 
 // Milliseconds since the machine was started, in steps of ten; 0 where the system does not tell.
-pub fn milliseconds() -> u64 {
-    let mut text = [0u8; 64];
-    let size = read_small(b"/proc/uptime", &mut text);
-    let point = behind(&text[..size], b'.', 0);
-    in_milliseconds(number_at(&text[..size], 0), number_at(&text[..size], point))
+pub fn milliseconds<C: Clock>(clock: &C) -> u64 {
+    match clock.monotonic() {
+        Ok(time) => in_milliseconds(time.as_secs(), u64::from(time.subsec_millis() / 10)),
+        Err(_) => 0,
+    }
 }

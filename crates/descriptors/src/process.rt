@@ -1,5 +1,7 @@
 // Processes by their numbers. A number is given again, so a process is told by its number and its start.
 use crate::small_file::{behind, behind_last, number_at, read_small};
+use std::fs::File;
+use std::rt::Files;
 
 // A process's number and when it was started, in the system's ticks; 0 and 0 for none.
 #[derive(Clone, Copy)]
@@ -45,9 +47,9 @@ fn process_in(text: &[u8]) -> Process {
 }
 
 // The process of a folder's file `stat` under /proc; none where it has ended.
-pub fn process_at(path: &[u8]) -> Process {
-    let mut text = io::buffer();
-    let size = read_small(path, &mut text);
+pub fn process_at<R: Files<File = File>>(rt: &R, path: &[u8]) -> Process {
+    let mut text = [0u8; 4096];
+    let size = read_small(rt, path, &mut text);
     process_in(&text[..size])
 }
 

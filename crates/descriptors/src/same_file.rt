@@ -1,11 +1,13 @@
 // Whether a name leads to the very file that a descriptor has open.
 ghost use Rattle.std.specs.Prelude.{◌≡◌};
-ghost use Rattle.libc.specs.Io.{Status, Ended};
-ghost use Rattle.descriptors.specs.SameFile.{identity_of, equal_ids, same_file};
+ghost use Rattle.descriptors.specs.SameFile.{Status, identity_of, equal_ids, same_file};
 
-use base::put;
-use libc::PATH_MAX;
-use libc::types::{stat, timespec};
+use crate::Stream;
+use crate::named_files::{told_of, told_of_link};
+use std::fs::{File, Metadata};
+use std::io;
+use std::os::unix::fs::MetadataExt;
+use std::rt::Files;
 
 // A file's device and its number there.
 #[derive(Clone, Copy)]
@@ -15,52 +17,63 @@ pub struct FileId {
     pub number: u64,
 }
 
-// What a call answered, and what it filled in.
+// What the system tells of a file: its device, and its number there.
+#[derive(Clone, Copy)]
+pub struct Stat {
+    pub st_dev: u64,
+    pub st_ino: u64,
+}
+
+// What a call answered, 0 or -1, and what it told.
 #[derive(Clone, Copy)]
 pub struct Known {
     pub answer: i32,
-    pub stat: stat,
+    pub stat: Stat,
 }
 
-fn blank() -> stat {
-    let never = timespec {
-        tv_sec: 0,
-        tv_nsec: 0,
-    };
-    stat {
+fn blank() -> Stat {
+    Stat {
         st_dev: 0,
         st_ino: 0,
-        st_nlink: 0,
-        st_mode: 0,
-        st_uid: 0,
-        st_gid: 0,
-        __pad: 0,
-        st_rdev: 0,
-        st_size: 0,
-        st_blksize: 0,
-        st_blocks: 0,
-        st_atim: never,
-        st_mtim: never,
-        st_ctim: never,
-        __unused: [0i64; 3],
     }
 }
 
-// The borrow checker does not cover a reference to a struct: this function and the next are walked by hand, so they do nothing else.
-fn of_open(fd: i32, mut room: stat) -> Known
+// What was told, or -1 and the room as it was.
+fn filled(told: io::Result<Metadata>, room: Stat) -> Known
     ensures { Status result.answer }
 {
-    let answer = libc::fstat(fd, &mut room);
-    Known { answer, stat: room }
+    match told {
+        Ok(metadata) => Known {
+            answer: 0,
+            stat: Stat {
+                st_dev: metadata.dev(),
+                st_ino: metadata.ino(),
+            },
+        },
+        Err(_) => Known {
+            answer: -1,
+            stat: room,
+        },
+    }
+}
+
+// The library tells of a file that it has open, and of a standard stream by its name.
+fn of_open<R: Files<File = File>>(rt: &R, open: Stream<'_>, room: Stat) -> Known
+    ensures { Status result.answer }
+{
+    match open {
+        Stream::Input(_) => filled(told_of(rt, b"/proc/self/fd/0"), room),
+        Stream::Output(_) => filled(told_of(rt, b"/proc/self/fd/1"), room),
+        Stream::Error(_) => filled(told_of(rt, b"/proc/self/fd/2"), room),
+        Stream::File(file) => filled(file.metadata(), room),
+    }
 }
 
 // Of a link it tells of the link itself, as rename renames it.
-fn of_name(path: &[u8; PATH_MAX], mut room: stat) -> Known
-    requires { Ended path.now }
+fn of_name<R: Files<File = File>>(rt: &R, path: &[u8], room: Stat) -> Known
     ensures { Status result.answer }
 {
-    let answer = libc::lstat(path, &mut room);
-    Known { answer, stat: room }
+    filled(told_of_link(rt, path), room)
 }
 
 // The device and the number that a call told of; not good where it failed.
@@ -98,14 +111,11 @@ pub fn is_same(a: FileId, b: FileId) -> bool
     are_equal(a, b)
 }
 
-// Whether the name leads to the file that fd has open. While it is open its number is given to no other file.
-pub fn names(fd: i32, path: &[u8]) -> bool {
+// Whether the name leads to the file that is open. While it is open its number is given to no other file.
+pub fn names<R: Files<File = File>>(rt: &R, open: Stream<'_>, path: &[u8]) -> bool {
     if 4095 < path.len() {
         return false;
     }
-    let mut name = [0u8; PATH_MAX];
-    put(&mut name, 0, path);
-    name[4095] = 0;
-    let named = identity(of_name(&name, blank()));
-    is_same(identity(of_open(fd, blank())), named)
+    let named = identity(of_name(rt, path, blank()));
+    is_same(identity(of_open(rt, open, blank())), named)
 }

@@ -1,19 +1,19 @@
 // Small files of text, as the system keeps them under /proc: read whole, and numbers in them.
 ghost use Rattle.std.specs.Prelude.{◌≤◌, length};
-ghost use Rattle.io.specs.Counts.{IsPrefixLen};
+ghost use Rattle.descriptors.specs.Counts.{IsPrefixLen};
 
-use crate::read_whole;
+use crate::{Stream, open_read, read_whole};
+use std::fs::File;
+use std::rt::Files;
 
 // Reads a file into a place, and answers how many bytes came: 0 also where it cannot be read.
-pub fn read_small(path: &[u8], place: &mut [u8]) -> usize
+pub fn read_small<R: Files<File = File>>(rt: &R, path: &[u8], place: &mut [u8]) -> usize
     ensures { IsPrefixLen result place.new }
 {
-    let fd = os::open_read(path);
-    if fd < 0 {
+    let Ok(file) = open_read(rt, path) else {
         return 0;
-    }
-    let input = read_whole(fd, place);
-    libc::close(fd);
+    };
+    let input = read_whole(Stream::File(&file), place);
     input.size
 }
 

@@ -3,6 +3,10 @@ ghost use Rattle.std.specs.Prelude.{◌≡◌, ◌+◌, ◌≤◌, eqb, length};
 ghost use Rattle.base.specs.Choice.{pick};
 ghost use Rattle.files.specs.Folder.{folder_length};
 
+use descriptors::open_read;
+use std::fs::File;
+use std::rt::Files;
+
 // The place after a slash, or the place before.
 fn after_slash(byte: u8, at: usize, before: usize) -> usize
     ensures { result ≡ pick (eqb byte 47) at before }
@@ -26,21 +30,18 @@ fn folder_length(path: &[u8]) -> usize
     end
 }
 
-fn sync(folder: &[u8]) -> bool {
-    let fd = os::open_read(folder);
-    if fd < 0 {
+fn sync<R: Files<File = File>>(rt: &R, folder: &[u8]) -> bool {
+    let Ok(file) = open_read(rt, folder) else {
         return false;
-    }
-    let synced = libc::fsync(fd) == 0;
-    libc::close(fd);
-    synced
+    };
+    file.sync_all().is_ok()
 }
 
 // Waits until the disk has the names in the folder of a path.
-pub fn sync_folder(path: &[u8]) -> bool {
+pub fn sync_folder<R: Files<File = File>>(rt: &R, path: &[u8]) -> bool {
     let end = folder_length(path);
     if end == 0 {
-        return sync(b".");
+        return sync(rt, b".");
     }
-    sync(&path[..end])
+    sync(rt, &path[..end])
 }

@@ -1,5 +1,5 @@
 // Reports, proofs and checkpoints on the disk: each written under a temporary name, synced, and renamed only when it is whole. What cannot
-// be done is told by one line on a descriptor.
+// be done is told by one line on a stream.
 #![tactic(auto)]
 
 mod folder; // folder.rt: the folder of a file, synced

@@ -2,8 +2,14 @@
 // the name. A line is appended by one write, so of two that come at once one stands before the other, and both see the same order.
 use crate::names::{named, remove};
 use crate::part::empty_file;
-use descriptors::{Process, are_same, behind, follows, number_at, process_at, read_whole};
-use lines::{Line, add, add_number, complain, complain_of, empty, say};
+use descriptors::{
+    Process, Stream, are_same, behind, create, error_number, follows, number_at, open_append,
+    open_read, process_at, read_whole,
+};
+use lines::{Line, add, add_number, complain, complain_of, empty, write_line};
+use std::fs::File;
+use std::io;
+use std::rt::Files;
 
 // Held; held by another process; or not to be had.
 #[derive(Clone, Copy)]
@@ -17,21 +23,21 @@ fn stat_path(number: u64) -> Line {
     add(add_number(add(empty(), b"/proc/"), number), b"/stat")
 }
 
-fn process_by(text: &[u8], length: usize) -> Process {
+fn process_by<R: Files<File = File>>(rt: &R, text: &[u8], length: usize) -> Process {
     if text.len() < length {
         return Process {
             number: 0,
             start: 0,
         };
     }
-    process_at(&text[..length])
+    process_at(rt, &text[..length])
 }
 
 // Whether the process still works: one of its number and its start is there.
-fn works(process: Process) -> bool {
+fn works<R: Files<File = File>>(rt: &R, process: Process) -> bool {
     let path = stat_path(process.number);
     let text = path.text;
-    let there = process_by(&text, path.length);
+    let there = process_by(rt, &text, path.length);
     if there.number == 0 {
         return false;
     }
@@ -52,7 +58,7 @@ fn process_in(text: &[u8], at: usize) -> Process {
 }
 
 // Whether no process of an earlier line works. Each line has a byte at least, which bounds the turns.
-fn is_first(text: &[u8], own: Process) -> bool {
+fn is_first<R: Files<File = File>>(rt: &R, text: &[u8], own: Process) -> bool {
     let mut at: usize = 0;
     let mut turns = text.len();
     while 0 < turns {
@@ -63,7 +69,7 @@ fn is_first(text: &[u8], own: Process) -> bool {
         if are_same(process, own) {
             return true;
         }
-        if works(process) {
+        if works(rt, process) {
             return false;
         }
         at = behind(text, b'\n', at);
@@ -72,16 +78,15 @@ fn is_first(text: &[u8], own: Process) -> bool {
     false
 }
 
-fn reads_first(path: &[u8], own: Process) -> bool {
-    let fd = os::open_read(path);
-    if fd < 0 {
+fn reads_first<R: Files<File = File>>(rt: &R, path: &[u8], own: Process) -> bool {
+    let Ok(file) = open_read(rt, path) else {
         return false;
-    }
+    };
     let mut place = empty_file();
-    let input = read_whole(fd, &mut place);
-    libc::close(fd);
+    let input = read_whole(Stream::File(&file), &mut place);
+    drop(file);
     let size = input.size;
-    is_first(&place[..size], own)
+    is_first(rt, &place[..size], own)
 }
 
 // Whether a byte stands in a lock: a digit, a blank, a line feed, or a zero that a power cut left.
@@ -113,39 +118,39 @@ fn are_of_lock(bytes: &[u8]) -> bool {
 }
 
 // Whether no file is there, or a lock.
-fn is_lock(path: &[u8]) -> bool {
-    let fd = os::open_read(path);
-    if fd < 0 {
+fn is_lock<R: Files<File = File>>(rt: &R, path: &[u8]) -> bool {
+    let Ok(file) = open_read(rt, path) else {
         return true;
-    }
+    };
     let mut place = empty_file();
-    let input = read_whole(fd, &mut place);
-    let more = follows(fd);
-    libc::close(fd);
-    if more != 0 {
+    let input = read_whole(Stream::File(&file), &mut place);
+    let Ok(false) = follows(Stream::File(&file)) else {
         return false;
-    }
+    };
     let size = input.size;
     are_of_lock(&place[..size])
 }
 
 // The file for this process's line. It is made where it is missing.
-fn open_lock(path: &[u8]) -> i32 {
-    let made = os::create(path);
-    if 0 <= made {
-        libc::close(made);
-    }
-    os::open_append(path)
+fn open_lock<R: Files<File = File>>(rt: &R, path: &[u8]) -> io::Result<File> {
+    let _ = create(rt, path);
+    open_append(rt, path)
 }
 
 // The line stands in the file that has the name: it was not removed meanwhile by the process that held it.
-fn hold_by(fd: i32, path: &[u8], own: Process, err: i32) -> Holding {
-    if !say(fd, process_line(own)) {
-        complain_of(err, path, os::errno());
+fn hold_by<R: Files<File = File>>(
+    rt: &R,
+    file: &File,
+    path: &[u8],
+    own: Process,
+    err: Stream<'_>,
+) -> Holding {
+    if let Err(why) = write_line(Stream::File(file), process_line(own)) {
+        complain_of(err, path, error_number(why));
         return Holding::Failed;
     }
-    if reads_first(path, own) {
-        if descriptors::names(fd, path) {
+    if reads_first(rt, path, own) {
+        if descriptors::names(rt, Stream::File(file), path) {
             return Holding::Held;
         }
     }
@@ -153,8 +158,8 @@ fn hold_by(fd: i32, path: &[u8], own: Process, err: i32) -> Holding {
     Holding::Busy
 }
 
-fn hold_at(path: &[u8], err: i32) -> Holding {
-    let own = process_at(b"/proc/self/stat");
+fn hold_at<R: Files<File = File>>(rt: &R, path: &[u8], err: Stream<'_>) -> Holding {
+    let own = process_at(rt, b"/proc/self/stat");
     if own.number == 0 {
         complain(
             err,
@@ -163,7 +168,7 @@ fn hold_at(path: &[u8], err: i32) -> Holding {
         );
         return Holding::Failed;
     }
-    if !is_lock(path) {
+    if !is_lock(rt, path) {
         complain(
             err,
             path,
@@ -171,25 +176,24 @@ fn hold_at(path: &[u8], err: i32) -> Holding {
         );
         return Holding::Failed;
     }
-    let fd = open_lock(path);
-    if fd < 0 {
-        complain_of(err, path, os::errno());
-        return Holding::Failed;
+    match open_lock(rt, path) {
+        Ok(file) => hold_by(rt, &file, path, own, err),
+        Err(why) => {
+            complain_of(err, path, error_number(why));
+            Holding::Failed
+        }
     }
-    let hold = hold_by(fd, path, own, err);
-    libc::close(fd);
-    hold
 }
 
 // Takes the name for this process, or tells why not.
-pub fn hold(proof: &[u8], err: i32) -> Holding {
+pub fn hold<R: Files<File = File>>(rt: &R, proof: &[u8], err: Stream<'_>) -> Holding {
     let name = named(proof, b".lock");
     let text = name.text;
     let length = name.length;
-    hold_at(&text[..length], err)
+    hold_at(rt, &text[..length], err)
 }
 
 // Gives the name back.
-pub fn release(proof: &[u8]) {
-    remove(proof, b".lock")
+pub fn release<R: Files<File = File>>(rt: &R, proof: &[u8]) {
+    remove(rt, proof, b".lock")
 }

@@ -1,7 +1,9 @@
 // The names of the files beside a proof: its own name with an ending.
-ghost use Rattle.io.specs.Counts.{IsPrefixLen};
+ghost use Rattle.descriptors.specs.Counts.{IsPrefixLen};
 
 use base::put;
+use std::fs::File;
+use std::rt::Files;
 
 // A path: the first `length` bytes of its text.
 #[derive(Clone, Copy)]
@@ -14,7 +16,7 @@ pub struct Name {
 pub fn named(proof: &[u8], ending: &[u8]) -> Name
     ensures { IsPrefixLen result.length result.text }
 {
-    let mut text = io::buffer();
+    let mut text = [0u8; 4096];
     let at = proof.len();
     if 4000 < ending.len() {
         return Name { text, length: 0 };
@@ -31,9 +33,9 @@ pub fn named(proof: &[u8], ending: &[u8]) -> Name
 }
 
 // Removes the file of that name and ending, if it is there.
-pub fn remove(proof: &[u8], ending: &[u8]) {
+pub fn remove<R: Files<File = File>>(rt: &R, proof: &[u8], ending: &[u8]) {
     let name = named(proof, ending);
     let text = name.text;
     let length = name.length;
-    os::unlink(&text[..length]);
+    let _ = descriptors::remove(rt, &text[..length]);
 }

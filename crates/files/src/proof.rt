@@ -1,8 +1,10 @@
 // A proof file in memory.
-ghost use Rattle.io.specs.Counts.{IsPrefixLen};
+ghost use Rattle.descriptors.specs.Counts.{IsPrefixLen};
 
-use descriptors::{follows, read_whole};
+use descriptors::{Stream, error_number, follows, open_read, read_whole};
 use lines::{complain, complain_of};
+use std::fs::File;
+use std::rt::Files;
 
 // Whether a proof could be read, and how many bytes it has.
 #[derive(Clone, Copy)]
@@ -12,40 +14,49 @@ pub struct Loaded {
 }
 
 // Complains of a read that failed and of what follows, and answers whether all is well.
-fn ends_well(failed: bool, fd: i32, path: &[u8], err: i32) -> bool {
+fn ends_well(failed: bool, error: i32, open: Stream<'_>, path: &[u8], err: Stream<'_>) -> bool {
     if failed {
-        complain_of(err, path, os::errno());
+        complain_of(err, path, error);
         return false;
     }
-    let more = follows(fd);
-    if more == 2 {
-        complain_of(err, path, os::errno());
-        return false;
+    match follows(open) {
+        Err(why) => {
+            complain_of(err, path, error_number(why));
+            false
+        }
+        Ok(true) => {
+            complain(err, path, b"larger than any proof can be (262468 bytes)");
+            false
+        }
+        Ok(false) => true,
     }
-    if more == 1 {
-        complain(err, path, b"larger than any proof can be (262468 bytes)");
-        return false;
-    }
-    true
 }
 
 // Reads a proof file whole into a place that holds any proof.
-pub fn load_proof(path: &[u8], place: &mut [u8], err: i32) -> Loaded
+pub fn load_proof<R: Files<File = File>>(
+    rt: &R,
+    path: &[u8],
+    place: &mut [u8],
+    err: Stream<'_>,
+) -> Loaded
     ensures { IsPrefixLen result.size place.new }
 {
-    let fd = os::open_read(path);
-    if fd < 0 {
-        complain_of(err, path, os::errno());
-        return Loaded {
-            good: false,
-            size: 0,
-        };
-    }
-    let input = read_whole(fd, place);
-    let good = ends_well(input.failed, fd, path, err);
-    libc::close(fd);
-    Loaded {
-        good,
-        size: input.size,
+    match open_read(rt, path) {
+        Err(why) => {
+            complain_of(err, path, error_number(why));
+            Loaded {
+                good: false,
+                size: 0,
+            }
+        }
+        Ok(file) => {
+            let open = Stream::File(&file);
+            let input = read_whole(open, place);
+            let good = ends_well(input.failed, input.error, open, path, err);
+            Loaded {
+                good,
+                size: input.size,
+            }
+        }
     }
 }

@@ -9,9 +9,12 @@ ghost use Rattle.files.specs.Reads.{is_done};
 use crate::names::named;
 use crate::part::are_same;
 use base::Outcome;
-use descriptors::read_once;
+use descriptors::{Stream, error_number, open_read, read_once};
 use lines::{complain, complain_of};
 use sha256::Hash;
+use std::fs::File;
+use std::io;
+use std::rt::Files;
 
 // Whether the report could be read, how many bytes it has, and its statement.
 #[derive(Clone, Copy)]
@@ -21,29 +24,31 @@ pub struct Stated {
     pub statement: [u8; 32],
 }
 
-// How many bytes a read gave, whether it failed, and the hash with them.
+// How many bytes a read gave, whether it failed and by which error, and the hash with them.
 #[derive(Clone, Copy)]
 pub struct Portion {
     pub size: usize,
     pub failed: bool,
+    pub error: i32,
     pub outcome: Outcome,
     pub hash: Hash,
 }
 
-// Whether all was hashed, how many bytes the last read gave, and the hash.
+// Whether all was hashed, how many bytes the last read gave, the number of its error, and the hash.
 #[derive(Clone, Copy)]
 pub struct Hashed {
     pub good: bool,
     pub last: usize,
+    pub error: i32,
     pub hash: Hash,
 }
 
 // Reads once and hashes what came.
-fn take_portion(fd: i32, hash: Hash, space: &mut [u8]) -> Portion
+fn take_portion(from: Stream<'_>, hash: Hash, space: &mut [u8]) -> Portion
     ensures outcome_value { outcome_number result.outcome ≡ update_row hash (take result.size space.new) }
     ensures hash_value { result.hash ≡ update_state hash (take result.size space.new) }
 {
-    let given = read_once(fd, space);
+    let given = read_once(from, space);
     let size = given.size;
     let updated = hash.update(&space[..size]);
     let outcome = updated.outcome;
@@ -51,6 +56,7 @@ fn take_portion(fd: i32, hash: Hash, space: &mut [u8]) -> Portion
     Portion {
         size,
         failed: given.failed,
+        error: given.error,
         outcome,
         hash: next,
     }
@@ -80,27 +86,34 @@ fn is_all(size: usize, failed: bool) -> bool
 }
 
 // Hashes until a read gives nothing, in at most 2^64 − 1 portions; good only if that read found the end.
-fn take_all(fd: i32) -> Hashed
+fn take_all(from: Stream<'_>) -> Hashed
     ensures { result.good ≡ true → result.last ≡ 0 }
 {
-    let mut space = io::large_buffer();
+    let mut space = [0u8; 65536];
     let mut hash = Hash::new();
     let mut turns = u64::MAX;
     while 0 < turns {
-        let portion = take_portion(fd, hash, &mut space);
+        let portion = take_portion(from, hash, &mut space);
         let next = portion.hash;
         let last = portion.size;
         hash = next;
         let outcome = portion.outcome;
         if !goes_on(last, outcome) {
             let good = is_all(last, portion.failed);
-            return Hashed { good, last, hash };
+            let error = portion.error;
+            return Hashed {
+                good,
+                last,
+                error,
+                hash,
+            };
         }
         turns -= 1;
     }
     Hashed {
         good: false,
         last: 0,
+        error: 0,
         hash,
     }
 }
@@ -134,77 +147,93 @@ fn state(hash: Hash) -> Stated
     }
 }
 
-// A report open for reading: `-` is standard input.
-fn open_report(path: &[u8]) -> i32 {
+// A report open for reading; none is opened for `-`, which is standard input.
+fn open_report<R: Files<File = File>>(rt: &R, path: &[u8]) -> io::Result<Option<File>> {
     if is_input(path) {
-        return libc::STDIN_FILENO;
+        return Ok(None);
     }
-    os::open_read(path)
+    Ok(Some(open_read(rt, path)?))
 }
 
-fn close_report(fd: i32, path: &[u8]) {
-    if !is_input(path) {
-        libc::close(fd);
+// The stream that a report is read from.
+fn stream_of<'a>(opened: &'a Option<File>, input: Stream<'a>) -> Stream<'a> {
+    match opened {
+        Some(file) => Stream::File(file),
+        None => input,
     }
 }
 
 // Whether an open file is one of those that a seal writes beside its proof.
-fn is_beside(fd: i32, proof: &[u8], ending: &[u8]) -> bool {
+fn is_beside<R: Files<File = File>>(rt: &R, open: Stream<'_>, proof: &[u8], ending: &[u8]) -> bool {
     let name = named(proof, ending);
     let text = name.text;
     let length = name.length;
-    descriptors::names(fd, &text[..length])
+    descriptors::names(rt, open, &text[..length])
 }
 
-fn is_own(fd: i32, proof: &[u8]) -> bool {
-    if is_beside(fd, proof, b".part") {
+fn is_own<R: Files<File = File>>(rt: &R, open: Stream<'_>, proof: &[u8]) -> bool {
+    if is_beside(rt, open, proof, b".part") {
         return true;
     }
-    if is_beside(fd, proof, b".run") {
+    if is_beside(rt, open, proof, b".run") {
         return true;
     }
-    if is_beside(fd, proof, b".new") {
+    if is_beside(rt, open, proof, b".new") {
         return true;
     }
-    if is_beside(fd, proof, b".lock") {
+    if is_beside(rt, open, proof, b".lock") {
         return true;
     }
-    is_beside(fd, proof, b".kept")
+    is_beside(rt, open, proof, b".kept")
 }
 
-// Whether the report is no file that a seal of this proof writes; by whatever name it is reached.
-pub fn is_apart(path: &[u8], proof: &[u8], err: i32) -> bool {
-    let fd = open_report(path);
-    if fd < 0 {
-        complain_of(err, path, os::errno());
-        return false;
+// Whether the report is no file that a seal of this proof writes; by whatever name it is reached. `input` is standard input.
+pub fn is_apart<R: Files<File = File>>(
+    rt: &R,
+    path: &[u8],
+    proof: &[u8],
+    input: Stream<'_>,
+    err: Stream<'_>,
+) -> bool {
+    match open_report(rt, path) {
+        Err(why) => {
+            complain_of(err, path, error_number(why));
+            false
+        }
+        Ok(opened) => {
+            let own = is_own(rt, stream_of(&opened, input), proof);
+            if own {
+                complain(
+                    err,
+                    path,
+                    b"the report is a file that sealing this proof writes; give the proof another name",
+                );
+            }
+            !own
+        }
     }
-    let own = is_own(fd, proof);
-    close_report(fd, path);
-    if own {
-        complain(
-            err,
-            path,
-            b"the report is a file that sealing this proof writes; give the proof another name",
-        );
-    }
-    !own
 }
 
-// The statement of a report, hashed in portions.
-pub fn state_report(path: &[u8], err: i32) -> Stated {
-    let fd = open_report(path);
-    if fd < 0 {
-        complain_of(err, path, os::errno());
-        return not_stated();
+// The statement of a report, hashed in portions. `input` is standard input.
+pub fn state_report<R: Files<File = File>>(
+    rt: &R,
+    path: &[u8],
+    input: Stream<'_>,
+    err: Stream<'_>,
+) -> Stated {
+    match open_report(rt, path) {
+        Err(why) => {
+            complain_of(err, path, error_number(why));
+            not_stated()
+        }
+        Ok(opened) => {
+            let hashed = take_all(stream_of(&opened, input));
+            if !hashed.good {
+                complain_of(err, path, hashed.error);
+                return not_stated();
+            }
+            let hash = hashed.hash;
+            state(hash)
+        }
     }
-    let hashed = take_all(fd);
-    if !hashed.good {
-        complain_of(err, path, os::errno());
-        close_report(fd, path);
-        return not_stated();
-    }
-    close_report(fd, path);
-    let hash = hashed.hash;
-    state(hash)
 }

@@ -2,8 +2,14 @@
 use crate::folder::sync_folder;
 use crate::names::{named, remove};
 use crate::part::{is_blank, is_left_over, look};
-use descriptors::{read_once, read_whole};
+use descriptors::{
+    Stream, error_number, open_append, open_overwrite, open_read, read_once, read_whole, rename,
+    write_all,
+};
 use lines::{Line, complain, complain_line, complain_of};
+use std::fs::File;
+use std::io;
+use std::rt::Files;
 
 // What is there of a checkpoint: none, its bytes, or something that cannot be read.
 #[derive(Clone, Copy)]
@@ -14,11 +20,11 @@ pub enum There {
 }
 
 // Whether the rest of an open file has no byte but zeros, in at most so many reads as any checkpoint takes.
-fn rest_is_blank(fd: i32) -> bool {
+fn rest_is_blank(open: Stream<'_>) -> bool {
     let mut turns: u64 = 1000000;
     while 0 < turns {
-        let mut place = io::buffer();
-        let given = read_once(fd, &mut place);
+        let mut place = [0u8; 4096];
+        let given = read_once(open, &mut place);
         let size = given.size;
         if size == 0 {
             return !given.failed;
@@ -31,145 +37,174 @@ fn rest_is_blank(fd: i32) -> bool {
     false
 }
 
-fn is_open_ours(fd: i32, mark: &[u8]) -> bool {
-    let mut place = io::buffer();
-    let input = read_whole(fd, &mut place);
+fn is_open_ours(open: Stream<'_>, mark: &[u8]) -> bool {
+    let mut place = [0u8; 4096];
+    let input = read_whole(open, &mut place);
     let size = input.size;
     if is_blank(&place[..size]) {
-        return rest_is_blank(fd);
+        return rest_is_blank(open);
     }
     is_left_over(&place[..size], mark)
 }
 
 // Whether PROOF.new is free, or left by a killed run: blank, or with the mark of a checkpoint.
-fn is_new_ours(path: &[u8], mark: &[u8], err: i32) -> bool {
-    if look(path) == 0 {
+fn is_new_ours<R: Files<File = File>>(rt: &R, path: &[u8], mark: &[u8], err: Stream<'_>) -> bool {
+    if let Ok(false) = look(rt, path) {
         return true;
     }
-    let fd = os::open_read(path);
-    if fd < 0 {
-        complain_of(err, path, os::errno());
-        return false;
+    match open_read(rt, path) {
+        Err(why) => {
+            complain_of(err, path, error_number(why));
+            false
+        }
+        Ok(file) => {
+            let ours = is_open_ours(Stream::File(&file), mark);
+            if !ours {
+                complain(
+                    err,
+                    path,
+                    b"there already, and no checkpoint; it is not overwritten",
+                );
+            }
+            ours
+        }
     }
-    let ours = is_open_ours(fd, mark);
-    libc::close(fd);
-    if ours {
-        return true;
-    }
-    complain(
-        err,
-        path,
-        b"there already, and no checkpoint; it is not overwritten",
-    );
-    false
 }
 
 // Whether checkpoints can be written beside this proof.
-pub fn may_save(proof: &[u8], mark: &[u8], err: i32) -> bool {
+pub fn may_save<R: Files<File = File>>(rt: &R, proof: &[u8], mark: &[u8], err: Stream<'_>) -> bool {
     let name = named(proof, b".new");
     let text = name.text;
     let length = name.length;
-    is_new_ours(&text[..length], mark, err)
+    is_new_ours(rt, &text[..length], mark, err)
 }
 
 // A file with these bytes, on the disk.
-fn write_new(path: &[u8], bytes: &[u8], openings: &[u8]) -> bool {
-    let fd = os::open_overwrite(path);
-    if fd < 0 {
-        return false;
-    }
-    let mut written = io::write_all(fd, bytes);
-    if written {
-        written = io::write_all(fd, openings);
-    }
-    if written {
-        written = libc::fsync(fd) == 0;
-    }
-    libc::close(fd);
-    written
+fn write_new<R: Files<File = File>>(
+    rt: &R,
+    path: &[u8],
+    bytes: &[u8],
+    openings: &[u8],
+) -> io::Result<()> {
+    let file = open_overwrite(rt, path)?;
+    write_all(Stream::File(&file), bytes)?;
+    write_all(Stream::File(&file), openings)?;
+    file.sync_all()
 }
 
-fn save_as(new: &[u8], run: &[u8], bytes: &[u8], openings: &[u8], err: i32) -> bool {
-    if !write_new(new, bytes, openings) {
-        complain_of(err, new, os::errno());
-        os::unlink(new);
+fn save_as<R: Files<File = File>>(
+    rt: &R,
+    new: &[u8],
+    run: &[u8],
+    bytes: &[u8],
+    openings: &[u8],
+    err: Stream<'_>,
+) -> bool {
+    if let Err(why) = write_new(rt, new, bytes, openings) {
+        complain_of(err, new, error_number(why));
+        let _ = descriptors::remove(rt, new);
         return false;
     }
-    if os::rename(new, run) != 0 {
-        complain_of(err, run, os::errno());
+    if let Err(why) = rename(rt, new, run) {
+        complain_of(err, run, error_number(why));
         return false;
     }
-    sync_folder(run)
+    sync_folder(rt, run)
 }
 
 // A checkpoint and the openings that are finished, in place of the one before.
-pub fn save(proof: &[u8], bytes: &[u8], openings: &[u8], err: i32) -> bool {
+pub fn save<R: Files<File = File>>(
+    rt: &R,
+    proof: &[u8],
+    bytes: &[u8],
+    openings: &[u8],
+    err: Stream<'_>,
+) -> bool {
     let new = named(proof, b".new");
     let run = named(proof, b".run");
     let from = new.text;
     let from_length = new.length;
     let to = run.text;
     let to_length = run.length;
-    save_as(&from[..from_length], &to[..to_length], bytes, openings, err)
+    save_as(
+        rt,
+        &from[..from_length],
+        &to[..to_length],
+        bytes,
+        openings,
+        err,
+    )
 }
 
-fn append(path: &[u8], bytes: &[u8], sync: bool) -> bool {
-    let fd = os::open_append(path);
-    if fd < 0 {
+fn append<R: Files<File = File>>(rt: &R, path: &[u8], bytes: &[u8], sync: bool) -> bool {
+    let Ok(file) = open_append(rt, path) else {
         return false;
+    };
+    let written = write_all(Stream::File(&file), bytes).is_ok();
+    if !sync {
+        return written;
     }
-    let mut written = io::write_all(fd, bytes);
-    if sync {
-        if libc::fsync(fd) != 0 {
-            written = false;
-        }
-    }
-    libc::close(fd);
-    written
+    let synced = file.sync_all().is_ok();
+    written && synced
 }
 
 // One opening more behind the checkpoint.
-pub fn save_opening(proof: &[u8], opening: &[u8], sync: bool) -> bool {
+pub fn save_opening<R: Files<File = File>>(
+    rt: &R,
+    proof: &[u8],
+    opening: &[u8],
+    sync: bool,
+) -> bool {
     let name = named(proof, b".run");
     let text = name.text;
     let length = name.length;
-    append(&text[..length], opening, sync)
+    append(rt, &text[..length], opening, sync)
 }
 
-fn load_at(path: &[u8], place: &mut [u8], err: i32) -> There {
-    if look(path) == 0 {
-        return There::Nothing;
-    }
-    let fd = os::open_read(path);
-    if fd < 0 {
-        complain_of(err, path, os::errno());
-        return There::Unread;
-    }
-    let input = read_whole(fd, place);
-    libc::close(fd);
+// The bytes of a checkpoint that is there.
+fn load_file(file: &File, path: &[u8], place: &mut [u8], err: Stream<'_>) -> There {
+    let input = read_whole(Stream::File(file), place);
     if input.failed {
-        complain_of(err, path, os::errno());
+        complain_of(err, path, input.error);
         return There::Unread;
     }
     There::Bytes(input.size)
 }
 
+fn load_at<R: Files<File = File>>(rt: &R, path: &[u8], place: &mut [u8], err: Stream<'_>) -> There {
+    if let Ok(false) = look(rt, path) {
+        return There::Nothing;
+    }
+    match open_read(rt, path) {
+        Ok(file) => load_file(&file, path, place, err),
+        Err(why) => {
+            complain_of(err, path, error_number(why));
+            There::Unread
+        }
+    }
+}
+
 // Reads PROOF.run into a place that holds any checkpoint. What stands behind so many bytes is none of it.
-pub fn load_run(proof: &[u8], place: &mut [u8], err: i32) -> There {
+pub fn load_run<R: Files<File = File>>(
+    rt: &R,
+    proof: &[u8],
+    place: &mut [u8],
+    err: Stream<'_>,
+) -> There {
     let name = named(proof, b".run");
     let text = name.text;
     let length = name.length;
-    load_at(&text[..length], place, err)
+    load_at(rt, &text[..length], place, err)
 }
 
 // Removes the checkpoint, when the proof stands under its name.
-pub fn remove_run(proof: &[u8]) {
-    remove(proof, b".run");
-    remove(proof, b".new")
+pub fn remove_run<R: Files<File = File>>(rt: &R, proof: &[u8]) {
+    remove(rt, proof, b".run");
+    remove(rt, proof, b".new")
 }
 
 // A line on PROOF.run.
-pub fn say_of_run(proof: &[u8], what: Line, err: i32) {
+pub fn say_of_run(proof: &[u8], what: Line, err: Stream<'_>) {
     let name = named(proof, b".run");
     let text = name.text;
     let length = name.length;

@@ -2,7 +2,7 @@
 use Rattle.std.specs.Prelude.{ℕ, ◌+◌, ◌/◌, ◌%◌, Bool, List, [], ◌∷◌, ◌++◌, ltb, leb, eqb, length, take}
 use Rattle.base.specs.Choice.{pick}
 use Rattle.base.specs.Row.{either}
-use Rattle.io.specs.Digits.{hex_digit_ascii}
+use Rattle.lines.specs.Digits.{hex_digit_ascii}
 use Rattle.lines.specs.declared.Line.{Line}
 
 abbrev pub room : ℕ

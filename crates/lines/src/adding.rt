@@ -2,7 +2,7 @@
 ghost use Rattle.std.specs.Prelude.{◌≡◌, [], ◌∷◌, ◌<◌};
 ghost use Rattle.decimal.specs.Text.{decimal};
 ghost use Rattle.lines.specs.Line.{line_of, added, hex_byte, added_hex, is_control, added_byte, added_name};
-ghost use Rattle.io.specs.Digits.{hex_digit_ascii};
+ghost use Rattle.lines.specs.Digits.{hex_digit_ascii};
 
 use crate::Line;
 use base::put;

@@ -5,14 +5,15 @@
 mod due; // due.rt: when a checkpoint is due
 mod telling; // telling.rt: what is told, and when
 
+use descriptors::Stream;
 pub use due::{appended, is_due, is_due_after_labels, is_due_at_end, is_sync_due, saved};
 pub use telling::{begin, finish, tick};
 
 // Times are in milliseconds. `made` labels of `all` are made, `first` of them before this process began. `ended` says that the checkpoint on
 // the disk is of the finished run, so that openings go behind it.
 #[derive(Clone, Copy)]
-pub struct Progress {
-    pub err: i32,
+pub struct Progress<'a> {
+    pub err: Stream<'a>,
     pub terminal: bool,
     pub depth: u64,
     pub all: u64,
