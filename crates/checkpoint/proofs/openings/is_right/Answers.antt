@@ -38,7 +38,7 @@ ends-at-after-right-arg-1 : (c : goal.After-right-arg-1) → let a = c.args in
 ends-at-after-right-arg-1 c = let a = c.args in (opening-end a.depth a.i c.requires.2, openings-small a.depth a.i c.requires.1 c.requires.3)
 
 there : (c : goal.After-right-arg-1) → let a = c.args in a.i * opening_size a.depth ≤ length a.bytes.now
-there c = omega (arith, (ends-at-after-right-arg-1 c).0, c.if-bytes-end.false)
+there c = omega (arith, (ends-at-after-right-arg-1 c).0)
 
 pub right-outcome-requires : goal.right-outcome-requires
 right-outcome-requires c =
@@ -56,7 +56,7 @@ ends-at-in-done : (c : goal.In-Done) → let a = c.args in
 ends-at-in-done c = let a = c.args in (opening-end a.depth a.i c.requires.2, openings-small a.depth a.i c.requires.1 c.requires.3)
 
 there-at-in-done : (c : goal.In-Done) → let a = c.args in a.i * opening_size a.depth ≤ length a.bytes.now
-there-at-in-done c = omega (arith, (ends-at-in-done c).0, c.if-bytes-end.false)
+there-at-in-done c = omega (arith, (ends-at-in-done c).0)
 
 pub returns-in-Done : goal.returns-in-Done
 returns-in-Done c =
@@ -69,7 +69,7 @@ ends-at-in-refused : (c : goal.In-Refused) → let a = c.args in
 ends-at-in-refused c = let a = c.args in (opening-end a.depth a.i c.requires.2, openings-small a.depth a.i c.requires.1 c.requires.3)
 
 there-at-in-refused : (c : goal.In-Refused) → let a = c.args in a.i * opening_size a.depth ≤ length a.bytes.now
-there-at-in-refused c = omega (arith, (ends-at-in-refused c).0, c.if-bytes-end.false)
+there-at-in-refused c = omega (arith, (ends-at-in-refused c).0)
 
 pub returns-in-Refused : goal.returns-in-Refused
 returns-in-Refused c =
