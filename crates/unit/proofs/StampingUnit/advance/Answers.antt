@@ -4,7 +4,6 @@ use mathlib.Core.Path.{◌≡◌, refl, ap, ◌∙◌}
 use mathlib.Core.Logic.{inl}
 use Prim.Native.Nat.{min}
 use native.Mathlib.Omega.{arith}
-use borrow.Author.Rules.{rules}
 use lib.ListN.{length}
 use Rattle.base.proofs.RowLaws.{is-done, is-refused}
 use Rattle.unit.specs.Rows.{unit_row}
@@ -16,7 +15,7 @@ done c = is-done _ _ c.plan_runs-plan.ensures.outcome_value c.in-Done.is
 
 pub label_turns-done-requires : goal.label_turns-done-requires
 label_turns-done-requires c =
-    let (planned, whole) = c.plan_runs-plan.ensures.planned (done c) in 
+    let (planned, whole) = c.plan_runs-plan.ensures.planned (done c) in
     record {
       store_value = (done c, planned);
       labels_bound = omega (arith, c.smaller-labels.ensures, whole);
@@ -31,7 +30,7 @@ returns-in-Done c =
     let e = c.label_turns-done.ensures in
     let k =
     c.smaller-labels.ensures ∙ ap (min a.budget) (c.plan_runs-plan.ensures.planned (done-at-after-unit-1 c)).1
-    ∙ labels-done a.self a.store.now a.budget (done-at-after-unit-1 c) in 
+    ∙ labels-done a.self a.store.now a.budget (done-at-after-unit-1 c) in
     record {
       outcome_value = c.plan_runs-plan.ensures.outcome_value;
       labels_value = k;
@@ -44,7 +43,7 @@ pub returns-in-Refused : goal.returns-in-Refused
 returns-in-Refused c =
     let a = c.args in
     let row = c.plan_runs-plan.ensures.outcome_value in
-    let z = labels-refused a.self a.store.now a.budget (is-refused _ _ _ row c.in-Refused.is) in 
+    let z = labels-refused a.self a.store.now a.budget (is-refused _ _ _ row c.in-Refused.is) in
     record {
       outcome_value = row;
       labels_value = z;

@@ -4,7 +4,6 @@ use mathlib.Core.Path.{◌≡◌, refl, sym, ◌∙◌}
 use mathlib.Core.Logic.{inr}
 use Prim.Native.Nat.{◌-◌, ◌≤◌, ◌<◌}
 use native.Mathlib.Omega.{arith}
-use borrow.Author.Rules.{rules}
 use lib.ListN.{length}
 use Rattle.base.specs.Limits.{max_runs}
 use Rattle.base.proofs.RowLaws.{is-done, is-refused}
@@ -56,7 +55,7 @@ some c =
 pub returns-in-Done : goal.returns-in-Done
 returns-in-Done c =
     let a = c.args in
-    let (planned, _) = c.plan_runs-plan.ensures.planned (done-at-after-store_size c) in 
+    let (planned, _) = c.plan_runs-plan.ensures.planned (done-at-after-store_size c) in
     record {
       offset_value = planned.begins a.i (some c) (omega arith) ∙ sym (place-offset a.self (length a.store.now) a.i (done-at-after-store_size c));
       length_value = c.store_size.ensures ∙ sym (place-length a.self (length a.store.now) a.i (done-at-after-store_size c));
@@ -66,7 +65,7 @@ pub returns-in-Refused : goal.returns-in-Refused
 returns-in-Refused c =
     let a = c.args in
     let (offset, size) =
-    no_place a.self (length a.store.now) a.i (is-refused _ _ _ c.plan_runs-plan.ensures.outcome_value c.in-Refused.is) in 
+    no_place a.self (length a.store.now) a.i (is-refused _ _ _ c.plan_runs-plan.ensures.outcome_value c.in-Refused.is) in
     record {
       offset_value = sym offset;
       length_value = sym size;

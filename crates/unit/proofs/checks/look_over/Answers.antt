@@ -1,5 +1,5 @@
 use mathlib.Core.Path.{◌≡◌, ◌∙◌}
-use Prim.Native.Nat.{◌-◌, ◌≤◌}
+use Prim.Native.Nat.{◌-◌}
 use native.Mathlib.Omega.{arith}
 use borrow.Author.Rules.{rules}
 use lib.ListN.{get_or}
@@ -8,7 +8,7 @@ use Rattle.run.specs.Rows.{continue_row}
 use Rattle.run.proofs.RowLaws.{may-go-on}
 use Rattle.run.proofs.StepLaws.{small-nodes}
 use Rattle.unit.specs.Runs.{outside_run}
-use Rattle.unit.proofs.PlanLaws.{refused-some, LookedOver, none_yet, all-looked, stops, goes_on}
+use Rattle.unit.proofs.PlanLaws.{refused-some, none_yet, all-looked, stops, goes_on}
 use Rattle.unit.proofs.checks.look_over.Goals as goal
 
 pub loop-more-init : goal.loop-more-init
@@ -74,7 +74,9 @@ pub overflow_add-all : goal.overflow_add-all
 overflow_add-all c =
     omega (
       arith,
-      c.requires, c.loop-more.invariant.0, c.loop-more-test.true,
+      c.requires,
+      c.loop-more.invariant.0,
+      c.loop-more-test.true,
       c.loop-more.invariant.1.small,
       c.nodes.ensures,
       small-nodes _ (may-go-on _ _ (done-at-after-store_size c)).possible.depth,
@@ -96,7 +98,7 @@ returns-in-Refused c =
     let e = c.may_continue-outcome.ensures in
     let row =
     e ∙ stops a.unit.runs a.end a.store _ _ _ _ (a.end - l.more) l.invariant.1 (omega (arith, l.invariant.0, c.loop-more-test.true))
-    (is-refused _ _ _ e c.in-Refused.is) in 
+    (is-refused _ _ _ e c.in-Refused.is) in
     record {
       outcome_value = row;
       planned = λ none. absurd (refused-some _ _ _ row c.in-Refused.is none);
@@ -107,7 +109,7 @@ returns c =
     let l = c.loop-more in
     let a = c.args in
     let (row, planned, whole) =
-    all-looked a.unit.runs a.end a.store _ _ _ _ (a.end - l.more) l.invariant.1 (omega (arith, c.loop-more-test.false)) in 
+    all-looked a.unit.runs a.end a.store _ _ _ _ (a.end - l.more) l.invariant.1 (omega (arith, c.loop-more-test.false)) in
     record {
       outcome_value = row;
       planned = λ e. (planned, whole);

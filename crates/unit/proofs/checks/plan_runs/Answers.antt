@@ -3,7 +3,6 @@ use mathlib.Core.Path.{◌≡◌, sym, ◌∙◌}
 use mathlib.Core.Logic.{⊎_elim}
 use Prim.Native.Nat.{◌≤◌}
 use native.Mathlib.Omega.{arith}
-use borrow.Author.Rules.{rules}
 use Rattle.base.specs.Limits.{max_runs}
 use Rattle.base.proofs.Ranges.{range-of}
 use Rattle.unit.proofs.RowLaws.{named-runs}
@@ -13,7 +12,7 @@ use Rattle.unit.proofs.checks.plan_runs.Goals as goal
 pub returns-then-beyond : goal.returns-then-beyond
 returns-then-beyond c =
     let a = c.args in
-    let row = not-counted a.unit a.name a.end a.store (sym c.beyond.ensures ∙ c.if-beyond.true) in 
+    let row = not-counted a.unit a.name a.end a.store (sym c.beyond.ensures ∙ c.if-beyond.true) in
     record {
       outcome_value = c.none_planned.ensures ∙ sym row;
       planned = λ none. absurd (omega (arith, row, none));
@@ -24,7 +23,7 @@ returns-then-beyond-2 c =
     let a = c.args in
     let row =
     not-among a.unit a.name a.end a.store (sym c.beyond.ensures ∙ c.if-beyond.false)
-    (sym c.beyond-2.ensures ∙ c.if-beyond-2.true) in 
+    (sym c.beyond-2.ensures ∙ c.if-beyond-2.true) in
     record {
       outcome_value = c.none_planned-then-beyond-2.ensures ∙ sym row;
       planned = λ none. absurd (omega (arith, row, none));
@@ -61,7 +60,7 @@ named-at-after-look_over c =
 pub returns : goal.returns
 returns c =
     let a = c.args in
-    let row = named-runs a.unit a.name a.end a.store (counted-at-after-look_over c) (named-at-after-look_over c) in 
+    let row = named-runs a.unit a.name a.end a.store (counted-at-after-look_over c) (named-at-after-look_over c) in
     record {
       outcome_value = c.look_over.ensures.outcome_value ∙ sym row;
       planned = λ none. c.look_over.ensures.planned (sym row ∙ none);

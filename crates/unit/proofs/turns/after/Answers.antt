@@ -1,5 +1,4 @@
 -- `unit::turns::after` meets its contract, by the test.
-use borrow.Author.Rules.{rules}
 use borrow.Author.Tests.{lt-ltb, le-ltb}
 use Rattle.unit.proofs.turns.after.Goals as goal
 

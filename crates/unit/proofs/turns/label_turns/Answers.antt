@@ -1,12 +1,8 @@
 use mathlib.Core.Path.{◌≡◌, refl, sym, ap}
-use Prim.Native.Nat.{◌-◌, ◌*◌, ◌≤◌}
 use native.Mathlib.Omega.{arith}
 use borrow.Author.Rules.{rules}
-use lib.ListN.{length}
 use Rattle.machine.proofs.StepLaws.{no_step, cost-none, cost-more}
-use Rattle.labelling.specs.Blocks.{most_blocks}
-use Rattle.unit.specs.Plans.{Planned}
-use Rattle.unit.specs.Turns.{Carried, carried, unit_of, unit_machine, turns, turn_blocks, blocks_over}
+use Rattle.unit.specs.Turns.{Carried, carried, unit_of, unit_machine, turns, turn_blocks}
 use Rattle.unit.proofs.RowLaws.{sound}
 use Rattle.unit.proofs.PlanLaws.{all_small}
 use Rattle.unit.proofs.LoopFacts.{Turn, begins, turn-of}
@@ -166,7 +162,7 @@ returns c =
     let l = c.loop-k in
     let a = c.args in
     let e : l.k ≡ a.labels = omega (arith, l.invariant.0, c.loop-k-test.false) in
-    let f : turns a.labels (carried a.unit a.store.now) ≡ carried (unit_of a.unit.count l.last l.runs) l.store = rw e at l.invariant.1 in 
+    let f : turns a.labels (carried a.unit a.store.now) ≡ carried (unit_of a.unit.count l.last l.runs) l.store = rw e at l.invariant.1 in
     record {
       unit_value = ap (λ (t : Carried). t.unit) (sym f);
       store_after = ap (λ (t : Carried). t.store) (sym f);

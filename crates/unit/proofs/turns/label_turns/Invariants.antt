@@ -1,17 +1,11 @@
 -- `unit::turns::label_turns` meets its contract. The invariant: k turns from the start give this state and cost these blocks, and the
 -- numbers are those of its runs. The measure is what is left of the labels.
-use mathlib.Core.Path.{◌≡◌, refl, sym, ap}
+use mathlib.Core.Path.{◌≡◌}
 use Prim.Native.Nat.{◌-◌, ◌*◌, ◌≤◌}
-use native.Mathlib.Omega.{arith}
-use borrow.Author.Rules.{rules}
 use lib.ListN.{length}
-use Rattle.machine.proofs.StepLaws.{no_step, cost-none, cost-more}
 use Rattle.labelling.specs.Blocks.{most_blocks}
 use Rattle.unit.specs.Plans.{Planned}
-use Rattle.unit.specs.Turns.{Carried, carried, unit_of, unit_machine, turns, turn_blocks, blocks_over}
-use Rattle.unit.proofs.RowLaws.{sound}
-use Rattle.unit.proofs.PlanLaws.{all_small}
-use Rattle.unit.proofs.LoopFacts.{Turn, begins, turn-of}
+use Rattle.unit.specs.Turns.{carried, unit_of, turns, blocks_over}
 use Rattle.unit.proofs.turns.label_turns.Given as goal
 
 abbrev pub invariant-loop-k : goal.invariant-loop-k

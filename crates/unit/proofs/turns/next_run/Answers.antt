@@ -2,9 +2,7 @@ use mathlib.Core.Path.{◌≡◌, refl, sym, ◌∙◌}
 use Prim.Native.Nat.{◌-◌, ◌≤◌}
 use native.Mathlib.Omega.{arith}
 use lib.ListN.{get_or}
-use borrow.Author.Rules.{rules}
 use borrow.Author.Tests.{lt-ltb, le-ltb}
-use Rattle.unit.specs.Turns.{first_after}
 use Rattle.unit.proofs.NextLaws.{following-among}
 use Rattle.unit.proofs.FirstLaws.{has_labels, first-none, first-here, first-later}
 use Rattle.unit.proofs.turns.next_run.Goals as goal

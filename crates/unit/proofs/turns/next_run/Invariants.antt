@@ -1,14 +1,9 @@
 -- `unit::turns::next_run` meets its contract. The invariant: what is left to look at gives the same run. The measure is the number of runs
 -- that are left to look at.
-use mathlib.Core.Path.{◌≡◌, refl, sym, ◌∙◌}
-use Prim.Native.Nat.{◌-◌, ◌≤◌}
-use native.Mathlib.Omega.{arith}
-use lib.ListN.{get_or}
-use borrow.Author.Rules.{rules}
-use borrow.Author.Tests.{lt-ltb, le-ltb}
+use mathlib.Core.Path.{◌≡◌}
+use Prim.Native.Nat.{◌≤◌}
 use Rattle.unit.specs.Turns.{first_after}
-use Rattle.unit.proofs.NextLaws.{following-among}
-use Rattle.unit.proofs.FirstLaws.{has_labels, first-none, first-here, first-later}
+use Rattle.unit.proofs.FirstLaws.{has_labels}
 use Rattle.unit.proofs.turns.next_run.Given as goal
 
 abbrev pub invariant-loop-more : goal.invariant-loop-more

@@ -1,0 +1,25 @@
+-- `writing::labels::label_many` meets its contract. The invariant: what is left to make gives the same, and its blocks with those so far
+-- are all. The measure is what is left.
+use mathlib.Core.Path.{◌≡◌, refl}
+use Prim.Native.Nat.{◌+◌, ◌*◌, ◌≤◌}
+use native.Mathlib.Omega.{arith}
+use borrow.Author.Rules.{rules}
+use lib.ListN.{length}
+use Rattle.labelling.specs.Blocks.{most_blocks}
+use Rattle.opening.specs.Rows.{nodes_anew}
+use Rattle.writing.specs.declared.Writing.{Writing}
+use Rattle.writing.specs.Possible.{written_of}
+use Rattle.writing.specs.Steps.{blocks_over}
+use Rattle.writing.proofs.FollowLaws.{Labelling, chunk-some, labelling-more, labelling-done}
+use Rattle.writing.proofs.FollowLaws.{remaining-few, labelling-cost, labelling-counted}
+use Rattle.writing.proofs.labels.label_many.Given as goal
+
+abbrev pub invariant-loop-left : goal.invariant-loop-left
+invariant-loop-left l =
+    Labelling l.store l.initial.file l.initial.current l.labels l.file l.current l.left
+    × (length l.file ≡ length l.initial.file)
+    × (l.blocks + blocks_over l.store l.left (written_of l.current l.file) ≡ blocks_over l.store l.labels (written_of l.initial.current l.initial.file))
+    × (l.blocks + most_blocks * l.left ≤ most_blocks * l.labels)
+
+abbrev pub decreases-loop-left : goal.decreases-loop-left
+decreases-loop-left l = l.left
