@@ -41,8 +41,8 @@ pub record Table : Type 0 where
   pub t6_slot : slot (node 2 3) ≡ 32 * 6
   -- T7 128 is 80 01 (hex), 200 is C8 01; C8 00 is refused with 11
   pub t7_first : groups 2 128 ≡ 0x80 ∷ 0x01 ∷ []
-  pub t7_second : groups 2 200 ≡ 0x_c8 ∷ 0x01 ∷ []
-  pub t7_refused : read_at (0x_c8 ∷ 0x00 ∷ []) 0 2 ≡ refused 11
+  pub t7_second : groups 2 200 ≡ 0xC8 ∷ 0x01 ∷ []
+  pub t7_refused : read_at (0xC8 ∷ 0x00 ∷ []) 0 2 ≡ refused 11
   -- T8 n = 1, t = 1: 131 bytes of file. T9 n = 40, t = 200: 262,468
   pub t8 : file_size 1 1 ≡ 131
   pub t9 : file_size 40 200 ≡ 262468
