@@ -1,13 +1,10 @@
 use mathlib.Core.Path.{◌≡◌, sym, ◌∙◌}
 use mathlib.Core.Bool.{false}
-use Prim.Native.Nat.{◌+◌, ◌-◌, ◌≤◌}
+use Prim.Native.Nat.{◌≤◌}
 use native.Mathlib.Omega.{arith}
-use borrow.Author.Rules.{rules}
-use borrow.Author.Tests.{not-true, not-false}
 use Rattle.base.specs.Limits.{max_depth, max_challenges}
 use Rattle.base.specs.Row.{outside}
 use Rattle.base.proofs.Ranges.{range-of}
-use Rattle.checkpoint.specs.Openings.{right_after, openings_taken}
 use Rattle.checkpoint.proofs.OpeningsLaws.{no-depth, no-count, none-taken, all-taken, next-wrong, next-right}
 use Rattle.checkpoint.proofs.openings.right_openings.Goals as goal
 

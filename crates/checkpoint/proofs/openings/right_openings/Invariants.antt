@@ -1,16 +1,8 @@
 -- `checkpoint::openings::right_openings` meets its contract. The invariant: those taken and those still to be taken are the answer. The
 -- measure is the number of openings left.
-use mathlib.Core.Path.{◌≡◌, sym, ◌∙◌}
-use mathlib.Core.Bool.{false}
+use mathlib.Core.Path.{◌≡◌}
 use Prim.Native.Nat.{◌+◌, ◌-◌, ◌≤◌}
-use native.Mathlib.Omega.{arith}
-use borrow.Author.Rules.{rules}
-use borrow.Author.Tests.{not-true, not-false}
-use Rattle.base.specs.Limits.{max_depth, max_challenges}
-use Rattle.base.specs.Row.{outside}
-use Rattle.base.proofs.Ranges.{range-of}
 use Rattle.checkpoint.specs.Openings.{right_after, openings_taken}
-use Rattle.checkpoint.proofs.OpeningsLaws.{no-depth, no-count, none-taken, all-taken, next-wrong, next-right}
 use Rattle.checkpoint.proofs.openings.right_openings.Given as goal
 
 abbrev pub invariant-loop-done : goal.invariant-loop-done

@@ -1,7 +1,6 @@
 -- `checkpoint::reading::found` meets its contract: the record is of no run, of another one, or of the order's.
 -- the record was read
 use mathlib.Core.Path.{◌≡◌, refl, sym, ap, ◌∙◌}
-use borrow.Author.Rules.{rules}
 use Rattle.base.proofs.RowLaws.{is-done, is-refused}
 use Rattle.run.specs.declared.Run.{Run}
 use Rattle.run_record.specs.Reading.{resume_row, resumed}
@@ -25,7 +24,7 @@ returns-then-is_other_run c =
     let a = c.args in
     let told =
     beside 3 _ (resumed a.bytes.now) a.count a.size c.nothing-then-is_other_run.result refl c.nothing-then-is_other_run.ensures
-    (other-run a.bytes.now a.depth a.memory (read c) (compared c ∙ c.if-is_other_run.true)) in 
+    (other-run a.bytes.now a.depth a.memory (read c) (compared c ∙ c.if-is_other_run.true)) in
     record {
       fault_value = told.number;
       run_value = told.rest;
@@ -36,7 +35,7 @@ returns-in-Refused c =
     let a = c.args in
     let told =
     beside 3 _ (resumed a.bytes.now) a.count a.size c.nothing.result refl c.nothing.ensures
-    (no-run a.bytes.now a.depth a.memory (is-refused _ _ _ c.read_record-started.ensures.outcome_value c.in-Refused.is)) in 
+    (no-run a.bytes.now a.depth a.memory (is-refused _ _ _ c.read_record-started.ensures.outcome_value c.in-Refused.is)) in
     record {
       fault_value = told.number;
       run_value = told.rest;
@@ -54,7 +53,7 @@ compared-at-else-is_other_run c =
 pub returns-else-is_other_run : goal.returns-else-is_other_run
 returns-else-is_other_run c =
     let a = c.args in
-    let whole = order-run a.bytes.now a.depth a.memory (read-at-else-is_other_run c) (compared-at-else-is_other_run c ∙ c.if-is_other_run.false) in 
+    let whole = order-run a.bytes.now a.depth a.memory (read-at-else-is_other_run c) (compared-at-else-is_other_run c ∙ c.if-is_other_run.false) in
     record {
       fault_value = whole;
       run_value = rw (← whole) (c.read_record-started.ensures.run_value, refl, refl);

@@ -1,6 +1,5 @@
 -- `checkpoint::reading::is_no_order` meets its contract: each return by the tests passed.
 use mathlib.Core.Path.{sym, ◌∙◌}
-use borrow.Author.Rules.{rules}
 use Rattle.checkpoint.proofs.reading.is_no_order.Goals as goal
 
 pub returns-then-beyond : goal.returns-then-beyond

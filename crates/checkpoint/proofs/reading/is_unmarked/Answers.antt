@@ -1,7 +1,6 @@
 -- `checkpoint::reading::is_unmarked` meets its contract: shorter than a head, or the mark compared.
 use mathlib.Core.Path.{sym}
 use native.Mathlib.Omega.{arith}
-use borrow.Author.Rules.{rules}
 use borrow.Author.Tests.{lt-ltb, le-ltb}
 use lib.ListN.{length}
 use lib.Seq.{length-take-le}

@@ -4,14 +4,13 @@ use mathlib.Core.Bool.{Bool, false}
 use mathlib.Core.List.{List}
 use Prim.Native.Nat.{ℕ, ◌+◌, ◌*◌, ◌≤◌, ◌<◌}
 use native.Mathlib.Omega.{arith}
-use borrow.Author.Rules.{rules}
-use lib.ListN.{length, get_or}
-use Rattle.base.specs.Limits.{max_memory, max_store}
+use lib.ListN.{get_or}
+use Rattle.base.specs.Limits.{max_store}
 use Rattle.tree.proofs.Slots.{store-fits}
 use Rattle.tree.specs.Walk.{nodes_in}
 use Rattle.run_record.specs.Reading.{resumed}
 use Rattle.checkpoint.specs.Layout.{head_size, size_of}
-use Rattle.checkpoint.specs.Reading.{depth_in, memory_in, count_in, length_in, record_from, record_end, record_in, unmarked, no_order, altered}
+use Rattle.checkpoint.specs.Reading.{memory_in, count_in, length_in, record_from, record_end, record_in, no_order, altered}
 use Rattle.checkpoint.specs.Reading.{run_found, count_found, size_found}
 use Rattle.checkpoint.proofs.ReadingLaws.{store_bytes, head-there, order-read, from-read, length-read, part-read, memory-low}
 use Rattle.checkpoint.proofs.ReadingLaws.{foreign, no-order, cut_off, changed, unchanged, beside, handed-on}
@@ -23,7 +22,7 @@ returns-then-is_unmarked c =
     let b = c.args.bytes.now in
     let told =
     beside 1 _ (resumed (record_in b)) (count_in b) (size_of (memory_in b) (length_in b)) c.nothing.result refl c.nothing.ensures
-    (foreign b (sym c.is_unmarked.ensures ∙ c.if-is_unmarked.true)) in 
+    (foreign b (sym c.is_unmarked.ensures ∙ c.if-is_unmarked.true)) in
     record {
       fault_value = told.number;
       run_value = told.rest;
@@ -46,7 +45,7 @@ returns-then-is_no_order c =
     let b = c.args.bytes.now in
     let told =
     beside 2 _ (resumed (record_in b)) (count_in b) (size_of (memory_in b) (length_in b)) c.nothing-then-is_no_order.result refl c.nothing-then-is_no_order.ensures
-    (no-order b (sym c.is_unmarked.ensures ∙ c.if-is_unmarked.false) (sym (c.is_no_order.ensures ∙ order-read c.args.bytes.now _ _ _ c.wide-depth.ensures.0 c.wide-memory.ensures.0 c.wide-count.ensures.0) ∙ c.if-is_no_order.true)) in 
+    (no-order b (sym c.is_unmarked.ensures ∙ c.if-is_unmarked.false) (sym (c.is_no_order.ensures ∙ order-read c.args.bytes.now _ _ _ c.wide-depth.ensures.0 c.wide-memory.ensures.0 c.wide-count.ensures.0) ∙ c.if-is_no_order.true)) in
     record {
       fault_value = told.number;
       run_value = told.rest;
@@ -103,7 +102,7 @@ returns-then-bytes-end c =
     let s = sizes c.args.bytes.now c.wide-depth.result c.wide-memory.result c.wide-count.result c.wide.result c.wide-2.result c.nodes.result (sym c.is_no_order.ensures ∙ c.if-is_no_order.false) c.wide-memory.ensures.0 c.nodes.ensures c.wide.ensures c.wide-2.ensures in
     let told =
     beside 2 _ (resumed (record_in b)) (count_in b) (size_of (memory_in b) (length_in b)) c.nothing-then-bytes-end.result refl c.nothing-then-bytes-end.ensures
-    (cut_off b (sym c.is_unmarked.ensures ∙ c.if-is_unmarked.false) (sym (c.is_no_order.ensures ∙ order-read c.args.bytes.now _ _ _ c.wide-depth.ensures.0 c.wide-memory.ensures.0 c.wide-count.ensures.0) ∙ c.if-is_no_order.false) (omega (arith, s.from, s.size, c.if-bytes-end.true))) in 
+    (cut_off b (sym c.is_unmarked.ensures ∙ c.if-is_unmarked.false) (sym (c.is_no_order.ensures ∙ order-read c.args.bytes.now _ _ _ c.wide-depth.ensures.0 c.wide-memory.ensures.0 c.wide-count.ensures.0) ∙ c.if-is_no_order.false) (omega (arith, s.from, s.size, c.if-bytes-end.true))) in
     record {
       fault_value = told.number;
       run_value = told.rest;
@@ -129,7 +128,7 @@ returns-then-is_altered c =
     let s = sizes c.args.bytes.now c.wide-depth.result c.wide-memory.result c.wide-count.result c.wide.result c.wide-2.result c.nodes.result (sym c.is_no_order.ensures ∙ c.if-is_no_order.false) c.wide-memory.ensures.0 c.nodes.ensures c.wide.ensures c.wide-2.ensures in
     let told =
     beside 2 _ (resumed (record_in b)) (count_in b) (size_of (memory_in b) (length_in b)) c.nothing-then-is_altered.result refl c.nothing-then-is_altered.ensures
-    (changed b (sym c.is_unmarked.ensures ∙ c.if-is_unmarked.false) (sym (c.is_no_order.ensures ∙ order-read c.args.bytes.now _ _ _ c.wide-depth.ensures.0 c.wide-memory.ensures.0 c.wide-count.ensures.0) ∙ c.if-is_no_order.false) (omega (arith, s.from, s.size, c.if-bytes-end.false)) (hashed c.args.bytes.now _ _ s _ c.is_altered.ensures ∙ c.if-is_altered.true)) in 
+    (changed b (sym c.is_unmarked.ensures ∙ c.if-is_unmarked.false) (sym (c.is_no_order.ensures ∙ order-read c.args.bytes.now _ _ _ c.wide-depth.ensures.0 c.wide-memory.ensures.0 c.wide-count.ensures.0) ∙ c.if-is_no_order.false) (omega (arith, s.from, s.size, c.if-bytes-end.false)) (hashed c.args.bytes.now _ _ s _ c.is_altered.ensures ∙ c.if-is_altered.true)) in
     record {
       fault_value = told.number;
       run_value = told.rest;
@@ -145,7 +144,7 @@ returns c =
     (part-read b _ _ s.from s.size) c.wide-depth.ensures.0 c.wide-memory.ensures.0 c.wide-count.ensures.0
     (omega (arith, s.from, s.size))
     (unchanged b (sym c.is_unmarked.ensures ∙ c.if-is_unmarked.false) (sym (c.is_no_order.ensures ∙ order-read c.args.bytes.now _ _ _ c.wide-depth.ensures.0 c.wide-memory.ensures.0 c.wide-count.ensures.0) ∙ c.if-is_no_order.false) (omega (arith, s.from, s.size, c.if-bytes-end.false)) (hashed c.args.bytes.now _ _ s _ c.is_altered.ensures ∙ c.if-is_altered.false))
-    (record { number = c.found.ensures.fault_value; rest = c.found.ensures.run_value }) in 
+    (record { number = c.found.ensures.fault_value; rest = c.found.ensures.run_value }) in
     record {
       fault_value = told.number;
       run_value = told.rest;

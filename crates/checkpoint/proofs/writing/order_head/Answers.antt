@@ -1,5 +1,4 @@
 -- `checkpoint::writing::order_head` meets its contract.
-use borrow.Author.Rules.{rules}
 use Rattle.checkpoint.proofs.WritingLaws.{head-laid}
 use Rattle.checkpoint.proofs.writing.order_head.Goals as goal
 

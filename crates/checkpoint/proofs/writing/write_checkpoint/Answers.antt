@@ -11,7 +11,6 @@ use lib.ListN.{length, take}
 use lib.Seq.{length-take-le}
 use Rattle.base.specs.Bytes.{written}
 use Rattle.base.specs.Limits.{max_challenges, max_record, max_store}
-use Rattle.base.specs.Row.{outside}
 use Rattle.base.proofs.Ranges.{range-of}
 use Rattle.tree.specs.Store.{store_size}
 use Rattle.tree.proofs.Slots.{store-fits}
@@ -31,7 +30,7 @@ returns-then-not_possible c =
     let a = c.args in
     let told =
     refused a.run a.count a.store.now a.out.now 4 _ _ refl c.refused.ensures
-    (no-such-run a.run a.count _ _ (sym c.not_possible.ensures ∙ c.if-not_possible.true)) in 
+    (no-such-run a.run a.count _ _ (sym c.not_possible.ensures ∙ c.if-not_possible.true)) in
     record {
       outcome_value = told.row;
       size_value = told.bytes;
@@ -50,7 +49,7 @@ returns-then-store_short c =
     let a = c.args in
     let told =
     refused a.run a.count a.store.now a.out.now 3 _ _ refl c.refused-then-store_short.ensures
-    (short-store a.run a.count _ _ (sym c.not_possible.ensures ∙ c.if-not_possible.false) (sym c.store_short.ensures ∙ c.if-store_short.true)) in 
+    (short-store a.run a.count _ _ (sym c.not_possible.ensures ∙ c.if-not_possible.false) (sym c.store_short.ensures ∙ c.if-store_short.true)) in
     record {
       outcome_value = told.row;
       size_value = told.bytes;
@@ -63,7 +62,7 @@ returns-then-beyond c =
     let a = c.args in
     let told =
     refused a.run a.count a.store.now a.out.now 8 _ _ refl c.refused-then-beyond.ensures
-    (no-count a.run a.count _ _ (sym c.not_possible.ensures ∙ c.if-not_possible.false) (sym c.store_short.ensures ∙ c.if-store_short.false) (sym c.beyond.ensures ∙ c.if-beyond.true)) in 
+    (no-count a.run a.count _ _ (sym c.not_possible.ensures ∙ c.if-not_possible.false) (sym c.store_short.ensures ∙ c.if-store_short.false) (sym c.beyond.ensures ∙ c.if-beyond.true)) in
     record {
       outcome_value = told.row;
       size_value = told.bytes;
@@ -120,7 +119,7 @@ returns-then-out-size c =
     let told =
     refused a.run a.count a.store.now a.out.now 7 _ _ refl c.refused-then-out-size.ensures
     (short-output a.run a.count _ _ (sym c.not_possible.ensures ∙ c.if-not_possible.false) (sym c.store_short.ensures ∙ c.if-store_short.false) (sym c.beyond.ensures ∙ c.if-beyond.false)
-    (omega (arith, s.kept, s.laid, c.if-out-size.true))) in 
+    (omega (arith, s.kept, s.laid, c.if-out-size.true))) in
     record {
       outcome_value = told.row;
       size_value = told.bytes;
@@ -160,7 +159,7 @@ put_parts-requires c =
     let s = sizes c.args.run _ _ c.write_record-recorded.result.size c.nodes.result (sym c.not_possible.ensures ∙ c.if-not_possible.false) (record { statement_size = search rules; places_size = search rules }) (omega arith) c.write_record-recorded.ensures.size_value c.write_record-recorded.ensures.out_after c.nodes.ensures in
     let stored = length-take-le (32 * c.nodes.result) c.args.store.now (kept_there c.args.run c.args.store.now _ s.kept (sym c.store_short.ensures ∙ c.if-store_short.false)) in
     let recorded = length-take-le c.write_record-recorded.result.size c.write_record-recorded.new.out
-        (omega (arith, s.short, c.write_record-recorded.auto.out)) in 
+    (omega (arith, s.short, c.write_record-recorded.auto.out)) in
     record {
       laid_in_bounds = omega (arith, stored, recorded, c.if-out-size.false);
       laid_len_bound = omega (arith, stored, recorded, s.few, s.short);
@@ -177,7 +176,7 @@ returns c =
     (omega (arith, s.kept, s.laid))
     (c.put_parts.ensures
     ∙ ap (λ (l : List ℕ). written a.out.now 0 l)
-    (parts_are a.run a.count a.store.now _ _ _ _ c.order_head-head.ensures s.kept s.laid s.there)) in 
+    (parts_are a.run a.count a.store.now _ _ _ _ c.order_head-head.ensures s.kept s.laid s.there)) in
     record {
       outcome_value = told.row;
       size_value = told.bytes;
