@@ -1,9 +1,6 @@
 use mathlib.Core.Path.{◌≡◌, ap, ◌∙◌}
-use Prim.Native.Nat.{◌+◌, ◌-◌, ◌*◌, ◌^◌, ◌<◌, ◌≤◌}
 use native.Mathlib.Omega.{arith}
-use borrow.Author.Rules.{rules}
 use Rattle.block_theory.specs.Sums.{opening_blocks}
-use Rattle.block_counts.specs.Seal.{seal_blocks}
 use Rattle.block_counts.proofs.Laws.{no-opening, opening-more, challenge-possible}
 use Rattle.block_counts.proofs.seal_blocks.Goals as goal
 
@@ -35,7 +32,7 @@ loop-i-preserved c =
 pub returns : goal.returns
 returns c =
     let l = c.loop-i in
-    let all : l.i ≡ c.args.count = omega arith in 
+    let all : l.i ≡ c.args.count = omega arith in
     record {
       value = rw all at l.invariant.1;
       upper_bound = omega (arith, c.requires.2, l.invariant.2);

@@ -1,12 +1,8 @@
 -- `block_counts::seal_blocks` meets its contract. The invariant: the blocks of the run and of the first i openings. The measure is what is
 -- left of the challenges.
-use mathlib.Core.Path.{◌≡◌, ap, ◌∙◌}
+use mathlib.Core.Path.{◌≡◌}
 use Prim.Native.Nat.{◌+◌, ◌-◌, ◌*◌, ◌^◌, ◌<◌, ◌≤◌}
-use native.Mathlib.Omega.{arith}
-use borrow.Author.Rules.{rules}
-use Rattle.block_theory.specs.Sums.{opening_blocks}
 use Rattle.block_counts.specs.Seal.{seal_blocks}
-use Rattle.block_counts.proofs.Laws.{no-opening, opening-more, challenge-possible}
 use Rattle.block_counts.proofs.seal_blocks.Given as goal
 
 abbrev pub invariant-loop-i : goal.invariant-loop-i

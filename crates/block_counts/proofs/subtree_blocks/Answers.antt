@@ -2,7 +2,6 @@
 use mathlib.Core.Path.{◌≡◌}
 use Prim.Native.Nat.{◌+◌, ◌*◌, ◌^◌, ◌≤◌}
 use native.Mathlib.Omega.{arith}
-use borrow.Author.Rules.{rules}
 use lib.Count.{ones, ones-le}
 use Rattle.tree.specs.Nodes.{node, order_below}
 use Rattle.block_theory.specs.Sums.{blocks_sum}
@@ -48,4 +47,4 @@ exact :
 exact c = product-exact c.args.height c.args.level c.args.position c.requires.1 c.requires.2 c.requires.0
 
 pub returns : goal.returns
-returns c = record { value = omega (arith, exact c); upper_bound = omega (arith, most c); }
+returns c = record { value = omega (arith, exact c); upper_bound = omega (arith, most c) }
