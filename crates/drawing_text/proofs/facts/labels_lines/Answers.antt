@@ -1,0 +1,8 @@
+-- `drawing_text::facts::labels_lines` meets its contract.
+use Rattle.drawing_text.proofs.InfoLaws.{labels-told}
+use Rattle.drawing_text.proofs.facts.labels_lines.Goals as goal
+
+pub returns : goal.returns
+returns c =
+    labels-told c.args.file.now c.args.at c.requires.1 _ _ c.add_line.ensures c.label_at-statement.ensures
+    c.label_at-root.ensures c.fact_bytes.ensures c.fact_bytes-2.ensures

@@ -1,0 +1,6 @@
+-- `drawing_text::sentences::sentence` meets its contract.
+use Rattle.drawing_text.proofs.TwoLines.{one}
+use Rattle.drawing_text.proofs.sentences.sentence.Goals as goal
+
+pub returns : goal.returns
+returns c = one c.empty.ensures c.add.ensures c.requires

@@ -1,0 +1,7 @@
+-- `drawing_text::telling::refused` meets its contract.
+use Rattle.drawing_text.proofs.TellingLaws.{refusal-told}
+use Rattle.drawing_text.proofs.telling.refused.Goals as goal
+
+pub returns : goal.returns
+returns c =
+    refusal-told _ _ _ _ _ _ c.add_line.ensures c.why_refused-why.ensures c.rejected.ensures

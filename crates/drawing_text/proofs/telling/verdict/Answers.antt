@@ -1,0 +1,8 @@
+-- `drawing_text::telling::verdict` meets its contract.
+use Rattle.drawing_text.proofs.TellingLaws.{verdict-told}
+use Rattle.drawing_text.proofs.telling.verdict.Goals as goal
+
+pub returns : goal.returns
+returns c =
+    verdict-told _ _ _ _ _ c.add_line-asked.ensures c.add_line.ensures c.edition_line-edition.ensures c.wanted.ensures
+    c.judged.ensures
