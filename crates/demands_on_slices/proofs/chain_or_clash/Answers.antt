@@ -1,0 +1,10 @@
+-- `demands_on_slices::chain_or_clash` meets its contract: a slice's bytes are below 256, so demand 3 holds of them.
+use Rattle.demands.proofs.Demand3.{demand3}
+use Rattle.demands_on_slices.proofs.chain_or_clash.Goals as goal
+
+pub returns : goal.returns
+returns c =
+    record {
+      drawing_value = c.draw.ensures.drawing_value;
+      drawn = demand3.drawn _ _ _ _ _ (λ j. (c.type_inv.file j).fits);
+    }
