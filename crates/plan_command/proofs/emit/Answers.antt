@@ -2,7 +2,6 @@
 use mathlib.Core.Path.{sym}
 use native.Mathlib.Omega.{arith}
 use lib.Seq.{length-take-le}
-use borrow.Author.Rules.{rules}
 use Rattle.plan_command.proofs.emit.Goals as goal
 
 pub slice_bounds-write_all-end : goal.slice_bounds-write_all-end
