@@ -1,15 +1,13 @@
 -- `sealing::saving::opening_end` meets its contract: the openings behind are no more than all of them.
-use Prim.Native.Nat.{ℕ, ◌+◌, ◌-◌, ◌*◌, ◌≤◌}
+-- the bytes of the openings behind opening i
+use Prim.Native.Nat.{ℕ, ◌-◌, ◌*◌, ◌≤◌}
 use native.Mathlib.Nat.{mul-le-mul, mul-le-mul_right}
 use native.Mathlib.Omega.{arith}
 use Rattle.base.specs.Limits.{max_depth, max_challenges, held_size}
 use Rattle.tree.specs.Openings.{opening_size}
 use Rattle.file_head.specs.Layout.{file_size}
-use borrow.Author.Rules.{rules}
-use Rattle.sealing.proofs.saving.opening_end.Statement.{statement}
-use Rattle.sealing.proofs.saving.opening_end.Tie as tie
+use Rattle.sealing.proofs.saving.opening_end.Goals as goal
 
--- the bytes of the openings behind opening i
 behind-few : (n t i : ℕ) → n ≤ max_depth → t ≤ max_challenges → (t - i) * opening_size n ≤ max_challenges * held_size
 behind-few n t i h k =
     let few : t - i ≤ max_challenges = omega arith in
@@ -20,19 +18,12 @@ behind-inside : (n t i : ℕ) → (t - i) * opening_size n ≤ file_size n t
 unfolding file_size
 behind-inside n t i = omega (arith, mul-le-mul_right {m = t - i} {n = t} (opening_size n) (omega arith))
 
-mul-result-2 : tie.Need-overflow-mul-result-2
-mul-result-2 c =
-    let a = c.before.before.before.before.args in
+pub overflow_mul-result-2 : goal.overflow_mul-result-2
+overflow_mul-result-2 c =
+    let a = c.args in
     omega (arith, behind-few a.depth a.count a.i (omega arith) (omega arith))
 
-sub-result : tie.Need-overflow-sub-result
-sub-result c =
-    let a = c.before.before.before.before.args in
-    omega (arith, behind-inside a.depth a.count a.i, c.file-size.ensures)
-
-pub opening-end-spec : {M : Type 1} → statement M
-opening-end-spec =
-    tie.close
-    (tie.spec
-    (λ c. search rules) (λ c. search rules) (λ c. search rules) (λ c κs. search rules) (λ c. search rules)
-    (λ c. search rules) mul-result-2 sub-result (λ c. search rules))
+pub overflow_sub-result-2 : goal.overflow_sub-result-2
+overflow_sub-result-2 c =
+    let a = c.args in
+    omega (arith, behind-inside a.depth a.count a.i, c.file_size.ensures)
