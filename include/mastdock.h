@@ -1,4 +1,4 @@
-/* Mastdock for C11 and C++17: the calls of libcapi.a, which `rt staticlib capi` writes to target/staticlib.
+/* Mastdock for C11 and C++17: the calls of libcapi.a, which `./build library` writes to target/staticlib.
  *
  * Conventions
  * - Every call is decided for every value of its arguments. A state (hash, run, unit, opening, writing) is plain data: it may be

@@ -1,4 +1,4 @@
-//! Finds libcapi.a, which `rt staticlib capi` writes to target/staticlib of the repository. The variable MASTDOCK_LIBRARY_DIR names
+//! Finds libcapi.a, which `./build library` writes to target/staticlib of the repository. The variable MASTDOCK_LIBRARY_DIR names
 //! another folder.
 use std::env;
 use std::path::PathBuf;
@@ -16,7 +16,7 @@ fn main() {
     let library = folder.join("libcapi.a");
     if !library.is_file() {
         eprintln!(
-            "{} is not there: run `rt staticlib capi` in the repository, or name its folder in MASTDOCK_LIBRARY_DIR",
+            "{} is not there: run `./build library` in the repository, or name its folder in MASTDOCK_LIBRARY_DIR",
             library.display()
         );
         exit(1);

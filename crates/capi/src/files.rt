@@ -118,12 +118,7 @@ pub fn mastdock_check_opening(
 }
 
 // A file checked, by the edition that its head says: 256 × refusal + opening, or 0 if accepted.
-pub fn mastdock_check_file(
-    file: &[u8],
-    statement: &[u8; 32],
-    depth: u64,
-    count: u64,
-) -> u64
+pub fn mastdock_check_file(file: &[u8], statement: &[u8; 32], depth: u64, count: u64) -> u64
     ensures { result ≡ file_check file.now statement.now depth count }
 {
     proof_file::check_file_code(file, *statement, depth, count)

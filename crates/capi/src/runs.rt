@@ -32,12 +32,7 @@ pub struct RunRecorded {
 }
 
 // A new run, or the refusal beside an all-zero one.
-pub fn mastdock_run_start(
-    statement: &[u8; 32],
-    depth: u64,
-    memory: u64,
-    store: &[u8],
-) -> RunStarted
+pub fn mastdock_run_start(statement: &[u8; 32], depth: u64, memory: u64, store: &[u8]) -> RunStarted
     ensures refusal_value { result.refusal ≡ start_row depth memory (length store.now) }
     ensures run_value { result.run ≡ started statement.now depth memory (length store.now) }
 {

@@ -16,11 +16,7 @@ pub struct UnitAdvanced {
 }
 
 // Makes the smaller of the budget and all labels that remain, one at a time, in turn; `blocks` are those of the labels made in this call.
-pub fn mastdock_unit_advance(
-    unit: StampingUnit,
-    budget: u64,
-    store: &mut [u8],
-) -> UnitAdvanced
+pub fn mastdock_unit_advance(unit: StampingUnit, budget: u64, store: &mut [u8]) -> UnitAdvanced
     ensures refusal_value { result.refusal ≡ unit_row unit (length store.old) }
     ensures labels_value { result.labels ≡ labels_in (carried unit store.old) budget }
     ensures blocks_value { result.blocks ≡ blocks_in (carried unit store.old) budget }

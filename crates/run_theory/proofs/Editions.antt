@@ -3,7 +3,7 @@ use mathlib.Core.Path.{◌≡◌, refl}
 use mathlib.Core.List.{List}
 use Prim.Native.Nat.{ℕ}
 use Rattle.machine.specs.Calls.{after_calls}
-use Rattle.machine.proofs.StepLaws.{steps-keep, call-keeps}
+use Rattle.machine.proofs.StepLaws.{steps-keep}
 use Rattle.machine.proofs.CallLaws.{calls-keep}
 use Rattle.run.specs.Steps as runs
 use Rattle.run.specs.Steps.{Stamped, run_machine}

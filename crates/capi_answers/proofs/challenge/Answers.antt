@@ -1,5 +1,4 @@
 use Rattle.capi_answers.proofs.Whole.{challenged}
-use borrow.Author.Rules.{rules}
 use Rattle.capi_answers.proofs.challenge.Goals as goal
 
 pub returns : goal.returns

@@ -1,5 +1,4 @@
 use Rattle.capi_answers.proofs.Whole.{compared, clash}
-use borrow.Author.Rules.{rules}
 use Rattle.capi_answers.proofs.compare.Goals as goal
 
 pub returns : goal.returns

@@ -1,5 +1,4 @@
 use Rattle.capi_answers.proofs.Whole.{hash-digest}
-use borrow.Author.Rules.{rules}
 use Rattle.capi_answers.proofs.digest.Goals as goal
 
 pub returns : goal.returns

@@ -1,5 +1,4 @@
 use Rattle.capi_answers.proofs.Whole.{hash-finished}
-use borrow.Author.Rules.{rules}
 use Rattle.capi_answers.proofs.hash_finish.Goals as goal
 
 pub returns : goal.returns

@@ -1,5 +1,4 @@
 use Rattle.capi_answers.proofs.Whole.{hash-updated}
-use borrow.Author.Rules.{rules}
 use Rattle.capi_answers.proofs.hash_update.Goals as goal
 
 pub returns : goal.returns

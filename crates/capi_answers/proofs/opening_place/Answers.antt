@@ -1,5 +1,4 @@
 use Rattle.capi_answers.proofs.Whole.{place}
-use borrow.Author.Rules.{rules}
 use Rattle.capi_answers.proofs.opening_place.Goals as goal
 
 pub returns : goal.returns

@@ -1,5 +1,4 @@
 use Rattle.capi_answers.proofs.Whole.{head_read}
-use borrow.Author.Rules.{rules}
 use Rattle.capi_answers.proofs.read_head.Goals as goal
 
 pub returns : goal.returns

@@ -1,5 +1,4 @@
 use Rattle.capi_answers.proofs.Whole.{run-started}
-use borrow.Author.Rules.{rules}
 use Rattle.capi_answers.proofs.run_resume.Goals as goal
 
 pub returns : goal.returns

@@ -1,5 +1,4 @@
 use mathlib.Core.Path.{ap, sym}
-use borrow.Author.Rules.{rules}
 use Rattle.draw.specs.Drawing.{drawing_answer, clash_pair}
 use Rattle.capi.proofs.chains.clash_pair.Goals as goal
 

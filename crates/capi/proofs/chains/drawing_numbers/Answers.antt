@@ -1,7 +1,6 @@
 use mathlib.Core.Path.{sym, ap, ◌∙◌}
 use Rattle.draw.specs.Drawing.{drawing_answer}
 use Rattle.capi.proofs.Numbers.{same_numbers}
-use borrow.Author.Rules.{rules}
 use Rattle.capi.proofs.chains.drawing_numbers.Goals as goal
 
 pub returns-in-NotDrawn : goal.returns-in-NotDrawn

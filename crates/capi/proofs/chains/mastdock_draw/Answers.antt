@@ -1,7 +1,6 @@
 use mathlib.Core.Path.{ap, ◌∙◌}
 use Rattle.draw.specs.Drawing.{clash_pair}
 use Rattle.capi.proofs.Numbers.{same_numbers, same-pair}
-use borrow.Author.Rules.{rules}
 use Rattle.capi.proofs.chains.mastdock_draw.Goals as goal
 
 pub returns : goal.returns
@@ -10,7 +9,7 @@ returns c =
     let n = c.drawing_numbers-n.ensures in
     let k = same_numbers _ _ e.drawing_value in
     let p = same-pair _ _ (c.clash_pair-pair.ensures ∙ ap clash_pair e.drawing_value) in
-    let s = c.clash_of-clash.ensures in 
+    let s = c.clash_of-clash.ensures in
     record {
       kind_value = n.0 ∙ k.0;
       code_value = n.1.0 ∙ k.1.0;

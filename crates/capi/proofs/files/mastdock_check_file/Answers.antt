@@ -1,5 +1,4 @@
 -- `capi::mastdock_check_file` meets its contract: it passes on.
-use borrow.Author.Rules.{rules}
 use Rattle.capi.proofs.files.mastdock_check_file.Goals as goal
 
 pub returns : goal.returns

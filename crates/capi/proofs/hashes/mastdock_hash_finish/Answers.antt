@@ -1,10 +1,9 @@
 use mathlib.Core.Path.{◌∙◌}
-use borrow.Author.Rules.{rules}
 use Rattle.capi.proofs.hashes.mastdock_hash_finish.Goals as goal
 
 pub returns : goal.returns
 returns c =
-    let e = c.finish-f.ensures in 
+    let e = c.finish-f.ensures in
     record {
       refusal_value = c.outcome_number.ensures ∙ e.outcome_value.0;
       blocks_value = e.outcome_value.1;

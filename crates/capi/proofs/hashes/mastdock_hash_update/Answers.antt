@@ -1,5 +1,4 @@
 use mathlib.Core.Path.{◌∙◌}
-use borrow.Author.Rules.{rules}
 use Rattle.capi.proofs.hashes.mastdock_hash_update.Goals as goal
 
 pub returns : goal.returns

@@ -1,10 +1,9 @@
 use mathlib.Core.Path.{◌∙◌}
-use borrow.Author.Rules.{rules}
 use Rattle.capi.proofs.runs.mastdock_run_advance.Goals as goal
 
 pub returns : goal.returns
 returns c =
-    let e = c.advance-a.ensures in 
+    let e = c.advance-a.ensures in
     record {
       refusal_value = c.outcome_number.ensures ∙ e.outcome_value;
       labels_value = e.labels_value;
