@@ -1,6 +1,4 @@
 use mathlib.Core.Path.{sym, ◌∙◌}
-use mathlib.Core.Bool.{Bool}
-use Prim.Native.Nat.{ℕ}
 use lib.ListN.{length}
 use Rattle.compare.specs.Table.{table_disagreement}
 use Rattle.compare.proofs.FirstPairLaws.{first_found, firsts-ended, firsts-all}
