@@ -18,8 +18,7 @@ pub struct Planned {
 }
 
 // The chain of leaves in any order, with repeats, from the list's first place on, and its count, or the refusal beside 0.
-#[unsafe(no_mangle)]
-pub extern "C" fn mastdock_plan(depth: u64, leaves: &[u64], list: &mut [u64]) -> Planned
+pub fn mastdock_plan(depth: u64, leaves: &[u64], list: &mut [u64]) -> Planned
     ensures refusal_value { result.refusal ≡ plan_row depth leaves.now (length list.old) }
     ensures count_value { result.count ≡ planned_count depth leaves.now (length list.old) }
     ensures list_after { list.new ≡ planned_list depth leaves.now list.old }
@@ -81,8 +80,7 @@ pub struct Compared {
 
 // The first pair of openings that disagrees, the smallest level and both inputs there, as an edition hashes them; all zero where no pair
 // does.
-#[unsafe(no_mangle)]
-pub extern "C" fn mastdock_compare(
+pub fn mastdock_compare(
     edition: u64,
     statement: &[u8; 32],
     depth: u64,
@@ -163,8 +161,7 @@ pub struct Drawn {
 }
 
 // The chain of a proof, or the first clash of two of its openings, or the refusal.
-#[unsafe(no_mangle)]
-pub extern "C" fn mastdock_draw(
+pub fn mastdock_draw(
     file: &[u8],
     statement: &[u8; 32],
     depth: u64,

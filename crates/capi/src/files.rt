@@ -18,8 +18,7 @@ pub struct Challenged {
 }
 
 // The leaf of challenge i, from 1, or the refusal beside 0.
-#[unsafe(no_mangle)]
-pub extern "C" fn mastdock_challenge(
+pub fn mastdock_challenge(
     edition: u64,
     statement: &[u8; 32],
     root: &[u8; 32],
@@ -39,8 +38,7 @@ pub extern "C" fn mastdock_challenge(
 }
 
 // Writes the head of a file of `count` openings of an edition.
-#[unsafe(no_mangle)]
-pub extern "C" fn mastdock_write_head(
+pub fn mastdock_write_head(
     edition: u64,
     statement: &[u8; 32],
     root: &[u8; 32],
@@ -86,8 +84,7 @@ fn head_read(numbers: HeadNumbers) -> HeadRead
 }
 
 // Reads edition, depth and count out of a file's head.
-#[unsafe(no_mangle)]
-pub extern "C" fn mastdock_read_head(file: &[u8]) -> HeadRead
+pub fn mastdock_read_head(file: &[u8]) -> HeadRead
     ensures refusal_value { result.refusal ≡ head_refusal (head_of file.now) }
     ensures edition_value { result.edition ≡ head_edition (head_of file.now) }
     ensures depth_value { result.depth ≡ head_depth (head_of file.now) }
@@ -98,8 +95,7 @@ pub extern "C" fn mastdock_read_head(file: &[u8]) -> HeadRead
 }
 
 // Where opening i, from 1, lies in a file; 0 and 0 where there is none.
-#[unsafe(no_mangle)]
-pub extern "C" fn mastdock_opening_place(file: &[u8], i: u64) -> Place
+pub fn mastdock_opening_place(file: &[u8], i: u64) -> Place
     ensures offset_value { result.offset ≡ part_start file.now i (head_of file.now) }
     ensures length_value { result.length ≡ part_length file.now i (head_of file.now) }
 {
@@ -107,8 +103,7 @@ pub extern "C" fn mastdock_opening_place(file: &[u8], i: u64) -> Place
 }
 
 // One opening of an edition checked: the refusal alone.
-#[unsafe(no_mangle)]
-pub extern "C" fn mastdock_check_opening(
+pub fn mastdock_check_opening(
     edition: u64,
     statement: &[u8; 32],
     root: &[u8; 32],
@@ -123,8 +118,7 @@ pub extern "C" fn mastdock_check_opening(
 }
 
 // A file checked, by the edition that its head says: 256 × refusal + opening, or 0 if accepted.
-#[unsafe(no_mangle)]
-pub extern "C" fn mastdock_check_file(
+pub fn mastdock_check_file(
     file: &[u8],
     statement: &[u8; 32],
     depth: u64,

@@ -30,16 +30,14 @@ pub struct HashDigest {
 }
 
 // A hash that has taken nothing.
-#[unsafe(no_mangle)]
-pub extern "C" fn mastdock_hash_new() -> Hash
+pub fn mastdock_hash_new() -> Hash
     ensures { result ≡ new_hash }
 {
     Hash::new()
 }
 
 // A portion more.
-#[unsafe(no_mangle)]
-pub extern "C" fn mastdock_hash_update(hash: Hash, part: &[u8]) -> HashUpdated
+pub fn mastdock_hash_update(hash: Hash, part: &[u8]) -> HashUpdated
     ensures refusal_value { result.refusal ≡ update_row hash part.now }
     ensures hash_value { result.hash ≡ update_state hash part.now }
 {
@@ -53,8 +51,7 @@ pub extern "C" fn mastdock_hash_update(hash: Hash, part: &[u8]) -> HashUpdated
 }
 
 // The digest of what was taken and the blocks of the whole message; the hash is handed back as it was.
-#[unsafe(no_mangle)]
-pub extern "C" fn mastdock_hash_finish(hash: Hash) -> HashFinished
+pub fn mastdock_hash_finish(hash: Hash) -> HashFinished
     ensures refusal_value { result.refusal ≡ finish_row hash }
     ensures blocks_value { result.blocks ≡ finish_blocks hash }
     ensures digest_value { result.digest ≡ finish_digest hash }
@@ -74,8 +71,7 @@ pub extern "C" fn mastdock_hash_finish(hash: Hash) -> HashFinished
 }
 
 // The digest of a message in one call, and its blocks.
-#[unsafe(no_mangle)]
-pub extern "C" fn mastdock_digest(message: &[u8]) -> HashDigest
+pub fn mastdock_digest(message: &[u8]) -> HashDigest
     ensures refusal_value { result.refusal ≡ digest_row message.now }
     ensures blocks_value { result.blocks ≡ digest_blocks message.now }
     ensures digest_value { result.digest ≡ digest_answer message.now }

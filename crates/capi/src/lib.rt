@@ -1,5 +1,5 @@
 // The public calls for C and Rust: structs by value, numbers, and slices as a pointer and a length. Refusals are document 01's
-// numbers, 0 where there is none. Each call passes on, with the contract of the one that it calls.
+// numbers, 0 where there is none. Each call passes on, with the contract of the one that it calls. Crate capi_c exports them to C.
 #![tactic(auto)]
 
 mod chains; // chains.rt: planning, comparing and drawing

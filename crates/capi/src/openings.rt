@@ -24,8 +24,7 @@ pub struct OpeningAdvanced {
 }
 
 // A new opening, with what the store holds of it copied to the output, or the refusal beside an all-zero one.
-#[unsafe(no_mangle)]
-pub extern "C" fn mastdock_opening_start(
+pub fn mastdock_opening_start(
     edition: u64,
     statement: &[u8; 32],
     depth: u64,
@@ -48,8 +47,7 @@ pub extern "C" fn mastdock_opening_start(
 }
 
 // Labels anew the smaller of the budget and what remains; `blocks` are those of the labels made in this call.
-#[unsafe(no_mangle)]
-pub extern "C" fn mastdock_opening_advance(
+pub fn mastdock_opening_advance(
     opening: Opening,
     budget: u64,
     store: &[u8],

@@ -32,8 +32,7 @@ pub struct RunRecorded {
 }
 
 // A new run, or the refusal beside an all-zero one.
-#[unsafe(no_mangle)]
-pub extern "C" fn mastdock_run_start(
+pub fn mastdock_run_start(
     statement: &[u8; 32],
     depth: u64,
     memory: u64,
@@ -52,8 +51,7 @@ pub extern "C" fn mastdock_run_start(
 }
 
 // Labels the smaller of the budget and what remains; `blocks` are those of the labels made in this call.
-#[unsafe(no_mangle)]
-pub extern "C" fn mastdock_run_advance(run: Run, budget: u64, store: &mut [u8]) -> RunAdvanced
+pub fn mastdock_run_advance(run: Run, budget: u64, store: &mut [u8]) -> RunAdvanced
     ensures refusal_value { result.refusal ≡ continue_row run (length store.old) }
     ensures labels_value { result.labels ≡ labels_in (stamped run store.old) budget }
     ensures blocks_value { result.blocks ≡ blocks_in (stamped run store.old) budget }
@@ -74,8 +72,7 @@ pub extern "C" fn mastdock_run_advance(run: Run, budget: u64, store: &mut [u8]) 
 }
 
 // Writes a run's record over the front of `out`. How many bytes were written, or the refusal beside 0.
-#[unsafe(no_mangle)]
-pub extern "C" fn mastdock_run_record(run: Run, out: &mut [u8]) -> RunRecorded
+pub fn mastdock_run_record(run: Run, out: &mut [u8]) -> RunRecorded
     ensures refusal_value { result.refusal ≡ record_row run (length out.old) }
     ensures size_value { result.size ≡ record_size run (length out.old) }
     ensures out_after { out.new ≡ record_written run out.old }
@@ -90,8 +87,7 @@ pub extern "C" fn mastdock_run_record(run: Run, out: &mut [u8]) -> RunRecorded
 }
 
 // The run that the bytes are the record of, or the refusal beside an all-zero one.
-#[unsafe(no_mangle)]
-pub extern "C" fn mastdock_run_resume(bytes: &[u8]) -> RunStarted
+pub fn mastdock_run_resume(bytes: &[u8]) -> RunStarted
     ensures refusal_value { result.refusal ≡ resume_row bytes.now }
     ensures run_value { result.run ≡ resumed bytes.now }
 {

@@ -16,8 +16,7 @@ pub struct UnitAdvanced {
 }
 
 // Makes the smaller of the budget and all labels that remain, one at a time, in turn; `blocks` are those of the labels made in this call.
-#[unsafe(no_mangle)]
-pub extern "C" fn mastdock_unit_advance(
+pub fn mastdock_unit_advance(
     unit: StampingUnit,
     budget: u64,
     store: &mut [u8],
@@ -42,8 +41,7 @@ pub extern "C" fn mastdock_unit_advance(
 }
 
 // Where the store of run i, from 1, lies in the slice; 0 and 0 where there is none.
-#[unsafe(no_mangle)]
-pub extern "C" fn mastdock_unit_store_place(unit: StampingUnit, i: u64, store: &[u8]) -> StorePlace
+pub fn mastdock_unit_store_place(unit: StampingUnit, i: u64, store: &[u8]) -> StorePlace
     ensures offset_value { result.offset ≡ place_offset unit i (length store.now) }
     ensures length_value { result.length ≡ place_length unit i (length store.now) }
 {

@@ -24,8 +24,7 @@ pub struct WritingAdvanced {
 }
 
 // A new writing, with the head and what the store holds of its openings written to the file, or the refusal beside an all-zero one.
-#[unsafe(no_mangle)]
-pub extern "C" fn mastdock_writing_start(
+pub fn mastdock_writing_start(
     edition: u64,
     statement: &[u8; 32],
     root: &[u8; 32],
@@ -53,8 +52,7 @@ pub extern "C" fn mastdock_writing_start(
 }
 
 // Labels anew the smaller of the budget and what remains for all openings; `blocks` are those of the labels made in this call.
-#[unsafe(no_mangle)]
-pub extern "C" fn mastdock_writing_advance(
+pub fn mastdock_writing_advance(
     writing: Writing,
     budget: u64,
     store: &[u8],

@@ -1,20 +1,21 @@
 // Usage, and what is wrong with the words.
 use crate::{Ordered, UNTRIED};
 use base::{MAX_CHALLENGES, NEW_EDITION, beyond};
+use descriptors::Stream;
 use lines::{add, add_line, complain, empty, say, say_text};
 use run::{nodes, not_possible};
 use sealing::all_labels;
 use words::Problem;
 
 // What `help` prints, and `mastdock` alone.
-fn usage(fd: i32) -> bool {
+fn usage(to: Stream<'_>) -> bool {
     say_text(
-        fd,
+        to,
         b"usage:\n  mastdock seal REPORT PROOF DEPTH [CHALLENGES [MEMORY]] [--every SECONDS]\n  mastdock verify REPORT PROOF [DEPTH CHALLENGES | --at-least DEPTH CHALLENGES]\n  mastdock chain REPORT PROOF\n  mastdock info PROOF\n  mastdock help | --help | --version\nseal    hashes 2^(DEPTH+1) - 1 labels of the report, one after the other, and writes PROOF\n        DEPTH 1 to 40, CHALLENGES 1 to 200 (150), MEMORY 0 to 14 and at most DEPTH\n        every SECONDS, 0 to 3600 (60), it leaves PROOF.run, from which the same command goes on\nverify  checks PROOF against REPORT; DEPTH and CHALLENGES are those of PROOF if not given\n        its last line begins 'accepted' or 'refused'\nchain   prints the nodes on the opened leaves' ways to the root, in labelling order\ninfo    prints what PROOF says of itself, unchecked\nREPORT may be - for standard input. Exit status: 0 sealed, accepted, drawn, told; 1 refused;\n2 could not be tried, for its words or for files.\n",
     )
 }
 
-fn status_of(said: bool, err: i32) -> u8 {
+fn status_of(said: bool, err: Stream<'_>) -> u8 {
     if said {
         return 0;
     }
@@ -23,17 +24,17 @@ fn status_of(said: bool, err: i32) -> u8 {
 }
 
 // Prints the usage.
-pub fn tell_usage(out: i32, err: i32) -> u8 {
+pub fn tell_usage(out: Stream<'_>, err: Stream<'_>) -> u8 {
     status_of(usage(out), err)
 }
 
 // Prints the program's version, and the edition of the proofs that it writes.
-pub fn tell_version(out: i32, err: i32) -> u8 {
+pub fn tell_version(out: Stream<'_>, err: Stream<'_>) -> u8 {
     status_of(say_text(out, b"mastdock 0.9 (edition 2)\n"), err)
 }
 
 // Prints one line for a problem with the words, or the usage where there is none.
-pub fn advise(problem: Problem, word: &[u8], err: i32) -> u8 {
+pub fn advise(problem: Problem, word: &[u8], err: Stream<'_>) -> u8 {
     match problem {
         Problem::NoWord => {
             usage(err);
@@ -68,7 +69,7 @@ pub fn advise(problem: Problem, word: &[u8], err: i32) -> u8 {
 }
 
 // An empty report can be sealed; prints one line that it is empty, and none for another.
-pub fn note_empty(size: u64, report: &[u8], err: i32) {
+pub fn note_empty(size: u64, report: &[u8], err: Stream<'_>) {
     if size == 0 {
         complain(
             err,
@@ -78,13 +79,13 @@ pub fn note_empty(size: u64, report: &[u8], err: i32) {
     }
 }
 
-fn say_anew(memory: u64, anew: u64, tree: u64, err: i32) {
+fn say_anew(memory: u64, anew: u64, tree: u64, err: Stream<'_>) {
     let told = lines::anew(memory, anew, tree);
     say(err, add_line(add(empty(), b"mastdock: "), told));
 }
 
 // Tells of a memory level at which the openings make more labels anew than the tree has.
-pub fn note_anew(ordered: Ordered, err: i32) {
+pub fn note_anew(ordered: Ordered, err: Stream<'_>) {
     if not_possible(NEW_EDITION, ordered.depth, ordered.memory, 0) {
         return;
     }

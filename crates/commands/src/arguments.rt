@@ -3,6 +3,10 @@ ghost use Rattle.std.specs.Prelude.{◌≤◌, ◌≡◌};
 ghost use Rattle.base.specs.Bytes.{zeros};
 
 use crate::{UNTRIED, command};
+use descriptors::Stream;
+use std::env::FillError;
+use std::fs::File;
+use std::rt::{Clock, Env, Files};
 
 // Room for eight words and one too many, each of 4,097 bytes at most.
 fn line_space() -> [u8; 40960]
@@ -12,39 +16,66 @@ fn line_space() -> [u8; 40960]
 }
 
 // Adds argument i. One that is too long for any path is cut, and so still too long.
-fn add_argument(line: &mut [u8], at: usize, i: usize) -> usize {
+fn add_argument<R: Env>(rt: &R, line: &mut [u8], at: usize, i: usize) -> usize {
     let mut word = [0u8; 4097];
-    let length = os::arg(i, &mut word);
-    if os::errno() == libc::ENAMETOOLONG {
-        return words::join(line, at, &word);
+    match rt.arg(i, &mut word) {
+        Ok(length) => words::join(line, at, &word[..length]),
+        Err(FillError::TooLong) => words::join(line, at, &word),
+        Err(FillError::NotPresent) => at,
     }
-    words::join(line, at, &word[..length])
+}
+
+// Whether there is an argument i.
+fn has_argument<R: Env>(rt: &R, i: usize) -> bool {
+    let mut word = [0u8; 4097];
+    match rt.arg(i, &mut word) {
+        Err(FillError::NotPresent) => false,
+        _ => true,
+    }
 }
 
 // The program's name and its words, of which one more than any order has is enough to see that there are too many.
-fn argument_count() -> usize
+fn argument_count<R: Env>(rt: &R) -> usize
     ensures { result ≤ 10 }
 {
-    let all = os::arg_count();
-    if 10 < all { 10 } else { all }
+    let mut count: usize = 0;
+    while count < 10 {
+        if !has_argument(rt, count) {
+            return count;
+        }
+        count += 1;
+    }
+    count
 }
 
-// Does what the program's arguments ask, and answers with the status.
-pub fn run_arguments(out: i32, err: i32) -> u8 {
+// Does what the program's arguments ask, and answers with the status. `input` is standard input.
+pub fn run_arguments<R: Env + Files<File = File> + Clock>(
+    rt: &R,
+    input: Stream<'_>,
+    out: Stream<'_>,
+    err: Stream<'_>,
+) -> u8 {
     let mut line = line_space();
-    let count = argument_count();
+    let count = argument_count(rt);
     let mut at: usize = 0;
     let mut i: usize = 1;
     while i < count {
-        at = add_argument(&mut line, at, i);
+        at = add_argument(rt, &mut line, at, i);
         i += 1;
     }
-    run(&line, at, out, err)
+    run(rt, &line, at, input, out, err)
 }
 
-fn run(line: &[u8], length: usize, out: i32, err: i32) -> u8 {
+fn run<R: Files<File = File> + Clock>(
+    rt: &R,
+    line: &[u8],
+    length: usize,
+    input: Stream<'_>,
+    out: Stream<'_>,
+    err: Stream<'_>,
+) -> u8 {
     if line.len() < length {
         return UNTRIED;
     }
-    command(&line[..length], out, err)
+    command(rt, &line[..length], input, out, err)
 }

@@ -2,8 +2,11 @@
 use crate::UNTRIED;
 use crate::advice::note_empty;
 use crate::telling::{tell_chain, tell_info, tell_verdict};
+use descriptors::Stream;
 use drawing_text::{found_in, larger};
 use files::{empty_file, load_proof, state_report};
+use std::fs::File;
+use std::rt::Files;
 
 // The verdict by the depth and count of the head, by those given, or by those at least; or the chain.
 #[derive(Clone, Copy)]
@@ -15,7 +18,7 @@ pub enum Asked {
 }
 
 // Prints what is asked.
-fn tell(asked: Asked, file: &[u8], statement: [u8; 32], out: i32, err: i32) -> u8 {
+fn tell(asked: Asked, file: &[u8], statement: [u8; 32], out: Stream<'_>, err: Stream<'_>) -> u8 {
     let found = found_in(file, statement);
     match asked {
         Asked::Verdict => tell_verdict(file, statement, found.depth, found.count, out, err),
@@ -30,14 +33,22 @@ fn tell(asked: Asked, file: &[u8], statement: [u8; 32], out: i32, err: i32) -> u
 }
 
 // Reads both files, or prints one line on `err` for what cannot be read; a line also tells that the report is empty.
-pub fn ask(asked: Asked, report: &[u8], proof: &[u8], out: i32, err: i32) -> u8 {
-    let stated = state_report(report, err);
+pub fn ask<R: Files<File = File>>(
+    rt: &R,
+    asked: Asked,
+    report: &[u8],
+    proof: &[u8],
+    input: Stream<'_>,
+    out: Stream<'_>,
+    err: Stream<'_>,
+) -> u8 {
+    let stated = state_report(rt, report, input, err);
     if !stated.good {
         return UNTRIED;
     }
     note_empty(stated.size, report, err);
     let mut file = empty_file();
-    let loaded = load_proof(proof, &mut file, err);
+    let loaded = load_proof(rt, proof, &mut file, err);
     let size = loaded.size;
     if !loaded.good {
         return UNTRIED;
@@ -47,9 +58,9 @@ pub fn ask(asked: Asked, report: &[u8], proof: &[u8], out: i32, err: i32) -> u8 
 }
 
 // Prints what a proof says of itself.
-pub fn info(proof: &[u8], out: i32, err: i32) -> u8 {
+pub fn info<R: Files<File = File>>(rt: &R, proof: &[u8], out: Stream<'_>, err: Stream<'_>) -> u8 {
     let mut file = empty_file();
-    let loaded = load_proof(proof, &mut file, err);
+    let loaded = load_proof(rt, proof, &mut file, err);
     let size = loaded.size;
     if !loaded.good {
         return UNTRIED;

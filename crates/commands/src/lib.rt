@@ -1,5 +1,5 @@
-// The program's words: seal a report, verify a proof, draw its chain, tell of a proof. Everything is told by lines on two descriptors and by
-// a status: 0 done, 1 refused, 2 could not be tried.
+// The program's words: seal a report, verify a proof, draw its chain, tell of a proof. Everything is told by lines on two streams and by a
+// status: 0 done, 1 refused, 2 could not be tried.
 #![tactic(auto)]
 
 mod advice; // advice.rt: usage, and what is wrong with the words
@@ -13,8 +13,11 @@ mod telling; // telling.rt: verdict, chain, clash and facts written
 use advice::{advise, tell_usage, tell_version};
 pub use arguments::run_arguments;
 use asking::{Asked, ask, info};
+use descriptors::Stream;
 use lines::complain;
 use seal::seal;
+use std::fs::File;
+use std::rt::{Clock, Files};
 pub use telling::say_clash;
 use words::Order;
 
@@ -32,11 +35,17 @@ pub struct Ordered {
     pub seconds: u64,
 }
 
-// Does what a line of words asks, each word ended by a byte 0. Answers go to `out`, progress and complaints to `err`. No file is
-// opened before the standard descriptors are occupied.
-pub fn command(line: &[u8], out: i32, err: i32) -> u8 {
-    if descriptors::occupy() {
-        return obey(line, out, err);
+// Does what a line of words asks, each word ended by a byte 0. `input` is standard input; answers go to `out`, progress and complaints to
+// `err`. No file is opened before the standard descriptors are occupied.
+pub fn command<R: Files<File = File> + Clock>(
+    rt: &R,
+    line: &[u8],
+    input: Stream<'_>,
+    out: Stream<'_>,
+    err: Stream<'_>,
+) -> u8 {
+    if descriptors::occupy(rt) {
+        return obey(rt, line, input, out, err);
     }
     complain(
         err,
@@ -46,7 +55,13 @@ pub fn command(line: &[u8], out: i32, err: i32) -> u8 {
     UNTRIED
 }
 
-fn obey(line: &[u8], out: i32, err: i32) -> u8 {
+fn obey<R: Files<File = File> + Clock>(
+    rt: &R,
+    line: &[u8],
+    input: Stream<'_>,
+    out: Stream<'_>,
+    err: Stream<'_>,
+) -> u8 {
     let order = words::read_order(line);
     let report = words::report(line);
     let proof = words::proof(line);
@@ -59,23 +74,33 @@ fn obey(line: &[u8], out: i32, err: i32) -> u8 {
                 memory,
                 seconds,
             };
-            seal(report, proof, ordered, out, err)
+            seal(rt, report, proof, ordered, input, out, err)
         }
-        Order::Verify => ask(Asked::Verdict, report, proof, out, err),
+        Order::Verify => ask(rt, Asked::Verdict, report, proof, input, out, err),
         Order::VerifyAs(depth, challenges) => {
             ask(
+                rt,
                 Asked::VerdictFor(depth, challenges),
                 report,
                 proof,
+                input,
                 out,
                 err,
             )
         }
         Order::VerifyAtLeast(depth, challenges) => {
-            ask(Asked::AtLeast(depth, challenges), report, proof, out, err)
+            ask(
+                rt,
+                Asked::AtLeast(depth, challenges),
+                report,
+                proof,
+                input,
+                out,
+                err,
+            )
         }
-        Order::Chain => ask(Asked::Chain, report, proof, out, err),
-        Order::Info => info(proof, out, err),
+        Order::Chain => ask(rt, Asked::Chain, report, proof, input, out, err),
+        Order::Info => info(rt, proof, out, err),
         Order::Help => tell_usage(out, err),
         Order::Version => tell_version(out, err),
     }

@@ -5,10 +5,13 @@ use crate::sealed::seal_from;
 use crate::{Ordered, REFUSED, UNTRIED};
 use base::{MAX_FILE, MAX_STORE, NEW_EDITION};
 use checkpoint::MAX_CHECKPOINT;
+use descriptors::Stream;
 use files::{
     Holding, There, empty_file, hold, is_apart, is_free, load_run, may_save, release, state_report,
 };
 use run::new_run;
+use std::fs::File;
+use std::rt::{Clock, Files};
 
 // Room for the longest checkpoint and for the openings behind it.
 const SPACE: usize = MAX_CHECKPOINT + MAX_FILE;
@@ -23,54 +26,76 @@ pub fn empty_store() -> [u8; MAX_STORE] {
 }
 
 // A seal from its start, of the edition of new runs.
-fn seal_anew(statement: [u8; 32], ordered: Ordered, proof: &[u8], out: i32, err: i32) -> u8 {
+fn seal_anew<R: Files<File = File> + Clock>(
+    rt: &R,
+    statement: [u8; 32],
+    ordered: Ordered,
+    proof: &[u8],
+    out: Stream<'_>,
+    err: Stream<'_>,
+) -> u8 {
     let run = new_run(NEW_EDITION, statement, ordered.depth, ordered.memory);
     let mut store = empty_store();
     let mut file = empty_file();
     seal_from(
-        run, 0, ordered, false, &mut store, &mut file, proof, out, err,
+        rt, run, 0, ordered, false, &mut store, &mut file, proof, out, err,
     )
 }
 
 // From its checkpoint if there is one, else from its start.
-fn seal_held(statement: [u8; 32], ordered: Ordered, proof: &[u8], out: i32, err: i32) -> u8 {
-    if !is_free(proof, err) {
+fn seal_held<R: Files<File = File> + Clock>(
+    rt: &R,
+    statement: [u8; 32],
+    ordered: Ordered,
+    proof: &[u8],
+    out: Stream<'_>,
+    err: Stream<'_>,
+) -> u8 {
+    if !is_free(rt, proof, err) {
         return UNTRIED;
     }
-    if !may_save(proof, b"mastdock run 1\n", err) {
+    if !may_save(rt, proof, b"mastdock run 1\n", err) {
         return UNTRIED;
     }
     let mut space = empty_space();
-    let there = load_run(proof, &mut space, err);
+    let there = load_run(rt, proof, &mut space, err);
     match there {
         There::Unread => UNTRIED,
-        There::Nothing => seal_anew(statement, ordered, proof, out, err),
-        There::Bytes(size) => resume(&space, size, statement, ordered, proof, out, err),
+        There::Nothing => seal_anew(rt, statement, ordered, proof, out, err),
+        There::Bytes(size) => resume(rt, &space, size, statement, ordered, proof, out, err),
     }
 }
 
 // Seals a report, if no other run works on the proof.
-pub fn seal(report: &[u8], proof: &[u8], ordered: Ordered, out: i32, err: i32) -> u8 {
-    if !is_free(proof, err) {
+pub fn seal<R: Files<File = File> + Clock>(
+    rt: &R,
+    report: &[u8],
+    proof: &[u8],
+    ordered: Ordered,
+    input: Stream<'_>,
+    out: Stream<'_>,
+    err: Stream<'_>,
+) -> u8 {
+    if !is_free(rt, proof, err) {
         return UNTRIED;
     }
-    if !is_apart(report, proof, err) {
+    if !is_apart(rt, report, proof, input, err) {
         return UNTRIED;
     }
-    let stated = state_report(report, err);
+    let stated = state_report(rt, report, input, err);
     if !stated.good {
         return UNTRIED;
     }
     note_empty(stated.size, report, err);
     note_anew(ordered, err);
-    let holding = hold(proof, err);
+    let holding = hold(rt, proof, err);
     match holding {
         Holding::Busy => REFUSED,
         Holding::Failed => UNTRIED,
         Holding::Held => {
             let statement = stated.statement;
-            let status = seal_held(statement, ordered, proof, out, err);
-            release(proof);
+            let status = seal_held(rt, statement, ordered, proof, out, err);
+            release(rt, proof);
             status
         }
     }

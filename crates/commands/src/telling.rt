@@ -1,10 +1,11 @@
-// Verdict, chain, clash and facts written to a descriptor, each in one piece.
+// Verdict, chain, clash and facts written to a stream, each in one piece.
 ghost use Rattle.std.specs.Prelude.{◌≡◌};
 ghost use Rattle.base.specs.Bytes.{zeros};
 ghost use Rattle.planning.specs.Output.{places, max_output};
 
 use crate::UNTRIED;
 use base::MAX_CHAIN;
+use descriptors::Stream;
 use drawing_text::{
     chain_status, clash_lines, found_in, info, info_status, put_drawing, verdict, verdict_status,
 };
@@ -26,7 +27,7 @@ fn empty_text() -> [u8; MAX_OUTPUT]
 }
 
 // Writes the first bytes of a text to `out`; if that fails, one line on `err` says so. The status is what was told, or 2.
-fn write_out(text: &[u8], length: usize, status: u8, out: i32, err: i32) -> u8 {
+fn write_out(text: &[u8], length: usize, status: u8, out: Stream<'_>, err: Stream<'_>) -> u8 {
     if text.len() < length {
         return UNTRIED;
     }
@@ -44,8 +45,8 @@ pub fn tell_verdict(
     statement: [u8; 32],
     depth: u64,
     count: u64,
-    out: i32,
-    err: i32,
+    out: Stream<'_>,
+    err: Stream<'_>,
 ) -> u8 {
     let mut list = empty_list();
     let drawn = draw::draw(file, statement, depth, count, &mut list);
@@ -57,7 +58,7 @@ pub fn tell_verdict(
 }
 
 // Prints `chain_text` of drawing_text's specs/Text.antt: of the drawing by the depth and count of the head.
-pub fn tell_chain(file: &[u8], statement: [u8; 32], out: i32, err: i32) -> u8 {
+pub fn tell_chain(file: &[u8], statement: [u8; 32], out: Stream<'_>, err: Stream<'_>) -> u8 {
     let found = found_in(file, statement);
     let depth = found.depth;
     let count = found.count;
@@ -70,13 +71,13 @@ pub fn tell_chain(file: &[u8], statement: [u8; 32], out: i32, err: i32) -> u8 {
 }
 
 // Prints `info_text` of drawing_text's specs/Info.antt.
-pub fn tell_info(file: &[u8], out: i32, err: i32) -> u8 {
+pub fn tell_info(file: &[u8], out: Stream<'_>, err: Stream<'_>) -> u8 {
     let line = info(file);
     let text = line.text;
     write_out(&text, line.length, info_status(file), out, err)
 }
 
 // Prints `clash_lines` of drawing_text's specs/Verdict.antt.
-pub fn say_clash(i: u64, j: u64, level: u64, first: [u8; 105], second: [u8; 105], out: i32) {
+pub fn say_clash(i: u64, j: u64, level: u64, first: [u8; 105], second: [u8; 105], out: Stream<'_>) {
     say(out, clash_lines(i, j, level, first, second));
 }

@@ -17,7 +17,7 @@ pub use named_files::{
 };
 pub use process::{Process, are_same, process_at};
 pub use same_file::names;
-pub use small_file::{behind, number_at};
+pub use small_file::{behind, number_at, read_small};
 pub use standard_streams::occupy;
 pub use stream::{Stream, error_number, is_terminal, write_all};
 pub use whole_input::{follows, read_once, read_whole};

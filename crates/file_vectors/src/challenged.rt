@@ -3,6 +3,7 @@ use base::label_at;
 use file_head::challenge;
 use opening::Opening;
 use sha256::Hash;
+use std::io::Stdout;
 use vector_helpers::{finished, hash, named, named_hex, open_to_end};
 
 // The hash state with so many bytes more.
@@ -67,6 +68,7 @@ fn all(
 }
 
 fn digests(
+    to: Stdout,
     edition: u64,
     statement: [u8; 32],
     root: [u8; 32],
@@ -77,6 +79,7 @@ fn digests(
     store: [u8; 4064],
 ) {
     named_hex(
+        to,
         b" ",
         &all(
             edition, statement, root, depth, memory, budget, count, &store,
@@ -84,23 +87,25 @@ fn digests(
     );
 }
 
-fn level(edition: u64, statement: [u8; 32], depth: u64, memory: u64, count: u64) {
+fn level(to: Stdout, edition: u64, statement: [u8; 32], depth: u64, memory: u64, count: u64) {
     let store = finished(edition, statement, depth, memory);
     let root = label_at(&store, 0);
-    named(b"file edition ", edition);
-    named(b" depth ", depth);
-    named(b" count ", count);
-    named(b" memory ", memory);
-    digests(edition, statement, root, depth, memory, 1000, count, store);
-    digests(edition, statement, root, depth, memory, 7, count, store);
-    digests(edition, statement, root, depth, memory, 1, count, store);
-    vector_helpers::end();
+    named(to, b"file edition ", edition);
+    named(to, b" depth ", depth);
+    named(to, b" count ", count);
+    named(to, b" memory ", memory);
+    digests(
+        to, edition, statement, root, depth, memory, 1000, count, store,
+    );
+    digests(to, edition, statement, root, depth, memory, 7, count, store);
+    digests(to, edition, statement, root, depth, memory, 1, count, store);
+    vector_helpers::end(to);
 }
 
-fn levels(edition: u64, statement: [u8; 32], depth: u64, count: u64) {
+fn levels(to: Stdout, edition: u64, statement: [u8; 32], depth: u64, count: u64) {
     let mut memory: u64 = 0;
     while memory <= depth {
-        level(edition, statement, depth, memory, count);
+        level(to, edition, statement, depth, memory, count);
         if memory == depth {
             return;
         }
@@ -109,10 +114,10 @@ fn levels(edition: u64, statement: [u8; 32], depth: u64, count: u64) {
 }
 
 // A line of the shared files.
-pub fn challenged(edition: u64, line: &[u8]) {
+pub fn challenged(to: Stdout, edition: u64, line: &[u8]) {
     let mut report = [0u8; 64];
     let size = vector_helpers::decode(vector_helpers::field(line, 0), &mut report);
     let depth = vector_helpers::decimal(vector_helpers::field(line, 1));
     let count = vector_helpers::decimal(vector_helpers::field(line, 2));
-    levels(edition, hash(&report[..size]), depth, count);
+    levels(to, edition, hash(&report[..size]), depth, count);
 }

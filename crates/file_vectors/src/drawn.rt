@@ -4,6 +4,7 @@ use base::{number, outcome_number};
 use chain::plan;
 use draw::{Drawing, draw};
 use proof_file::check_file_code;
+use std::io::Stdout;
 use vector_helpers::{
     challenged, column, digest_column, hash, most, named, named_hex, places_digest, write_file,
 };
@@ -18,105 +19,129 @@ fn list_space() -> [u64; 1108] {
     [9u64; 1108]
 }
 
-fn places_line(list: &[u64]) {
-    named_hex(b" ", &places_digest(list));
-    vector_helpers::end();
+fn places_line(to: Stdout, list: &[u64]) {
+    named_hex(to, b" ", &places_digest(list));
+    vector_helpers::end(to);
 }
 
-fn drawing_line(drawing: Drawing) {
+fn drawing_line(to: Stdout, drawing: Drawing) {
     match drawing {
         Drawing::NotDrawn(why, opening) => {
-            named(b" refused ", number(why));
-            column(opening as u64);
+            named(to, b" refused ", number(why));
+            column(to, opening as u64);
         }
         Drawing::Chain(count) => {
-            named(b" chain ", count);
+            named(to, b" chain ", count);
         }
         Drawing::Clash(i, j, level) => {
-            named(b" clash ", i);
-            column(j);
-            column(level);
+            named(to, b" clash ", i);
+            column(to, j);
+            column(to, level);
         }
     }
 }
 
 // Draws to a list: the answer, the inputs' digests, and the list afterwards.
-fn drawn(name: &[u8], file: &[u8], statement: [u8; 32], depth: u64, count: u64, list: &mut [u64]) {
-    vector_helpers::text(name);
+fn drawn(
+    to: Stdout,
+    name: &[u8],
+    file: &[u8],
+    statement: [u8; 32],
+    depth: u64,
+    count: u64,
+    list: &mut [u64],
+) {
+    vector_helpers::text(to, name);
     let drawn = draw(file, statement, depth, count, list);
     let drawing = drawn.drawing;
-    drawing_line(drawing);
+    drawing_line(to, drawing);
     let first = drawn.first;
     let second = drawn.second;
-    digest_column(&first);
-    digest_column(&second);
-    places_line(list);
+    digest_column(to, &first);
+    digest_column(to, &second);
+    places_line(to, list);
 }
 
 // Draws to so many places.
-fn drawn_at(name: &[u8], file: &[u8], statement: [u8; 32], depth: u64, count: u64, places: usize) {
+fn drawn_at(
+    to: Stdout,
+    name: &[u8],
+    file: &[u8],
+    statement: [u8; 32],
+    depth: u64,
+    count: u64,
+    places: usize,
+) {
     let mut list = list_space();
     if places <= 1108 {
-        drawn(name, file, statement, depth, count, &mut list[..places]);
+        drawn(to, name, file, statement, depth, count, &mut list[..places]);
     }
 }
 
 // Plans the chain of so many leaves to so many places.
-fn planned(depth: u64, leaves: &[u64], list: &mut [u64]) {
-    vector_helpers::text(b"planned");
+fn planned(to: Stdout, depth: u64, leaves: &[u64], list: &mut [u64]) {
+    vector_helpers::text(to, b"planned");
     let p = plan(depth, leaves, list);
     let outcome = p.outcome;
-    column(outcome_number(outcome));
-    column(p.count);
-    places_line(list);
+    column(to, outcome_number(outcome));
+    column(to, p.count);
+    places_line(to, list);
 }
 
-fn planned_at(depth: u64, leaves: [u64; 200], count: usize, places: usize) {
+fn planned_at(to: Stdout, depth: u64, leaves: [u64; 200], count: usize, places: usize) {
     let mut list = list_space();
     if 200 < count {
         return;
     }
     if places <= 1108 {
-        planned(depth, &leaves[..count], &mut list[..places]);
+        planned(to, depth, &leaves[..count], &mut list[..places]);
     }
 }
 
 // A file with a byte changed is refused, and the list is untouched.
-fn changed(file: &mut [u8], statement: [u8; 32], depth: u64, count: u64, at: usize) {
+fn changed(to: Stdout, file: &mut [u8], statement: [u8; 32], depth: u64, count: u64, at: usize) {
     if at < file.len() {
         file[at] = file[at] ^ 16;
-        drawn_at(b"changed", file, statement, depth, count, 1108);
+        drawn_at(to, b"changed", file, statement, depth, count, 1108);
     }
 }
 
 // The file's length, digest and answer.
-fn file_line(file: &[u8], statement: [u8; 32], depth: u64, count: u64) {
-    named(b"file ", file.len() as u64);
-    digest_column(file);
-    column(check_file_code(file, statement, depth, count));
-    vector_helpers::end();
+fn file_line(to: Stdout, file: &[u8], statement: [u8; 32], depth: u64, count: u64) {
+    named(to, b"file ", file.len() as u64);
+    digest_column(to, file);
+    column(to, check_file_code(file, statement, depth, count));
+    vector_helpers::end(to);
 }
 
 // What is drawn to lists that are long enough, and to shorter ones.
-fn drawings(file: &[u8], statement: [u8; 32], depth: u64, count: u64, places: usize) {
-    drawn_at(b"just enough", file, statement, depth, count, places);
-    drawn_at(b"more", file, statement, depth, count, 1108);
+fn drawings(to: Stdout, file: &[u8], statement: [u8; 32], depth: u64, count: u64, places: usize) {
+    drawn_at(to, b"just enough", file, statement, depth, count, places);
+    drawn_at(to, b"more", file, statement, depth, count, 1108);
     if 0 < places {
-        drawn_at(b"one short", file, statement, depth, count, places - 1);
+        drawn_at(to, b"one short", file, statement, depth, count, places - 1);
     }
-    drawn_at(b"none", file, statement, depth, count, 0);
+    drawn_at(to, b"none", file, statement, depth, count, 0);
 }
 
 // The file, and what is drawn from it; then from fewer challenges, and from a changed file.
-fn file_lines(file: &mut [u8], statement: [u8; 32], depth: u64, count: u64, places: usize) {
-    file_line(file, statement, depth, count);
-    drawings(file, statement, depth, count, places);
-    drawn_at(b"not wanted", file, statement, depth, 1, 1108);
-    changed(file, statement, depth, count, 5000);
+fn file_lines(
+    to: Stdout,
+    file: &mut [u8],
+    statement: [u8; 32],
+    depth: u64,
+    count: u64,
+    places: usize,
+) {
+    file_line(to, file, statement, depth, count);
+    drawings(to, file, statement, depth, count, places);
+    drawn_at(to, b"not wanted", file, statement, depth, 1, 1108);
+    changed(to, file, statement, depth, count, 5000);
 }
 
 // One memory level.
 fn level(
+    to: Stdout,
     edition: u64,
     statement: [u8; 32],
     depth: u64,
@@ -128,15 +153,15 @@ fn level(
     let mut file = file_space();
     let root = write_file(edition, statement, depth, memory, count, &mut file);
     if size < 83269 {
-        column(base::wide(file[size]));
-        vector_helpers::end();
-        file_lines(&mut file[..size], statement, depth, count, places);
+        column(to, base::wide(file[size]));
+        vector_helpers::end(to);
+        file_lines(to, &mut file[..size], statement, depth, count, places);
     }
     let leaves = challenged(edition, depth, statement, root);
-    planned_at(depth, leaves, count as usize, places);
+    planned_at(to, depth, leaves, count as usize, places);
 }
 
-pub fn drawn_and_planned(edition: u64, line: &[u8]) {
+pub fn drawn_and_planned(to: Stdout, edition: u64, line: &[u8]) {
     let mut report = [0u8; 64];
     let length = vector_helpers::decode(vector_helpers::field(line, 0), &mut report);
     let statement = hash(&report[..length]);
@@ -144,8 +169,17 @@ pub fn drawn_and_planned(edition: u64, line: &[u8]) {
     let count = vector_helpers::decimal(vector_helpers::field(line, 2));
     let size = vector_helpers::decimal(vector_helpers::field(line, 3)) as usize;
     let places = vector_helpers::decimal(vector_helpers::field(line, 5)) as usize;
-    named(b"vector ", edition);
-    level(edition, statement, depth, most(depth), count, size, places);
-    named(b"vector ", edition);
-    level(edition, statement, depth, 8, count, size, places);
+    named(to, b"vector ", edition);
+    level(
+        to,
+        edition,
+        statement,
+        depth,
+        most(depth),
+        count,
+        size,
+        places,
+    );
+    named(to, b"vector ", edition);
+    level(to, edition, statement, depth, 8, count, size, places);
 }

@@ -1,16 +1,17 @@
 // Refusals of starting and continuing to write a file, at their edges.
 use base::outcome_number;
 use opening::Opening;
+use std::io::Stdout;
 use vector_helpers::{LEVEL_EDGES, column, digest_column, flag_digest, hash, level_edge, named};
 use writing::Writing;
 
 // What starting answers, and whether the file is changed.
-fn starts(edition: u64, n: u64, m: u64, t: u64, store: &[u8], file: &mut [u8]) {
+fn starts(to: Stdout, edition: u64, n: u64, m: u64, t: u64, store: &[u8], file: &mut [u8]) {
     let before = hash(file);
     let start = Writing::start(edition, [7u8; 32], [8u8; 32], n, m, t, store, file);
     let outcome = start.outcome;
-    named(b": start ", outcome_number(outcome));
-    flag_digest(before, file);
+    named(to, b": start ", outcome_number(outcome));
+    flag_digest(to, before, file);
 }
 
 // An opening under way in a file under writing.
@@ -35,34 +36,34 @@ fn under_way(edition: u64, n: u64, m: u64, t: u64, number: u64, leaf: u64, made:
 }
 
 // The same of continuing by one label.
-fn continues(writing: Writing, store: &[u8], file: &mut [u8]) {
+fn continues(to: Stdout, writing: Writing, store: &[u8], file: &mut [u8]) {
     let before = hash(file);
     let step = writing.advance(1, store, file);
     let outcome = step.outcome;
-    named(b" continue ", outcome_number(outcome));
-    named(b" labels ", step.labels);
-    named(b" blocks ", step.blocks);
-    flag_digest(before, file);
+    named(to, b" continue ", outcome_number(outcome));
+    named(to, b" labels ", step.labels);
+    named(to, b" blocks ", step.blocks);
+    flag_digest(to, before, file);
     let after = step.writing;
-    whole(after);
+    whole(to, after);
 }
 
 // Every number of a writing, and the digests of its root, statement and places.
-fn whole(writing: Writing) {
+fn whole(to: Stdout, writing: Writing) {
     let root = writing.root;
     let opening = writing.opening;
     let statement = opening.statement;
     let held = opening.held;
-    column(writing.count);
-    column(writing.number);
-    column(opening.edition);
-    column(opening.depth);
-    column(opening.memory);
-    column(opening.leaf);
-    column(opening.made);
-    digest_column(&root);
-    digest_column(&statement);
-    digest_column(&held);
+    column(to, writing.count);
+    column(to, writing.number);
+    column(to, opening.edition);
+    column(to, opening.depth);
+    column(to, opening.memory);
+    column(to, opening.leaf);
+    column(to, opening.made);
+    digest_column(to, &root);
+    digest_column(to, &statement);
+    digest_column(to, &held);
 }
 
 // Room for every memory level.
@@ -70,7 +71,7 @@ fn space() -> [u8; 1048544] {
     [1u8; 1048544]
 }
 
-fn starts_at(edition: u64, n: u64, m: u64, t: u64, store: usize, file: usize) {
+fn starts_at(to: Stdout, edition: u64, n: u64, m: u64, t: u64, store: usize, file: usize) {
     let space = space();
     let mut output = [2u8; 1379];
     if 1048544 < store {
@@ -79,10 +80,10 @@ fn starts_at(edition: u64, n: u64, m: u64, t: u64, store: usize, file: usize) {
     if 1379 < file {
         return;
     }
-    starts(edition, n, m, t, &space[..store], &mut output[..file]);
+    starts(to, edition, n, m, t, &space[..store], &mut output[..file]);
 }
 
-fn continues_at(writing: Writing, store: usize, file: usize) {
+fn continues_at(to: Stdout, writing: Writing, store: usize, file: usize) {
     let space = space();
     let mut output = [2u8; 1379];
     if 1048544 < store {
@@ -91,11 +92,12 @@ fn continues_at(writing: Writing, store: usize, file: usize) {
     if 1379 < file {
         return;
     }
-    continues(writing, &space[..store], &mut output[..file]);
+    continues(to, writing, &space[..store], &mut output[..file]);
 }
 
 // Starting with these numbers, and continuing opening `number` with `made` labels made.
 fn edge(
+    to: Stdout,
     edition: u64,
     n: u64,
     m: u64,
@@ -106,24 +108,30 @@ fn edge(
     store: usize,
     file: usize,
 ) {
-    named(b"edge ", edition);
-    column(n);
-    column(m);
-    column(t);
-    column(number);
-    column(leaf);
-    column(made);
-    column(store as u64);
-    column(file as u64);
-    starts_at(edition, n, m, t, store, file);
-    continues_at(under_way(edition, n, m, t, number, leaf, made), store, file);
-    vector_helpers::end();
+    named(to, b"edge ", edition);
+    column(to, n);
+    column(to, m);
+    column(to, t);
+    column(to, number);
+    column(to, leaf);
+    column(to, made);
+    column(to, store as u64);
+    column(to, file as u64);
+    starts_at(to, edition, n, m, t, store, file);
+    continues_at(
+        to,
+        under_way(edition, n, m, t, number, leaf, made),
+        store,
+        file,
+    );
+    vector_helpers::end(to);
 }
 
-fn starting() {
-    edge(2, 0, 0, 1, 1, 0, 0, 32, 131);
-    edge(2, 41, 0, 1, 1, 0, 0, 32, 1024);
+fn starting(to: Stdout) {
+    edge(to, 2, 0, 0, 1, 1, 0, 0, 32, 131);
+    edge(to, 2, 41, 0, 1, 1, 0, 0, 32, 1024);
     edge(
+        to,
         2,
         18446744073709551615,
         18446744073709551615,
@@ -134,66 +142,66 @@ fn starting() {
         0,
         0,
     );
-    edge(2, 3, 4, 1, 1, 0, 0, 992, 1024);
-    edge(2, 3, 3, 1, 1, 7, 0, 479, 1024);
-    edge(2, 3, 3, 1, 1, 7, 0, 480, 194);
-    edge(2, 3, 3, 1, 1, 7, 0, 480, 195);
-    edge(2, 3, 3, 0, 1, 7, 0, 480, 1024);
-    edge(2, 3, 3, 201, 1, 7, 0, 480, 1024);
-    edge(2, 3, 3, 0, 1, 7, 0, 479, 0);
-    edge(2, 3, 3, 0, 1, 7, 0, 480, 0);
-    edge(2, 40, 0, 1, 1, 0, 0, 32, 1024);
-    edge(2, 1, 0, 1, 1, 0, 0, 32, 131);
-    edge(2, 1, 0, 1, 1, 0, 0, 32, 130);
-    edge(2, 1, 0, 1, 1, 0, 0, 31, 130);
+    edge(to, 2, 3, 4, 1, 1, 0, 0, 992, 1024);
+    edge(to, 2, 3, 3, 1, 1, 7, 0, 479, 1024);
+    edge(to, 2, 3, 3, 1, 1, 7, 0, 480, 194);
+    edge(to, 2, 3, 3, 1, 1, 7, 0, 480, 195);
+    edge(to, 2, 3, 3, 0, 1, 7, 0, 480, 1024);
+    edge(to, 2, 3, 3, 201, 1, 7, 0, 480, 1024);
+    edge(to, 2, 3, 3, 0, 1, 7, 0, 479, 0);
+    edge(to, 2, 3, 3, 0, 1, 7, 0, 480, 0);
+    edge(to, 2, 40, 0, 1, 1, 0, 0, 32, 1024);
+    edge(to, 2, 1, 0, 1, 1, 0, 0, 32, 131);
+    edge(to, 2, 1, 0, 1, 1, 0, 0, 32, 130);
+    edge(to, 2, 1, 0, 1, 1, 0, 0, 31, 130);
 }
 
-fn continuing() {
-    edge(2, 3, 1, 2, 1, 7, 0, 96, 323);
-    edge(2, 3, 1, 2, 2, 7, 0, 96, 323);
-    edge(2, 3, 1, 2, 3, 7, 0, 96, 323);
-    edge(2, 3, 1, 2, 0, 7, 0, 96, 323);
-    edge(2, 3, 1, 2, 2, 8, 0, 96, 323);
-    edge(2, 3, 1, 2, 2, 7, 6, 96, 323);
-    edge(2, 3, 1, 2, 2, 7, 7, 96, 323);
-    edge(2, 3, 1, 2, 2, 7, 7, 95, 322);
-    edge(2, 3, 1, 2, 2, 7, 6, 95, 322);
-    edge(2, 3, 1, 2, 2, 7, 6, 96, 322);
-    edge(2, 3, 1, 2, 18446744073709551615, 7, 0, 96, 323);
-    edge(2, 3, 1, 18446744073709551615, 1, 7, 0, 96, 323);
-    edge(2, 3, 1, 2, 1, 18446744073709551615, 0, 96, 323);
-    edge(2, 3, 1, 2, 1, 7, 18446744073709551615, 96, 323);
+fn continuing(to: Stdout) {
+    edge(to, 2, 3, 1, 2, 1, 7, 0, 96, 323);
+    edge(to, 2, 3, 1, 2, 2, 7, 0, 96, 323);
+    edge(to, 2, 3, 1, 2, 3, 7, 0, 96, 323);
+    edge(to, 2, 3, 1, 2, 0, 7, 0, 96, 323);
+    edge(to, 2, 3, 1, 2, 2, 8, 0, 96, 323);
+    edge(to, 2, 3, 1, 2, 2, 7, 6, 96, 323);
+    edge(to, 2, 3, 1, 2, 2, 7, 7, 96, 323);
+    edge(to, 2, 3, 1, 2, 2, 7, 7, 95, 322);
+    edge(to, 2, 3, 1, 2, 2, 7, 6, 95, 322);
+    edge(to, 2, 3, 1, 2, 2, 7, 6, 96, 322);
+    edge(to, 2, 3, 1, 2, 18446744073709551615, 7, 0, 96, 323);
+    edge(to, 2, 3, 1, 18446744073709551615, 1, 7, 0, 96, 323);
+    edge(to, 2, 3, 1, 2, 1, 18446744073709551615, 0, 96, 323);
+    edge(to, 2, 3, 1, 2, 1, 7, 18446744073709551615, 96, 323);
 }
 
 // The edges of the memory level's limit.
-fn level_edges() {
+fn level_edges(to: Stdout) {
     let mut i: usize = 0;
     while i < LEVEL_EDGES {
         let at = level_edge(i);
-        edge(2, at.depth, at.memory, 1, 1, 0, 0, at.store, 1379);
+        edge(to, 2, at.depth, at.memory, 1, 1, 0, 0, at.store, 1379);
         i += 1;
     }
 }
 
 // Editions that exist or not, with other numbers that are right, and with all of them wrong.
-fn edition_edges(edition: u64) {
-    edge(edition, 3, 1, 2, 2, 7, 0, 96, 323);
-    edge(edition, 3, 1, 2, 2, 7, 0, 95, 322);
-    edge(edition, 41, 42, 0, 0, 8, 7, 0, 0);
+fn edition_edges(to: Stdout, edition: u64) {
+    edge(to, edition, 3, 1, 2, 2, 7, 0, 96, 323);
+    edge(to, edition, 3, 1, 2, 2, 7, 0, 95, 322);
+    edge(to, edition, 41, 42, 0, 0, 8, 7, 0, 0);
 }
 
-fn editions() {
-    edition_edges(0);
-    edition_edges(1);
-    edition_edges(2);
-    edition_edges(3);
-    edition_edges(4294967298);
-    edition_edges(18446744073709551615);
+fn editions(to: Stdout) {
+    edition_edges(to, 0);
+    edition_edges(to, 1);
+    edition_edges(to, 2);
+    edition_edges(to, 3);
+    edition_edges(to, 4294967298);
+    edition_edges(to, 18446744073709551615);
 }
 
-pub fn edges() {
-    starting();
-    continuing();
-    level_edges();
-    editions();
+pub fn edges(to: Stdout) {
+    starting(to);
+    continuing(to);
+    level_edges(to);
+    editions(to);
 }

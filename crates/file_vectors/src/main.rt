@@ -14,8 +14,12 @@ mod written; // written.rt: the shared files written again
 use challenged::challenged;
 use checks::checked;
 use compared::compared;
+use descriptors::{Stream, read_small, read_whole};
 use drawn::drawn_and_planned;
 use edges::edges;
+use std::fs::File;
+use std::io::Stdout;
+use std::rt::Files;
 use written::written;
 
 // What is done with a line.
@@ -27,67 +31,80 @@ enum Task {
     Draw,
 }
 
-fn vector(task: Task, edition: u64, line: &[u8]) {
+fn vector(to: Stdout, task: Task, edition: u64, line: &[u8]) {
     match task {
-        Task::Write => written(edition, line),
-        Task::Open => challenged(edition, line),
-        Task::Check => checked(line),
-        Task::Draw => drawn_and_planned(edition, line),
+        Task::Write => written(to, edition, line),
+        Task::Open => challenged(to, edition, line),
+        Task::Check => checked(to, line),
+        Task::Draw => drawn_and_planned(to, edition, line),
     }
 }
 
-fn every_line(task: Task, edition: u64, text: &[u8]) {
+fn every_line(to: Stdout, task: Task, edition: u64, text: &[u8]) {
     let mut at: usize = 0;
     while at < text.len() {
         let end = vector_helpers::line_end(text, at);
         let line = &text[at..end];
         if !vector_helpers::is_comment(line) {
-            vector(task, edition, line);
+            vector(to, task, edition, line);
         }
         at = end + 1;
     }
 }
 
-// The files of an edition, read from a descriptor.
-fn shared_files(edition: u64, descriptor: i32) {
-    let mut input = io::large_buffer();
-    let read = io::read_full(descriptor, &mut input);
-    every_line(Task::Write, edition, &input[..read]);
-    every_line(Task::Open, edition, &input[..read]);
+// The files of an edition.
+fn shared_files(to: Stdout, edition: u64, text: &[u8]) {
+    every_line(to, Task::Write, edition, text);
+    every_line(to, Task::Open, edition, text);
+}
+
+// The files of edition 1 are the standard input.
+fn first_files(to: Stdout, from: Stream<'_>) {
+    let mut text = [0u8; 65536];
+    let input = read_whole(from, &mut text);
+    let size = input.size;
+    shared_files(to, 1, &text[..size]);
+}
+
+fn second_files<R: Files<File = File>>(rt: &R, to: Stdout, name: &[u8]) {
+    let mut text = [0u8; 65536];
+    let read = read_small(rt, name, &mut text);
+    shared_files(to, 2, &text[..read]);
 }
 
 // The checks of a file of data, in which each proof says its edition.
-fn shared_checks(name: &[u8]) {
-    let mut input = io::large_buffer();
-    let read = io::read_full(os::open_read(name), &mut input);
-    every_line(Task::Check, 0, &input[..read]);
+fn shared_checks<R: Files<File = File>>(rt: &R, to: Stdout, name: &[u8]) {
+    let mut text = [0u8; 65536];
+    let read = read_small(rt, name, &mut text);
+    every_line(to, Task::Check, 0, &text[..read]);
 }
 
 // The same, with every file that differs from the first of them in one bit.
-fn checks_and_bits(name: &[u8]) {
-    let mut input = io::large_buffer();
-    let read = io::read_full(os::open_read(name), &mut input);
-    every_line(Task::Check, 0, &input[..read]);
-    checks::first(&input[..read]);
+fn checks_and_bits<R: Files<File = File>>(rt: &R, to: Stdout, name: &[u8]) {
+    let mut text = [0u8; 65536];
+    let read = read_small(rt, name, &mut text);
+    every_line(to, Task::Check, 0, &text[..read]);
+    checks::first(to, &text[..read]);
 }
 
-fn shared_chains(edition: u64, name: &[u8]) {
-    let mut input = io::large_buffer();
-    let read = io::read_full(os::open_read(name), &mut input);
-    every_line(Task::Draw, edition, &input[..read]);
+fn shared_chains<R: Files<File = File>>(rt: &R, to: Stdout, edition: u64, name: &[u8]) {
+    let mut text = [0u8; 65536];
+    let read = read_small(rt, name, &mut text);
+    every_line(to, Task::Draw, edition, &text[..read]);
 }
 
-fn main() {
-    shared_files(1, 0);
-    shared_files(2, os::open_read(b"files-2"));
-    edges();
-    checks_and_bits(b"checks");
-    checks_and_bits(b"checks-2");
-    shared_checks(b"checks-number");
-    checks::rows();
-    shared_chains(1, b"chains");
-    shared_chains(2, b"chains-2");
-    compared(1);
-    compared(2);
-    compared::edges();
+fn main(rt: HostRuntime) {
+    let to = rt.stdout();
+    first_files(to, Stream::Input(rt.stdin()));
+    second_files(&rt, to, b"files-2");
+    edges(to);
+    checks_and_bits(&rt, to, b"checks");
+    checks_and_bits(&rt, to, b"checks-2");
+    shared_checks(&rt, to, b"checks-number");
+    checks::rows(to);
+    shared_chains(&rt, to, 1, b"chains");
+    shared_chains(&rt, to, 2, b"chains-2");
+    compared(to, 1);
+    compared(to, 2);
+    compared::edges(to);
 }

@@ -1,26 +1,27 @@
 // Openings of a file read as parts of its bytes.
 use proof_file::opening_part;
+use std::io::Stdout;
 use vector_helpers::{column, digest_column, named};
 
 // The length and digest of opening i.
-fn part(file: &[u8], i: u64) {
+fn part(to: Stdout, file: &[u8], i: u64) {
     let bytes = opening_part(file, i);
-    named(b"part ", i);
-    column(bytes.len() as u64);
-    digest_column(bytes);
-    vector_helpers::end();
+    named(to, b"part ", i);
+    column(to, bytes.len() as u64);
+    digest_column(to, bytes);
+    vector_helpers::end(to);
 }
 
 // Openings 0 to count + 1, of which the first and the last are none.
-pub fn every_part(file: &[u8], count: u64) {
+pub fn every_part(to: Stdout, file: &[u8], count: u64) {
     let mut left = count;
-    part(file, 0);
-    part(file, 18446744073709551615);
+    part(to, file, 0);
+    part(to, file, 18446744073709551615);
     while 0 < left {
-        part(file, left);
+        part(to, file, left);
         left -= 1;
     }
     if count < 1000 {
-        part(file, count + 1);
+        part(to, file, count + 1);
     }
 }

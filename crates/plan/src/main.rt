@@ -1,8 +1,13 @@
 // The planning program: reads standard input, answers on standard output.
 #![tactic(auto)]
 
-fn main() {
-    if descriptors::occupy() {
-        plan_command::plan(0, 1, 2);
+use descriptors::Stream;
+
+fn main(rt: HostRuntime) {
+    if descriptors::occupy(&rt) {
+        let input = Stream::Input(rt.stdin());
+        let out = Stream::Output(rt.stdout());
+        let err = Stream::Error(rt.stderr());
+        plan_command::plan(input, out, err);
     }
 }

@@ -1,4 +1,4 @@
-// The planning program over descriptors. What it prints is `printed` of planning's specs/Output.antt.
+// The planning program over streams. What it prints is `printed` of planning's specs/Output.antt.
 #![tactic(auto)]
 
 ghost use Rattle.std.specs.Prelude.{◌+◌, ◌≡◌};
@@ -7,7 +7,7 @@ ghost use Rattle.base.specs.Limits.{max_input};
 ghost use Rattle.planning.specs.Output.{max_output};
 
 use base::MAX_INPUT;
-use descriptors::read_whole;
+use descriptors::{Stream, read_whole, write_all};
 use planning::MAX_OUTPUT;
 
 // One byte more than an input may have.
@@ -24,25 +24,25 @@ fn output_space() -> [u8; MAX_OUTPUT]
     [0; MAX_OUTPUT]
 }
 
-fn emit(to: i32, output: &[u8], count: usize) -> bool {
+fn emit(to: Stream<'_>, output: &[u8], count: usize) -> bool {
     if output.len() < count {
         return false;
     }
-    io::write_all(to, &output[..count])
+    write_all(to, &output[..count]).is_ok()
 }
 
 // Reads an input, and answers it; an input that cannot be read and an answer that cannot be written are told.
-pub fn plan(from: i32, to: i32, err: i32) {
+pub fn plan(from: Stream<'_>, to: Stream<'_>, err: Stream<'_>) {
     let mut space = input_space();
     let input = read_whole(from, &mut space);
     let size = input.size;
     if input.failed {
-        io::write_all(err, b"plan: the input could not be read\n");
+        let _ = write_all(err, b"plan: the input could not be read\n");
         return;
     }
     let mut output = output_space();
     let count = planning::answer(&space[..size], &mut output);
     if !emit(to, &output, count) {
-        io::write_all(err, b"plan: the answer could not be written\n");
+        let _ = write_all(err, b"plan: the answer could not be written\n");
     }
 }

@@ -9,13 +9,14 @@ use paused::paused;
 use taken_up::{editions, taken_up};
 use written::{no_edition, written};
 
-fn main() {
-    written(1);
-    written(2);
-    no_edition();
-    paused(1);
-    paused(2);
-    taken_up(1);
-    taken_up(2);
-    editions();
+fn main(rt: HostRuntime) {
+    let to = rt.stdout();
+    written(to, 1);
+    written(to, 2);
+    no_edition(to);
+    paused(to, 1);
+    paused(to, 2);
+    taken_up(to, 1);
+    taken_up(to, 2);
+    editions(to);
 }

@@ -17,9 +17,12 @@ use file_head::{challenge, file_size};
 use opening::Opening;
 use progress::{Progress, tick};
 use run::Run;
+use std::fs::File;
+use std::rt::{Clock, Files};
 
 // The opening of a leaf over the front of `part`, a portion a call.
-fn open_leaf(
+fn open_leaf<'a, R: Clock>(
+    rt: &R,
     edition: u64,
     statement: [u8; 32],
     depth: u64,
@@ -27,8 +30,8 @@ fn open_leaf(
     leaf: u64,
     store: &[u8],
     part: &mut [u8],
-    progress: Progress,
-) -> Progress
+    progress: Progress<'a>,
+) -> Progress<'a>
     requires { Openable edition depth memory leaf (length store.now) (length part.old) }
     ensures { HoldsLabels edition statement depth memory store.now
         → part.new ≡ opening_of edition statement depth leaf ++ drop (opening_size depth) part.old }
@@ -43,14 +46,15 @@ fn open_leaf(
         let next = call.opening;
         state = next;
         left -= budget;
-        let ticked = tick(current, budget);
+        let ticked = tick(rt, current, budget);
         current = ticked;
     }
     current
 }
 
 // Opening i in its part of the file.
-fn open_in_file(
+fn open_in_file<'a, R: Clock>(
+    rt: &R,
     edition: u64,
     statement: [u8; 32],
     root: [u8; 32],
@@ -60,8 +64,8 @@ fn open_in_file(
     i: u64,
     store: &[u8],
     file: &mut [u8],
-    progress: Progress,
-) -> Progress
+    progress: Progress<'a>,
+) -> Progress<'a>
     requires { Room edition depth memory count i (length store.now) (length file.old) }
     ensures { HoldsLabels edition statement depth memory store.now
         → file.new ≡ written file.old (opening_from depth (head_size depth count) i)
@@ -72,6 +76,7 @@ fn open_in_file(
     let from = file_size(depth, count) - ((count + 1 - i) as usize) * size;
     let end = from + size;
     open_leaf(
+        rt,
         edition,
         statement,
         depth,
@@ -84,7 +89,8 @@ fn open_in_file(
 }
 
 // The openings after the first `done`. Those before stand in the file already, behind its head.
-pub fn open_rest(
+pub fn open_rest<'a, R: Files<File = File> + Clock>(
+    rt: &R,
     run: Run,
     root: [u8; 32],
     count: u64,
@@ -92,8 +98,8 @@ pub fn open_rest(
     store: &[u8],
     file: &mut [u8],
     proof: &[u8],
-    progress: Progress,
-) -> Progress
+    progress: Progress<'a>,
+) -> Progress<'a>
     requires { Writable run.edition run.depth run.memory count (length store.now) (length file.old) × (done ≤ count)
         × (run.made ≡ nodes_in run.depth) }
     ensures { root ≡ root_of run.edition run.statement run.depth
@@ -107,6 +113,7 @@ pub fn open_rest(
     while i < count {
         i += 1;
         let opened = open_in_file(
+            rt,
             run.edition,
             statement,
             root,
@@ -118,7 +125,7 @@ pub fn open_rest(
             file,
             current,
         );
-        let later = save_opening(opened, run, count, i, store, file, proof);
+        let later = save_opening(rt, opened, run, count, i, store, file, proof);
         current = later;
     }
     current

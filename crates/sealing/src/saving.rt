@@ -4,11 +4,14 @@ ghost use Rattle.tree.specs.Walk.{nodes_in};
 
 use base::{MAX_CHALLENGES, MAX_DEPTH};
 use checkpoint::{MAX_CHECKPOINT, write_checkpoint};
+use descriptors::Stream;
 use file_head::file_size;
 use progress::{
     Progress, appended, is_due, is_due_after_labels, is_due_at_end, is_sync_due, saved,
 };
 use run::Run;
+use std::fs::File;
+use std::rt::{Clock, Files};
 
 fn empty_space() -> [u8; MAX_CHECKPOINT] {
     [0u8; MAX_CHECKPOINT]
@@ -32,22 +35,37 @@ fn between(bytes: &[u8], from: usize, end: usize) -> &[u8] {
 }
 
 // The checkpoint of a run, with the openings that are finished behind it. Answers whether it is on the disk.
-fn save_all(run: Run, count: u64, store: &[u8], openings: &[u8], proof: &[u8], err: i32) -> bool {
+fn save_all<R: Files<File = File>>(
+    rt: &R,
+    run: Run,
+    count: u64,
+    store: &[u8],
+    openings: &[u8],
+    proof: &[u8],
+    err: Stream<'_>,
+) -> bool {
     let mut space = empty_space();
     let written = write_checkpoint(run, count, store, &mut space);
     if written.size == 0 {
         return false;
     }
-    files::save(proof, front(&space, written.size), openings, err)
+    files::save(rt, proof, front(&space, written.size), openings, err)
 }
 
 // The checkpoint of a run under way, if it is due.
-pub fn save_run(progress: Progress, run: Run, count: u64, store: &[u8], proof: &[u8]) -> Progress {
-    if !is_due(progress) {
+pub fn save_run<'a, R: Files<File = File> + Clock>(
+    rt: &R,
+    progress: Progress<'a>,
+    run: Run,
+    count: u64,
+    store: &[u8],
+    proof: &[u8],
+) -> Progress<'a> {
+    if !is_due(rt, progress) {
         return progress;
     }
-    save_all(run, count, store, b"", proof, progress.err);
-    saved(progress, false)
+    save_all(rt, run, count, store, b"", proof, progress.err);
+    saved(rt, progress, false)
 }
 
 // Where opening i ends in the file; 0 where there is none such. Opening 0 is the head.
@@ -73,16 +91,17 @@ fn opening_start(depth: u64, count: u64, i: u64) -> usize {
 }
 
 // The checkpoint of the finished run with the first i openings, if it is due.
-fn save_finished(
+fn save_finished<'a, R: Files<File = File> + Clock>(
+    rt: &R,
     due: bool,
-    progress: Progress,
+    progress: Progress<'a>,
     run: Run,
     count: u64,
     i: u64,
     store: &[u8],
     file: &[u8],
     proof: &[u8],
-) -> Progress
+) -> Progress<'a>
     requires { run.made ≡ nodes_in run.depth }
 {
     if !due {
@@ -91,6 +110,7 @@ fn save_finished(
     let from = opening_end(run.depth, count, 0);
     let end = opening_end(run.depth, count, i);
     let good = save_all(
+        rt,
         run,
         count,
         store,
@@ -98,44 +118,46 @@ fn save_finished(
         proof,
         progress.err,
     );
-    saved(progress, good)
+    saved(rt, progress, good)
 }
 
 // All labels are made, and i openings.
-pub fn save_after_labels(
-    progress: Progress,
+pub fn save_after_labels<'a, R: Files<File = File> + Clock>(
+    rt: &R,
+    progress: Progress<'a>,
     run: Run,
     count: u64,
     i: u64,
     store: &[u8],
     file: &[u8],
     proof: &[u8],
-) -> Progress
+) -> Progress<'a>
     requires { run.made ≡ nodes_in run.depth }
 {
-    let due = is_due_after_labels(progress);
-    save_finished(due, progress, run, count, i, store, file, proof)
+    let due = is_due_after_labels(rt, progress);
+    save_finished(rt, due, progress, run, count, i, store, file, proof)
 }
 
 // Opening i goes behind the checkpoint of the finished run; where that is not there yet it is written when it is due.
-pub fn save_opening(
-    progress: Progress,
+pub fn save_opening<'a, R: Files<File = File> + Clock>(
+    rt: &R,
+    progress: Progress<'a>,
     run: Run,
     count: u64,
     i: u64,
     store: &[u8],
     file: &[u8],
     proof: &[u8],
-) -> Progress
+) -> Progress<'a>
     requires { run.made ≡ nodes_in run.depth }
 {
     if !progress.ended {
-        let due = is_due_at_end(progress);
-        return save_finished(due, progress, run, count, i, store, file, proof);
+        let due = is_due_at_end(rt, progress);
+        return save_finished(rt, due, progress, run, count, i, store, file, proof);
     }
     let from = opening_start(run.depth, count, i);
     let end = opening_end(run.depth, count, i);
-    let sync = is_sync_due(progress);
-    let good = files::save_opening(proof, between(file, from, end), sync);
-    appended(progress, good, sync)
+    let sync = is_sync_due(rt, progress);
+    let good = files::save_opening(rt, proof, between(file, from, end), sync);
+    appended(rt, progress, good, sync)
 }

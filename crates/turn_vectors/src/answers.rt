@@ -2,31 +2,32 @@
 use base::{HELD_SIZE, MAX_RUNS, big_endian, outcome_number};
 use run::Run;
 use sha256::Hash;
+use std::io::Stdout;
 use unit::{Served, StampingUnit};
 use vector_helpers::{column, named, named_hex};
 
 // The labels made of each place.
-fn made_columns(runs: [Run; MAX_RUNS]) {
+fn made_columns(to: Stdout, runs: [Run; MAX_RUNS]) {
     let mut i: usize = 0;
     while i < MAX_RUNS {
         let run = runs[i];
-        column(run.made);
+        column(to, run.made);
         i += 1;
     }
 }
 
 // Refusal, labels, blocks, the run served last and the labels made of each place.
-pub fn answer_line(budget: u64, served: Served) {
+pub fn answer_line(to: Stdout, budget: u64, served: Served) {
     let outcome = served.outcome;
     let unit = served.unit;
     let runs = unit.runs;
-    named(b"budget ", budget);
-    column(outcome_number(outcome));
-    column(served.labels);
-    column(served.blocks);
-    column(unit.last);
-    made_columns(runs);
-    vector_helpers::end();
+    named(to, b"budget ", budget);
+    column(to, outcome_number(outcome));
+    column(to, served.labels);
+    column(to, served.blocks);
+    column(to, unit.last);
+    made_columns(to, runs);
+    vector_helpers::end(to);
 }
 
 fn with_number(state: Hash, x: u64) -> Hash {
@@ -69,28 +70,28 @@ fn with_runs(before: Hash, runs: [Run; MAX_RUNS]) -> Hash {
 }
 
 // The digest of a whole unit: the number of runs, the run served last, and all places.
-pub fn unit_digest(unit: StampingUnit) {
+pub fn unit_digest(to: Stdout, unit: StampingUnit) {
     let runs = unit.runs;
     let count = with_number(Hash::new(), unit.count);
     let last = with_number(count, unit.last);
     let end = with_runs(last, runs).finish();
     let digest = end.digest;
-    named_hex(b" ", &digest);
+    named_hex(to, b" ", &digest);
 }
 
-fn place(unit: StampingUnit, name: u64, store: &[u8]) {
+fn place(to: Stdout, unit: StampingUnit, name: u64, store: &[u8]) {
     let at = unit.store_place(name, store);
-    column(at.offset as u64);
-    column(at.length as u64);
+    column(to, at.offset as u64);
+    column(to, at.length as u64);
 }
 
 // Where the store of each name lies: of 0 to 9, of 2^32 + 1 and of the greatest number.
-pub fn places(unit: StampingUnit, store: &[u8]) {
+pub fn places(to: Stdout, unit: StampingUnit, store: &[u8]) {
     let mut name: u64 = 0;
     while name < 10 {
-        place(unit, name, store);
+        place(to, unit, name, store);
         name += 1;
     }
-    place(unit, 4294967297, store);
-    place(unit, 18446744073709551615, store);
+    place(to, unit, 4294967297, store);
+    place(to, unit, 18446744073709551615, store);
 }

@@ -2,6 +2,7 @@
 // call, and then where the stores lie and the digests of the unit and of all that was lent.
 use crate::answers::{answer_line, places, unit_digest};
 use crate::given::{number_at, unit_of};
+use std::io::Stdout;
 use unit::StampingUnit;
 use vector_helpers::{column, digest_column, named, text};
 
@@ -16,14 +17,14 @@ fn large_space() -> [u8; 2097088] {
 }
 
 // So many calls with the budgets from field 4 on. The unit as it then is.
-fn calls(line: &[u8], before: StampingUnit, store: &mut [u8]) -> StampingUnit {
+fn calls(to: Stdout, line: &[u8], before: StampingUnit, store: &mut [u8]) -> StampingUnit {
     let mut unit = before;
     let count = number_at(line, 3) % 100;
     let mut i: u64 = 0;
     while i < count {
         let budget = number_at(line, 4 + i);
         let served = unit.advance(budget, store);
-        answer_line(budget, served);
+        answer_line(to, budget, served);
         let next = served.unit;
         unit = next;
         i += 1;
@@ -31,29 +32,29 @@ fn calls(line: &[u8], before: StampingUnit, store: &mut [u8]) -> StampingUnit {
     unit
 }
 
-fn over(line: &[u8], store: &mut [u8]) {
+fn over(to: Stdout, line: &[u8], store: &mut [u8]) {
     let unit = unit_of(line);
-    named(b"unit ", unit.count);
-    column(unit.last);
-    column(store.len() as u64);
-    vector_helpers::end();
-    let after = calls(line, unit, store);
-    text(b"places");
-    places(after, store);
-    unit_digest(after);
-    digest_column(store);
-    vector_helpers::end();
+    named(to, b"unit ", unit.count);
+    column(to, unit.last);
+    column(to, store.len() as u64);
+    vector_helpers::end(to);
+    let after = calls(to, line, unit, store);
+    text(to, b"places");
+    places(to, after, store);
+    unit_digest(to, after);
+    digest_column(to, store);
+    vector_helpers::end(to);
 }
 
-pub fn line_calls(line: &[u8]) {
+pub fn line_calls(to: Stdout, line: &[u8]) {
     let len = number_at(line, 2) as usize;
     if len <= 8192 {
         let mut store = space();
-        over(line, &mut store[..len]);
+        over(to, line, &mut store[..len]);
         return;
     }
     if len <= 2097088 {
         let mut store = large_space();
-        over(line, &mut store[..len]);
+        over(to, line, &mut store[..len]);
     }
 }

@@ -5,6 +5,7 @@ ghost use Rattle.std.specs.Prelude.{◌≤◌};
 use base::{label_at, outcome_number};
 use opening::Opening;
 use opening_check::check_opening;
+use std::io::Stdout;
 use vector_helpers::{column, finished, hash, named};
 
 // The opening of a leaf, over output bytes that held something else.
@@ -25,6 +26,7 @@ fn opened(
 
 // The number of the answer to so many of the bytes.
 fn answer(
+    to: Stdout,
     edition: u64,
     statement: [u8; 32],
     depth: u64,
@@ -35,12 +37,13 @@ fn answer(
 ) {
     if size <= out.len() {
         let outcome = check_opening(edition, statement, depth, leaf, root, &out[..size]);
-        column(outcome_number(outcome));
+        column(to, outcome_number(outcome));
     }
 }
 
 // The same with a byte changed.
 fn changed(
+    to: Stdout,
     edition: u64,
     statement: [u8; 32],
     depth: u64,
@@ -53,12 +56,13 @@ fn changed(
     let mut bytes = out;
     if at < 1313 {
         bytes[at] = bytes[at] ^ 4;
-        answer(edition, statement, depth, leaf, root, &bytes, size);
+        answer(to, edition, statement, depth, leaf, root, &bytes, size);
     }
 }
 
 // With a byte of the leaf's label changed, then of each sibling's from level n to level 1.
 fn each_changed(
+    to: Stdout,
     edition: u64,
     statement: [u8; 32],
     depth: u64,
@@ -71,13 +75,14 @@ fn each_changed(
     let size = 32 * (depth + 1) as usize;
     let mut at: usize = 5;
     while at < size {
-        changed(edition, statement, depth, leaf, root, out, size, at);
+        changed(to, edition, statement, depth, leaf, root, out, size, at);
         at += 33;
     }
 }
 
 // For another leaf, with another root, by the other edition, and by one that does not exist.
 fn with_others(
+    to: Stdout,
     edition: u64,
     other: u64,
     statement: [u8; 32],
@@ -87,14 +92,15 @@ fn with_others(
     out: &[u8],
     size: usize,
 ) {
-    answer(edition, statement, depth, leaf ^ 1, root, out, size);
-    answer(edition, statement, depth, leaf, statement, out, size);
-    answer(other, statement, depth, leaf, root, out, size);
-    answer(3, statement, depth, leaf, root, out, size);
+    answer(to, edition, statement, depth, leaf ^ 1, root, out, size);
+    answer(to, edition, statement, depth, leaf, statement, out, size);
+    answer(to, other, statement, depth, leaf, root, out, size);
+    answer(to, 3, statement, depth, leaf, root, out, size);
 }
 
 // One leaf's opening: as it is, a byte short, a byte more, with other numbers, and with a byte of each label changed.
 fn leaf_checked(
+    to: Stdout,
     edition: u64,
     other: u64,
     statement: [u8; 32],
@@ -108,18 +114,19 @@ fn leaf_checked(
 {
     let size = 32 * (depth + 1) as usize;
     let out = opened(edition, statement, depth, memory, leaf, store);
-    named(b"leaf ", leaf);
-    answer(edition, statement, depth, leaf, root, &out, size);
-    answer(edition, statement, depth, leaf, root, &out, size - 1);
-    answer(edition, statement, depth, leaf, root, &out, size + 1);
-    with_others(edition, other, statement, depth, leaf, root, &out, size);
-    vector_helpers::text(b" changed");
-    each_changed(edition, statement, depth, leaf, root, out);
-    vector_helpers::end();
+    named(to, b"leaf ", leaf);
+    answer(to, edition, statement, depth, leaf, root, &out, size);
+    answer(to, edition, statement, depth, leaf, root, &out, size - 1);
+    answer(to, edition, statement, depth, leaf, root, &out, size + 1);
+    with_others(to, edition, other, statement, depth, leaf, root, &out, size);
+    vector_helpers::text(to, b" changed");
+    each_changed(to, edition, statement, depth, leaf, root, out);
+    vector_helpers::end(to);
 }
 
 // Every leaf.
 fn leaves_checked(
+    to: Stdout,
     edition: u64,
     other: u64,
     statement: [u8; 32],
@@ -133,34 +140,36 @@ fn leaves_checked(
 {
     let mut leaf: u64 = 0;
     while leaf < leaves {
-        leaf_checked(edition, other, statement, depth, memory, leaf, root, store);
+        leaf_checked(
+            to, edition, other, statement, depth, memory, leaf, root, store,
+        );
         leaf += 1;
     }
 }
 
 // One depth and memory level.
-fn level_checked(edition: u64, other: u64, depth: u64, memory: u64, leaves: u64)
+fn level_checked(to: Stdout, edition: u64, other: u64, depth: u64, memory: u64, leaves: u64)
     requires { depth ≤ 6 }
 {
-    named(b"edition ", edition);
-    named(b" depth ", depth);
-    named(b" memory ", memory);
-    vector_helpers::end();
+    named(to, b"edition ", edition);
+    named(to, b" depth ", depth);
+    named(to, b" memory ", memory);
+    vector_helpers::end(to);
     let statement = hash(b"openings");
     let store = finished(edition, statement, depth, memory);
     let root = label_at(&store, 0);
     leaves_checked(
-        edition, other, statement, depth, memory, leaves, root, &store,
+        to, edition, other, statement, depth, memory, leaves, root, &store,
     );
 }
 
 // Each memory level.
-fn depth_checked(edition: u64, other: u64, n: u64, leaves: u64)
+fn depth_checked(to: Stdout, edition: u64, other: u64, n: u64, leaves: u64)
     requires { n ≤ 6 }
 {
     let mut memory: u64 = 0;
     while memory <= n {
-        level_checked(edition, other, n, memory, leaves);
+        level_checked(to, edition, other, n, memory, leaves);
         if memory == n {
             return;
         }
@@ -168,11 +177,11 @@ fn depth_checked(edition: u64, other: u64, n: u64, leaves: u64)
     }
 }
 
-pub fn checked(edition: u64, other: u64) {
-    depth_checked(edition, other, 1, 2);
-    depth_checked(edition, other, 2, 4);
-    depth_checked(edition, other, 3, 8);
-    depth_checked(edition, other, 4, 16);
-    depth_checked(edition, other, 5, 32);
-    depth_checked(edition, other, 6, 64);
+pub fn checked(to: Stdout, edition: u64, other: u64) {
+    depth_checked(to, edition, other, 1, 2);
+    depth_checked(to, edition, other, 2, 4);
+    depth_checked(to, edition, other, 3, 8);
+    depth_checked(to, edition, other, 4, 16);
+    depth_checked(to, edition, other, 5, 32);
+    depth_checked(to, edition, other, 6, 64);
 }

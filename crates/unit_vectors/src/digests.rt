@@ -5,6 +5,7 @@ ghost use Rattle.std.specs.Prelude.{◌≡◌, min};
 use base::outcome_number;
 use compression::Words;
 use sha256::{Finished, Hash, digest};
+use std::io::Stdout;
 use vector_helpers::{named, named_hex};
 
 // The message of the shared vectors: its i-th byte is (7 i + len) mod 256.
@@ -47,37 +48,37 @@ fn whole(message: &[u8]) -> Finished {
 }
 
 // A digest and its blocks.
-fn line(name: &[u8], digest: [u8; 32], blocks: u64) {
-    named_hex(name, &digest);
-    named(b" blocks ", blocks);
-    vector_helpers::end();
+fn line(to: Stdout, name: &[u8], digest: [u8; 32], blocks: u64) {
+    named_hex(to, name, &digest);
+    named(to, b" blocks ", blocks);
+    vector_helpers::end(to);
 }
 
-fn end_line(name: &[u8], end: Finished) {
+fn end_line(to: Stdout, name: &[u8], end: Finished) {
     let digest = end.digest;
-    line(name, digest, end.blocks);
+    line(to, name, digest, end.blocks);
 }
 
 // The three ways.
-fn three(message: &[u8]) {
-    end_line(b" one portion ", whole(message));
-    end_line(b" cut ", cut(message, 97));
+fn three(to: Stdout, message: &[u8]) {
+    end_line(to, b" one portion ", whole(message));
+    end_line(to, b" cut ", cut(message, 97));
     let once = digest(message);
     let answer = once.digest;
-    line(b" one call ", answer, once.blocks);
+    line(to, b" one call ", answer, once.blocks);
 }
 
-fn shared(message: &mut [u8], len: u64) {
+fn shared(to: Stdout, message: &mut [u8], len: u64) {
     fill(message, len);
-    vector_helpers::number(len);
-    vector_helpers::end();
-    three(message);
+    vector_helpers::number(to, len);
+    vector_helpers::end(to);
+    three(to, message);
 }
 
 // The three ways under a line.
-fn headed(line: &[u8], message: &[u8]) {
-    vector_helpers::text(line);
-    three(message);
+fn headed(to: Stdout, line: &[u8], message: &[u8]) {
+    vector_helpers::text(to, line);
+    three(to, message);
 }
 
 // One million letters a.
@@ -85,19 +86,21 @@ fn letters() -> [u8; 1000000] {
     [97u8; 1000000]
 }
 
-fn million() {
-    headed(b"one million letters a\n", &letters());
+fn million(to: Stdout) {
+    headed(to, b"one million letters a\n", &letters());
 }
 
 // FIPS 180-4's examples of one and two blocks, and the empty message.
-fn examples() {
-    headed(b"the empty message\n", b"");
-    headed(b"abc\n", b"abc");
+fn examples(to: Stdout) {
+    headed(to, b"the empty message\n", b"");
+    headed(to, b"abc\n", b"abc");
     headed(
+        to,
         b"448 bits\n",
         b"abcdbcdecdefdefgefghfghighijhijkijkljklmklmnlmnomnopnopq",
     );
     headed(
+        to,
         b"896 bits\n",
         b"abcdefghbcdefghicdefghijdefghijkefghijklfghijklmghijklmnhijklmnoijklmnopjklmnopqklmnopqrlmnopqrsmnopqrstnopqrstu",
     );
@@ -112,54 +115,54 @@ fn at_count(taken: u64) -> Hash {
 }
 
 // A portion and then the end, from a state: both outcomes' numbers, and what the state has taken.
-fn limit(taken: u64, part: &[u8]) {
-    vector_helpers::number(taken);
+fn limit(to: Stdout, taken: u64, part: &[u8]) {
+    vector_helpers::number(to, taken);
     let step = at_count(taken).update(part);
     let outcome = step.outcome;
-    named(b" portion ", outcome_number(outcome));
+    named(to, b" portion ", outcome_number(outcome));
     let hash = step.hash;
-    named(b" taken ", hash.taken);
+    named(to, b" taken ", hash.taken);
     let end = hash.finish();
     let ended = end.outcome;
-    named(b" end ", outcome_number(ended));
-    end_line(b" ", end);
+    named(to, b" end ", outcome_number(ended));
+    end_line(to, b" ", end);
 }
 
 // The message of the shared vectors of this length, if there is room for it.
-fn at_length(space: &mut [u8], len: usize) {
+fn at_length(to: Stdout, space: &mut [u8], len: usize) {
     if len <= space.len() {
-        shared(&mut space[..len], len as u64);
+        shared(to, &mut space[..len], len as u64);
     }
 }
 
-fn below(space: &mut [u8], end: usize) {
+fn below(to: Stdout, space: &mut [u8], end: usize) {
     let mut len = 0;
     while len < end {
-        at_length(space, len);
+        at_length(to, space, len);
         len += 1;
     }
 }
 
-fn limits() {
-    limit(2305843009213693948, b"abc");
-    limit(2305843009213693949, b"abc");
-    limit(2305843009213693951, b"");
-    limit(2305843009213693951, b"a");
-    limit(2305843009213693952, b"");
-    limit(18446744073709551615, b"abc");
+fn limits(to: Stdout) {
+    limit(to, 2305843009213693948, b"abc");
+    limit(to, 2305843009213693949, b"abc");
+    limit(to, 2305843009213693951, b"");
+    limit(to, 2305843009213693951, b"a");
+    limit(to, 2305843009213693952, b"");
+    limit(to, 18446744073709551615, b"abc");
 }
 
-pub fn digests() {
-    examples();
-    million();
+pub fn digests(to: Stdout) {
+    examples(to);
+    million(to);
     let mut space = [0u8; 1321];
-    below(&mut space, 131);
-    at_length(&mut space, 183);
-    at_length(&mut space, 184);
-    at_length(&mut space, 185);
-    at_length(&mut space, 247);
-    at_length(&mut space, 248);
-    at_length(&mut space, 249);
-    at_length(&mut space, 1321);
-    limits();
+    below(to, &mut space, 131);
+    at_length(to, &mut space, 183);
+    at_length(to, &mut space, 184);
+    at_length(to, &mut space, 185);
+    at_length(to, &mut space, 247);
+    at_length(to, &mut space, 248);
+    at_length(to, &mut space, 249);
+    at_length(to, &mut space, 1321);
+    limits(to);
 }

@@ -15,14 +15,15 @@ use openings::{opening_edges, openings};
 use run_edges::run_edges;
 use runs::runs;
 
-fn main() {
-    digests();
-    runs();
-    run_edges();
-    openings(1);
-    openings(2);
-    opening_edges();
-    checked(1, 2);
-    checked(2, 1);
-    blocks();
+fn main(rt: HostRuntime) {
+    let to = rt.stdout();
+    digests(to);
+    runs(to);
+    run_edges(to);
+    openings(to, 1);
+    openings(to, 2);
+    opening_edges(to);
+    checked(to, 1, 2);
+    checked(to, 2, 1);
+    blocks(to);
 }

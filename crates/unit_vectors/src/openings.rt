@@ -3,6 +3,7 @@
 use base::outcome_number;
 use opening::Opening;
 use sha256::Hash;
+use std::io::Stdout;
 use vector_helpers::{
     LEVEL_EDGES, column, finished, flag_digest, hash, level_edge, named, named_hex, open_to_end,
 };
@@ -53,6 +54,7 @@ fn all_leaves(
 
 // The digest over all leaves with one budget.
 fn digests(
+    to: Stdout,
     edition: u64,
     statement: [u8; 32],
     depth: u64,
@@ -62,28 +64,29 @@ fn digests(
     store: [u8; 4064],
 ) {
     named_hex(
+        to,
         b" ",
         &all_leaves(edition, statement, depth, memory, budget, leaves, &store),
     );
 }
 
 // One depth and memory level: the digest over every leaf's opening and number of labels made.
-fn level(edition: u64, depth: u64, memory: u64, leaves: u64) {
+fn level(to: Stdout, edition: u64, depth: u64, memory: u64, leaves: u64) {
     let statement = hash(b"openings");
     let store = finished(edition, statement, depth, memory);
-    named(b"edition ", edition);
-    named(b" depth ", depth);
-    named(b" memory ", memory);
-    digests(edition, statement, depth, memory, 1000, leaves, store);
-    digests(edition, statement, depth, memory, 3, leaves, store);
-    digests(edition, statement, depth, memory, 1, leaves, store);
-    vector_helpers::end();
+    named(to, b"edition ", edition);
+    named(to, b" depth ", depth);
+    named(to, b" memory ", memory);
+    digests(to, edition, statement, depth, memory, 1000, leaves, store);
+    digests(to, edition, statement, depth, memory, 3, leaves, store);
+    digests(to, edition, statement, depth, memory, 1, leaves, store);
+    vector_helpers::end(to);
 }
 
-fn depth(edition: u64, n: u64, leaves: u64) {
+fn depth(to: Stdout, edition: u64, n: u64, leaves: u64) {
     let mut memory: u64 = 0;
     while memory <= n {
-        level(edition, n, memory, leaves);
+        level(to, edition, n, memory, leaves);
         if memory == n {
             return;
         }
@@ -92,16 +95,25 @@ fn depth(edition: u64, n: u64, leaves: u64) {
 }
 
 // What starting with these numbers answers, and whether the output is changed.
-fn starts(edition: u64, n: u64, m: u64, leaf: u64, store: &[u8], out: &mut [u8]) {
+fn starts(to: Stdout, edition: u64, n: u64, m: u64, leaf: u64, store: &[u8], out: &mut [u8]) {
     let before = hash(out);
     let start = Opening::start(edition, [7u8; 32], n, m, leaf, store, out);
     let outcome = start.outcome;
-    named(b": start ", outcome_number(outcome));
-    flag_digest(before, out);
+    named(to, b": start ", outcome_number(outcome));
+    flag_digest(to, before, out);
 }
 
 // The same of continuing.
-fn continues(edition: u64, n: u64, m: u64, leaf: u64, made: u64, store: &[u8], out: &mut [u8]) {
+fn continues(
+    to: Stdout,
+    edition: u64,
+    n: u64,
+    m: u64,
+    leaf: u64,
+    made: u64,
+    store: &[u8],
+    out: &mut [u8],
+) {
     let before = hash(out);
     let held = [9u8; 1312];
     let opening = Opening {
@@ -115,10 +127,10 @@ fn continues(edition: u64, n: u64, m: u64, leaf: u64, made: u64, store: &[u8], o
     };
     let step = opening.advance(1, store, out);
     let outcome = step.outcome;
-    named(b" continue ", outcome_number(outcome));
-    named(b" labels ", step.labels);
-    named(b" blocks ", step.blocks);
-    flag_digest(before, out);
+    named(to, b" continue ", outcome_number(outcome));
+    named(to, b" labels ", step.labels);
+    named(to, b" blocks ", step.blocks);
+    flag_digest(to, before, out);
 }
 
 // Room for every memory level.
@@ -126,7 +138,7 @@ fn space() -> [u8; 1048544] {
     [1u8; 1048544]
 }
 
-fn starts_at(edition: u64, n: u64, m: u64, leaf: u64, store: usize, out: usize) {
+fn starts_at(to: Stdout, edition: u64, n: u64, m: u64, leaf: u64, store: usize, out: usize) {
     let space = space();
     let mut output = [2u8; 1313];
     if 1048544 < store {
@@ -135,10 +147,19 @@ fn starts_at(edition: u64, n: u64, m: u64, leaf: u64, store: usize, out: usize) 
     if 1313 < out {
         return;
     }
-    starts(edition, n, m, leaf, &space[..store], &mut output[..out]);
+    starts(to, edition, n, m, leaf, &space[..store], &mut output[..out]);
 }
 
-fn continues_at(edition: u64, n: u64, m: u64, leaf: u64, made: u64, store: usize, out: usize) {
+fn continues_at(
+    to: Stdout,
+    edition: u64,
+    n: u64,
+    m: u64,
+    leaf: u64,
+    made: u64,
+    store: usize,
+    out: usize,
+) {
     let space = space();
     let mut output = [2u8; 1313];
     if 1048544 < store {
@@ -148,6 +169,7 @@ fn continues_at(edition: u64, n: u64, m: u64, leaf: u64, made: u64, store: usize
         return;
     }
     continues(
+        to,
         edition,
         n,
         m,
@@ -158,37 +180,47 @@ fn continues_at(edition: u64, n: u64, m: u64, leaf: u64, made: u64, store: usize
     );
 }
 
-fn edge_at(edition: u64, n: u64, m: u64, leaf: u64, made: u64, store: usize, out: usize) {
-    vector_helpers::number(edition);
-    column(n);
-    column(m);
-    column(leaf);
-    column(made);
-    column(store as u64);
-    column(out as u64);
-    starts_at(edition, n, m, leaf, store, out);
-    continues_at(edition, n, m, leaf, made, store, out);
-    vector_helpers::end();
+fn edge_at(
+    to: Stdout,
+    edition: u64,
+    n: u64,
+    m: u64,
+    leaf: u64,
+    made: u64,
+    store: usize,
+    out: usize,
+) {
+    vector_helpers::number(to, edition);
+    column(to, n);
+    column(to, m);
+    column(to, leaf);
+    column(to, made);
+    column(to, store as u64);
+    column(to, out as u64);
+    starts_at(to, edition, n, m, leaf, store, out);
+    continues_at(to, edition, n, m, leaf, made, store, out);
+    vector_helpers::end(to);
 }
 
-fn edges() {
-    edge_at(2, 0, 0, 0, 0, 32, 64);
-    edge_at(2, 41, 0, 0, 0, 32, 1313);
-    edge_at(2, 40, 0, 1099511627775, 0, 32, 1312);
-    edge_at(2, 40, 0, 1099511627776, 0, 32, 1312);
-    edge_at(2, 40, 0, 0, 0, 32, 1311);
-    edge_at(2, 3, 3, 7, 0, 480, 128);
-    edge_at(2, 3, 4, 7, 0, 992, 128);
-    edge_at(2, 3, 3, 7, 1, 480, 128);
-    edge_at(2, 3, 1, 7, 0, 95, 128);
-    edge_at(2, 3, 1, 8, 0, 96, 128);
-    edge_at(2, 3, 1, 8, 0, 96, 127);
-    edge_at(2, 3, 1, 7, 0, 96, 127);
-    edge_at(2, 3, 1, 7, 5, 96, 128);
-    edge_at(2, 3, 1, 7, 6, 96, 128);
-    edge_at(2, 3, 1, 7, 7, 96, 128);
-    edge_at(2, 3, 1, 7, 7, 95, 127);
+fn edges(to: Stdout) {
+    edge_at(to, 2, 0, 0, 0, 0, 32, 64);
+    edge_at(to, 2, 41, 0, 0, 0, 32, 1313);
+    edge_at(to, 2, 40, 0, 1099511627775, 0, 32, 1312);
+    edge_at(to, 2, 40, 0, 1099511627776, 0, 32, 1312);
+    edge_at(to, 2, 40, 0, 0, 0, 32, 1311);
+    edge_at(to, 2, 3, 3, 7, 0, 480, 128);
+    edge_at(to, 2, 3, 4, 7, 0, 992, 128);
+    edge_at(to, 2, 3, 3, 7, 1, 480, 128);
+    edge_at(to, 2, 3, 1, 7, 0, 95, 128);
+    edge_at(to, 2, 3, 1, 8, 0, 96, 128);
+    edge_at(to, 2, 3, 1, 8, 0, 96, 127);
+    edge_at(to, 2, 3, 1, 7, 0, 96, 127);
+    edge_at(to, 2, 3, 1, 7, 5, 96, 128);
+    edge_at(to, 2, 3, 1, 7, 6, 96, 128);
+    edge_at(to, 2, 3, 1, 7, 7, 96, 128);
+    edge_at(to, 2, 3, 1, 7, 7, 95, 127);
     edge_at(
+        to,
         2,
         18446744073709551615,
         18446744073709551615,
@@ -200,42 +232,42 @@ fn edges() {
 }
 
 // The edges of the memory level's limit.
-fn level_edges() {
+fn level_edges(to: Stdout) {
     let mut i: usize = 0;
     while i < LEVEL_EDGES {
         let at = level_edge(i);
-        edge_at(2, at.depth, at.memory, 0, 0, at.store, 1312);
+        edge_at(to, 2, at.depth, at.memory, 0, 0, at.store, 1312);
         i += 1;
     }
 }
 
 // Editions that exist or not, with other numbers that are right, and with all of them wrong.
-fn edition_edges(edition: u64) {
-    edge_at(edition, 3, 1, 7, 0, 96, 128);
-    edge_at(edition, 3, 1, 7, 0, 95, 127);
-    edge_at(edition, 41, 42, 8, 7, 0, 0);
+fn edition_edges(to: Stdout, edition: u64) {
+    edge_at(to, edition, 3, 1, 7, 0, 96, 128);
+    edge_at(to, edition, 3, 1, 7, 0, 95, 127);
+    edge_at(to, edition, 41, 42, 8, 7, 0, 0);
 }
 
-fn editions() {
-    edition_edges(0);
-    edition_edges(1);
-    edition_edges(2);
-    edition_edges(3);
-    edition_edges(4294967298);
-    edition_edges(18446744073709551615);
+fn editions(to: Stdout) {
+    edition_edges(to, 0);
+    edition_edges(to, 1);
+    edition_edges(to, 2);
+    edition_edges(to, 3);
+    edition_edges(to, 4294967298);
+    edition_edges(to, 18446744073709551615);
 }
 
-pub fn opening_edges() {
-    edges();
-    level_edges();
-    editions();
+pub fn opening_edges(to: Stdout) {
+    edges(to);
+    level_edges(to);
+    editions(to);
 }
 
-pub fn openings(edition: u64) {
-    depth(edition, 1, 2);
-    depth(edition, 2, 4);
-    depth(edition, 3, 8);
-    depth(edition, 4, 16);
-    depth(edition, 5, 32);
-    depth(edition, 6, 64);
+pub fn openings(to: Stdout, edition: u64) {
+    depth(to, edition, 1, 2);
+    depth(to, edition, 2, 4);
+    depth(to, edition, 3, 8);
+    depth(to, edition, 4, 16);
+    depth(to, edition, 5, 32);
+    depth(to, edition, 6, 64);
 }

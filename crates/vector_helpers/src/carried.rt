@@ -10,6 +10,7 @@ ghost use Rattle.opening.specs.Names.{open_of};
 use opening::Opening;
 use run::{Run, new_run};
 use sha256::digest;
+use std::io::Stdout;
 
 // The digest; 32 zero bytes if there are too many bytes to hash.
 pub fn hash(bytes: &[u8]) -> [u8; 32]
@@ -20,18 +21,18 @@ pub fn hash(bytes: &[u8]) -> [u8; 32]
 }
 
 // Writes a text, and the digest after it.
-pub fn named_digest(name: &[u8], bytes: &[u8]) {
-    crate::show::named_hex(name, &hash(bytes));
+pub fn named_digest(to: Stdout, name: &[u8], bytes: &[u8]) {
+    crate::show::named_hex(to, name, &hash(bytes));
 }
 
 // Writes whether the bytes still have the digest that they had before.
-pub fn flag_digest(before: [u8; 32], bytes: &[u8]) {
-    crate::show::flag(check::same(&before, &hash(bytes)));
+pub fn flag_digest(to: Stdout, before: [u8; 32], bytes: &[u8]) {
+    crate::show::flag(to, check::same(&before, &hash(bytes)));
 }
 
 // Writes the digest with a blank before it.
-pub fn digest_column(bytes: &[u8]) {
-    named_digest(b" ", bytes);
+pub fn digest_column(to: Stdout, bytes: &[u8]) {
+    named_digest(to, b" ", bytes);
 }
 
 // So many calls with one budget; those that would find no label left are not made.
@@ -80,7 +81,7 @@ pub fn open_to_end(opening: Opening, calls: u64, budget: u64, store: &[u8], out:
         if step.labels == 0 {
             return labels;
         }
-        labels = std::num::wrapping_add_u64(labels, step.labels);
+        labels = labels.wrapping_add(step.labels);
         left -= 1;
     }
     labels

@@ -4,7 +4,6 @@ use mathlib.Core.List.{List, ◌++◌}
 use Prim.Native.Nat.{ℕ, ◌+◌, ◌-◌, ◌^◌, ◌≤◌, ◌<◌}
 use native.Mathlib.Omega.{arith}
 use lib.ListN.{length, take, drop}
-use Rattle.base.specs.Limits.{IsEdition}
 use Rattle.base.specs.Bytes.{written}
 use Rattle.base.proofs.Parts.{part-size, part_length}
 use Rattle.tree.specs.Openings.{opening_size}

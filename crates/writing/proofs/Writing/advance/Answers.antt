@@ -16,7 +16,6 @@ use Rattle.writing.specs.Rows.{rewrite_row}
 use Rattle.writing.specs.Possible.{Ready, state_outside, written_of}
 use Rattle.writing.specs.Steps.{may_follow, labels_in}
 use Rattle.writing.proofs.RowLaws.{Bounded, state-bounds, labels-done, labels-refused, advanced-by, blocks-by, no_blocks, unchanged}
-use borrow.Author.Rules.{rules}
 use Rattle.writing.proofs.Writing.advance.Goals as goal
 
 rewrite-ready : (w : Writing) (store file : ℕ) → rewrite_row w store file ≡ 0 → Ready w store file × (may_follow w ≡ false)
@@ -62,7 +61,7 @@ ready c = rewrite-ready _ _ _ (done c)
 
 pub labels_left-requires : goal.labels_left-requires
 labels_left-requires c =
-    let r = (ready c).0 in 
+    let r = (ready c).0 in
     record {
       depth_le_max_depth = (r.room.depth.1, omega (arith, r.room.memory));
       made_bound = r.few;
@@ -100,7 +99,7 @@ returns-in-Done c =
     let a = c.args in
     let e : c.smaller-made.result ≡ labels_in a.store.now (written_of a.self a.file.now) a.budget =
     c.smaller-made.ensures ∙ ap (min a.budget) c.labels_left.ensures
-    ∙ labels-done a.self a.store.now a.file.now a.budget (done-at-after-writing-1 c) in 
+    ∙ labels-done a.self a.store.now a.file.now a.budget (done-at-after-writing-1 c) in
     record {
       outcome_value = c.may_continue-outcome.ensures;
       labels_value = e;
@@ -114,7 +113,7 @@ returns-in-Refused c =
     let a = c.args in
     let z =
     labels-refused a.self a.store.now a.file.now a.budget
-    (is-refused _ _ _ c.may_continue-outcome.ensures c.in-Refused.is) in 
+    (is-refused _ _ _ c.may_continue-outcome.ensures c.in-Refused.is) in
     record {
       outcome_value = c.may_continue-outcome.ensures;
       labels_value = z;

@@ -9,7 +9,6 @@ use Rattle.run_theory.proofs.StartLaws.{start-bounds}
 use Rattle.file_head.specs.Layout.{file_size}
 use Rattle.file_head.proofs.RowLaws.{done-head}
 use Rattle.writing.specs.Possible.{Room}
-use borrow.Author.Rules.{rules}
 use mathlib.Core.Path.{◌≡◌, ap, ◌∙◌}
 use lib.ListN.{length}
 use Rattle.writing.specs.Rows.{write_row}
@@ -52,7 +51,7 @@ done-at-after-slice_known-in-done-1 c = is-done _ _ c.may_start-outcome.ensures 
 pub returns-in-Done : goal.returns-in-Done
 returns-in-Done c =
     let a = c.args in
-    let e = start-done a.edition a.statement a.root a.depth a.memory a.count a.store.now a.file.now (done-at-after-slice_known-in-done-1 c) in 
+    let e = start-done a.edition a.statement a.root a.depth a.memory a.count a.store.now a.file.now (done-at-after-slice_known-in-done-1 c) in
     record {
       outcome_value = c.may_start-outcome.ensures;
       writing_value = c.write_first-writing.ensures.value ∙ ap (λ (s : Written). s.writing) e;
@@ -64,7 +63,7 @@ returns-in-Refused c =
     let a = c.args in
     let (o, f) =
     start-refused a.edition a.statement a.root a.depth a.memory a.count a.store.now a.file.now
-    (is-refused _ _ _ c.may_start-outcome.ensures c.in-Refused.is) in 
+    (is-refused _ _ _ c.may_start-outcome.ensures c.in-Refused.is) in
     record {
       outcome_value = c.may_start-outcome.ensures;
       writing_value = c.no_writing-writing.ensures ∙ o;

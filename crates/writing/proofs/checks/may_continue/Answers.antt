@@ -1,6 +1,5 @@
 -- `writing::checks::may_continue` meets its contract: each return by the tests passed.
 -- the tests passed
-use borrow.Author.Rules.{rules}
 use mathlib.Core.Path.{◌≡◌, sym, ◌∙◌}
 use mathlib.Core.Bool.{false}
 use native.Mathlib.Omega.{arith}

@@ -4,7 +4,6 @@ use mathlib.Core.Path.{◌≡◌, sym, ◌∙◌}
 use mathlib.Core.Bool.{Bool, false}
 use mathlib.Core.List.{List}
 use Prim.Native.Nat.{ℕ}
-use borrow.Author.Rules.{rules}
 use Rattle.base.specs.Limits.{max_depth, IsDepth}
 use Rattle.base.specs.Row.{first_of, no_edition}
 use Rattle.base.proofs.Ranges.{within}

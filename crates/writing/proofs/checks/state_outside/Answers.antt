@@ -12,7 +12,6 @@ use Rattle.opening.specs.Rows.{nodes_anew}
 use Rattle.opening.proofs.RowLaws.{can-be}
 use Rattle.writing.specs.Steps.{may_follow}
 use Rattle.writing.proofs.RowLaws.{state-first, state-second, state-third, state-last}
-use borrow.Author.Rules.{rules}
 use Rattle.writing.proofs.checks.state_outside.Goals as goal
 
 -- the tests passed

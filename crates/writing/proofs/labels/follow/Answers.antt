@@ -1,13 +1,11 @@
 use mathlib.Core.Path.{◌≡◌, refl}
-use Prim.Native.Nat.{◌-◌}
 use native.Mathlib.Omega.{arith}
 use mathlib.Core.Bool.{Bool, true, false}
 use Rattle.writing.specs.declared.Writing.{Writing}
 use Rattle.writing.specs.Steps.{may_follow}
 use borrow.Author.Rules.{rules}
-use lib.ListN.{length}
 use Rattle.writing.specs.Possible.{writing_of}
-use Rattle.writing.proofs.FollowLaws.{Following, following-none, test-answer, not_last, begin-room, following-more, following-done}
+use Rattle.writing.proofs.FollowLaws.{following-none, test-answer, not_last, begin-room, following-more, following-done}
 use Rattle.writing.proofs.labels.follow.Goals as goal
 
 -- the writing under way, and the answer of the test
@@ -74,9 +72,9 @@ pub returns : goal.returns
 returns c =
     record {
       value = (following-done _ _ (first-at-after-loop-opening c) _ (under-at-after-loop-opening c) c.loop-opening.invariant.0
-    (answer-at-after-loop-opening c false c.loop-opening-test.false)).0;
+          (answer-at-after-loop-opening c false c.loop-opening-test.false)).0;
       file_after = (following-done _ _ (first-at-after-loop-opening c) _ (under-at-after-loop-opening c) c.loop-opening.invariant.0
-    (answer-at-after-loop-opening c false c.loop-opening-test.false)).1.0;
+          (answer-at-after-loop-opening c false c.loop-opening-test.false)).1.0;
       goes_on = (following-done _ _ (first-at-after-loop-opening c) _ (under-at-after-loop-opening c) c.loop-opening.invariant.0
-    (answer-at-after-loop-opening c false c.loop-opening-test.false)).1.1;
+          (answer-at-after-loop-opening c false c.loop-opening-test.false)).1.1;
     }

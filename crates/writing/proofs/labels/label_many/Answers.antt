@@ -1,14 +1,10 @@
 use mathlib.Core.Path.{◌≡◌, refl}
-use Prim.Native.Nat.{◌+◌, ◌*◌, ◌≤◌}
+use Prim.Native.Nat.{◌+◌, ◌≤◌}
 use native.Mathlib.Omega.{arith}
 use borrow.Author.Rules.{rules}
-use lib.ListN.{length}
-use Rattle.labelling.specs.Blocks.{most_blocks}
 use Rattle.opening.specs.Rows.{nodes_anew}
 use Rattle.writing.specs.declared.Writing.{Writing}
-use Rattle.writing.specs.Possible.{written_of}
-use Rattle.writing.specs.Steps.{blocks_over}
-use Rattle.writing.proofs.FollowLaws.{Labelling, chunk-some, labelling-more, labelling-done}
+use Rattle.writing.proofs.FollowLaws.{chunk-some, labelling-more, labelling-done}
 use Rattle.writing.proofs.FollowLaws.{remaining-few, labelling-cost, labelling-counted}
 use Rattle.writing.proofs.labels.label_many.Goals as goal
 
@@ -40,7 +36,7 @@ chunk c =
 
 pub label_some-some-requires : goal.label_some-some-requires
 label_some-some-requires c =
-    let k = chunk c in 
+    let k = chunk c in
     record {
       ready = (rw c.loop-left.invariant.1 c.loop-left.invariant.0.ready, k.0);
       labels_bound = k.2;
@@ -92,7 +88,7 @@ pub returns : goal.returns
 returns c =
     let l = c.loop-left.invariant in
     let none : c.loop-left.left ≡ 0 = omega (arith, c.loop-left-test.false) in
-    let (writing, file) = labelling-done _ _ _ _ _ _ _ l.0 none in 
+    let (writing, file) = labelling-done _ _ _ _ _ _ _ l.0 none in
     record {
       writing_value = writing;
       file_after = file;

@@ -1,17 +1,12 @@
 -- `writing::labels::label_many` meets its contract. The invariant: what is left to make gives the same, and its blocks with those so far
 -- are all. The measure is what is left.
-use mathlib.Core.Path.{◌≡◌, refl}
+use mathlib.Core.Path.{◌≡◌}
 use Prim.Native.Nat.{◌+◌, ◌*◌, ◌≤◌}
-use native.Mathlib.Omega.{arith}
-use borrow.Author.Rules.{rules}
 use lib.ListN.{length}
 use Rattle.labelling.specs.Blocks.{most_blocks}
-use Rattle.opening.specs.Rows.{nodes_anew}
-use Rattle.writing.specs.declared.Writing.{Writing}
 use Rattle.writing.specs.Possible.{written_of}
 use Rattle.writing.specs.Steps.{blocks_over}
-use Rattle.writing.proofs.FollowLaws.{Labelling, chunk-some, labelling-more, labelling-done}
-use Rattle.writing.proofs.FollowLaws.{remaining-few, labelling-cost, labelling-counted}
+use Rattle.writing.proofs.FollowLaws.{Labelling}
 use Rattle.writing.proofs.labels.label_many.Given as goal
 
 abbrev pub invariant-loop-left : goal.invariant-loop-left

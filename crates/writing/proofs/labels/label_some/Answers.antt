@@ -1,6 +1,5 @@
 -- `writing::labels::label_some` meets its contract: labels made at once are those made one at a time.
 use mathlib.Core.Path.{sym, ◌∙◌}
-use borrow.Author.Rules.{rules}
 use Rattle.writing.specs.Possible.{written_of}
 use Rattle.writing.proofs.BlockLaws.{blocks-under}
 use Rattle.writing.proofs.FollowLaws.{under-ready, some-labelled}
@@ -19,7 +18,7 @@ returns c =
     let all =
     some-labelled c.args.store.now c.args.file.now c.args.writing c.requires.ready.0 c.args.labels c.requires.ready.1 c.requires.labels_bound _ _ _ _
     e.writing_value e.file_after c.label_part-part.auto.file f.ensures.value f.ensures.file_after f.ensures.goes_on in
-    let blocks = blocks-under c.args.store.now (written_of c.args.writing c.args.file.now) _ c.args.labels c.requires.labels_bound in 
+    let blocks = blocks-under c.args.store.now (written_of c.args.writing c.args.file.now) _ c.args.labels c.requires.labels_bound in
     record {
       writing_value = all.0;
       file_after = all.1.0;

@@ -5,7 +5,6 @@ use native.Mathlib.Nat.{mul-le-mul_right}
 use native.Mathlib.Omega.{arith}
 use Rattle.base.specs.Limits.{max_depth, max_challenges}
 use Rattle.opening.proofs.StepLaws.{anew-small}
-use borrow.Author.Rules.{rules}
 use Rattle.writing.proofs.labels.labels_left.Goals as goal
 
 small : (c : goal.After-struct_known-1)

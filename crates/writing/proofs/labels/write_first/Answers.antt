@@ -1,5 +1,4 @@
 -- `writing::labels::write_first` meets its contract: the head is not refused, and the first opening can be continued.
-use borrow.Author.Rules.{rules}
 use mathlib.Core.Path.{◌∙◌}
 use Rattle.writing.proofs.BegunLaws.{first-ready, new-written}
 use Rattle.writing.proofs.labels.write_first.Goals as goal
@@ -13,12 +12,12 @@ follow-requires c =
 
 pub returns : goal.returns
 returns c =
-    let a = c.args in 
+    let a = c.args in
     record {
       value = (new-written a.edition a.statement a.root a.depth a.memory a.count a.store.now a.file.now _ c.requires
-    c.write_head.ensures.out_after _ _ c.begin-opening.ensures.value c.begin-opening.ensures.file_after _ _ c.follow.ensures.value
-    c.follow.ensures.file_after).0;
+          c.write_head.ensures.out_after _ _ c.begin-opening.ensures.value c.begin-opening.ensures.file_after _ _ c.follow.ensures.value
+          c.follow.ensures.file_after).0;
       file_after = (new-written a.edition a.statement a.root a.depth a.memory a.count a.store.now a.file.now _ c.requires
-    c.write_head.ensures.out_after _ _ c.begin-opening.ensures.value c.begin-opening.ensures.file_after _ _ c.follow.ensures.value
-    c.follow.ensures.file_after).1;
+          c.write_head.ensures.out_after _ _ c.begin-opening.ensures.value c.begin-opening.ensures.file_after _ _ c.follow.ensures.value
+          c.follow.ensures.file_after).1;
     }

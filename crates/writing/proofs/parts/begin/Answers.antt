@@ -1,6 +1,5 @@
 -- `writing::parts::begin` meets its contract: neither the challenge nor the start in the part is refused.
 -- the part lies within the file
-use borrow.Author.Rules.{rules}
 use mathlib.Core.Path.{refl}
 use Prim.Native.Nat.{◌+◌, ◌≤◌}
 use native.Mathlib.Omega.{arith}
@@ -24,7 +23,7 @@ slice_bounds-start-end c = part-inside c
 pub returns : goal.returns
 returns c =
     let a = c.args in
-    let o = c.start-started in 
+    let o = c.start-started in
     record {
       value = begun-opening a.edition a.statement a.root a.depth a.memory a.count a.number a.store.now a.file.now c.requires
           c.challenge-picked.result.leaf c.part_start-from.result c.challenge-picked.ensures.leaf_value c.part_start-from.ensures.value _ refl _ _

@@ -1,6 +1,5 @@
 -- `writing::parts::label_part` meets its contract: the call in the part is not refused, and its budget is left.
 -- the part lies within the file
-use borrow.Author.Rules.{rules}
 use mathlib.Core.Path.{refl, ◌∙◌}
 use Prim.Native.Nat.{◌+◌, ◌≤◌}
 use native.Mathlib.Omega.{arith}
@@ -30,16 +29,16 @@ returns c =
     let few =
     o.ensures.labels_value
     ∙ labelled-count a.writing a.store.now a.file.now c.requires.ready a.labels c.part_start-from.result c.requires.labels_bound
-    c.part_start-from.ensures.value _ refl _ _ o.ensures.opening_value o.ensures.out_after kept in 
+    c.part_start-from.ensures.value _ refl _ _ o.ensures.opening_value o.ensures.out_after kept in
     record {
       writing_value = labelled-writing a.writing a.store.now a.file.now c.requires.ready a.labels c.part_start-from.result c.requires.labels_bound
           c.part_start-from.ensures.value _ refl _ _ o.ensures.opening_value o.ensures.out_after kept;
       file_after = labelled-file a.writing a.store.now a.file.now c.requires.ready a.labels c.part_start-from.result c.requires.labels_bound
-            c.part_start-from.ensures.value _ refl _ _ o.ensures.opening_value o.ensures.out_after kept;
+          c.part_start-from.ensures.value _ refl _ _ o.ensures.opening_value o.ensures.out_after kept;
       blocks_value = (
-          o.ensures.blocks_value.0
-              ∙ labelled-blocks a.writing a.store.now a.file.now c.requires.ready a.labels c.part_start-from.result c.requires.labels_bound
-              c.part_start-from.ensures.value _ refl _ _ o.ensures.opening_value o.ensures.out_after kept,
-          rw few at o.ensures.blocks_value.1,
-        );
+        o.ensures.blocks_value.0
+            ∙ labelled-blocks a.writing a.store.now a.file.now c.requires.ready a.labels c.part_start-from.result c.requires.labels_bound
+            c.part_start-from.ensures.value _ refl _ _ o.ensures.opening_value o.ensures.out_after kept,
+        rw few at o.ensures.blocks_value.1,
+      );
     }

@@ -1,5 +1,4 @@
 -- `writing::parts::part_start` meets its contract: the openings from number i on end the file.
-use borrow.Author.Rules.{rules}
 use native.Mathlib.Omega.{arith}
 use Rattle.file_head.specs.Layout.{file_size}
 use Rattle.writing.proofs.PartLaws.{part-from, part-fits}
@@ -19,7 +18,7 @@ overflow_sub-result-2 c =
 pub returns : goal.returns
 returns c =
     let a = c.args in
-    let at = (part-from a.n a.t a.i (omega arith) (omega arith) c.file_size.result c.file_size.ensures).1 in 
+    let at = (part-from a.n a.t a.i (omega arith) (omega arith) c.file_size.result c.file_size.ensures).1 in
     record {
       value = at;
       n_bound = rw at (part-fits a.n a.t a.i (omega arith) (omega arith) (file_size a.n a.t) (omega arith));

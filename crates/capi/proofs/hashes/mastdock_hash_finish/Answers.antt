@@ -1,0 +1,13 @@
+use mathlib.Core.Path.{◌∙◌}
+use borrow.Author.Rules.{rules}
+use Rattle.capi.proofs.hashes.mastdock_hash_finish.Goals as goal
+
+pub returns : goal.returns
+returns c =
+    let e = c.finish-f.ensures in 
+    record {
+      refusal_value = c.outcome_number.ensures ∙ e.outcome_value.0;
+      blocks_value = e.outcome_value.1;
+      digest_value = e.digest_value.0;
+      hash_value = e.digest_value.1;
+    }

@@ -1,0 +1,43 @@
+// Openings.
+ghost use Rattle.std.specs.Prelude.{◌≡◌, length};
+ghost use Rattle.opening.specs.Rows.{open_row, reopen_row};
+ghost use Rattle.opening.specs.Names.{open_of};
+ghost use Rattle.opening.specs.Steps.{started, started_out, labels_in, blocks_in, advanced};
+
+use capi::{OpeningAdvanced, OpeningStarted};
+use opening::Opening;
+
+// A new opening, with what the store holds of it copied to the output, or the refusal beside an all-zero one.
+#[unsafe(no_mangle)]
+pub extern "C" fn mastdock_opening_start(
+    edition: u64,
+    statement: &[u8; 32],
+    depth: u64,
+    memory: u64,
+    leaf: u64,
+    store: &[u8],
+    out: &mut [u8],
+) -> OpeningStarted
+    ensures refusal_value { result.refusal ≡ open_row edition depth memory leaf (length store.now) (length out.old) }
+    ensures opening_value { result.opening ≡ started edition statement.now depth memory leaf (length store.now) (length out.old) }
+    ensures out_after { out.new ≡ started_out edition depth memory leaf store.now out.old }
+{
+    capi::mastdock_opening_start(edition, statement, depth, memory, leaf, store, out)
+}
+
+// Labels anew the smaller of the budget and what remains; `blocks` are those of the labels made in this call.
+#[unsafe(no_mangle)]
+pub extern "C" fn mastdock_opening_advance(
+    opening: Opening,
+    budget: u64,
+    store: &[u8],
+    out: &mut [u8],
+) -> OpeningAdvanced
+    ensures refusal_value { result.refusal ≡ reopen_row opening (length store.now) (length out.old) }
+    ensures labels_value { result.labels ≡ labels_in store.now (open_of opening out.old) budget }
+    ensures blocks_value { result.blocks ≡ blocks_in store.now (open_of opening out.old) budget }
+    ensures opening_value { result.opening ≡ (advanced store.now (open_of opening out.old) budget).opening }
+    ensures out_after { out.new ≡ (advanced store.now (open_of opening out.old) budget).out }
+{
+    capi::mastdock_opening_advance(opening, budget, store, out)
+}
