@@ -21,13 +21,12 @@ count_plan-count-requires c =
 
 pub returns-then-list-count : goal.returns-then-list-count
 returns-then-list-count c =
+    let e = list-refused _ _ _ c.args.list.now c.count_plan-count.result c.requires c.sort_leaves-sorted.ensures.0
+    c.count_plan-count.ensures c.if-list-count.true in
     record {
-      outcome_value = (list-refused _ _ _ c.args.list.now c.count_plan-count.result c.requires c.sort_leaves-sorted.ensures.0
-          c.count_plan-count.ensures c.if-list-count.true).0;
-      count_value = (list-refused _ _ _ c.args.list.now c.count_plan-count.result c.requires c.sort_leaves-sorted.ensures.0
-          c.count_plan-count.ensures c.if-list-count.true).1.0;
-      list_after = (list-refused _ _ _ c.args.list.now c.count_plan-count.result c.requires c.sort_leaves-sorted.ensures.0
-          c.count_plan-count.ensures c.if-list-count.true).1.1;
+      outcome_value = e.0;
+      count_value = e.1.0;
+      list_after = e.1.1;
     }
 
 pub slice_bounds-found-end-2 : goal.slice_bounds-found-end-2
@@ -46,11 +45,10 @@ write_plan-requires c = (
 
 pub returns : goal.returns
 returns c =
+    let e = list_done _ _ _ c.args.list.now c.count_plan-count.result c.requires c.sort_leaves-sorted.ensures.0
+    c.count_plan-count.ensures _ c.if-list-count.false c.write_plan.ensures in
     record {
-      outcome_value = (list_done _ _ _ c.args.list.now c.count_plan-count.result c.requires c.sort_leaves-sorted.ensures.0
-          c.count_plan-count.ensures _ c.if-list-count.false c.write_plan.ensures).0;
-      count_value = (list_done _ _ _ c.args.list.now c.count_plan-count.result c.requires c.sort_leaves-sorted.ensures.0
-          c.count_plan-count.ensures _ c.if-list-count.false c.write_plan.ensures).1.0;
-      list_after = (list_done _ _ _ c.args.list.now c.count_plan-count.result c.requires c.sort_leaves-sorted.ensures.0
-          c.count_plan-count.ensures _ c.if-list-count.false c.write_plan.ensures).1.1;
+      outcome_value = e.0;
+      count_value = e.1.0;
+      list_after = e.1.1;
     }

@@ -20,43 +20,44 @@ overflow_mul-size c = omega (arith, c.requires.0.most)
 pub loop-i-init : goal.loop-i-init
 loop-i-init c = (omega arith, c.requires.1, record { rows = λ i small. absurd (omega arith); kept = refl })
 
-within : (c : goal.In-loop-i)
-    → Lies c.args.n c.loop-i.i c.args.openings.now
-within c = lies _ _ _ _ c.requires.0 c.loop-i-test.true
-
 pub overflow_mul-at : goal.overflow_mul-at
-overflow_mul-at c = Fits-le (le_trans (le-add_right _ _) (within c).row) (Fits-lit tt)
+overflow_mul-at c =
+    let within : Lies c.args.n c.loop-i.i c.args.openings.now = lies _ _ _ _ c.requires.0 c.loop-i-test.true in
+    Fits-le (le_trans (le-add_right _ _) within.row) (Fits-lit tt)
 
 pub overflow_add-end : goal.overflow_add-end
-overflow_add-end c = Fits-le (within c).row (Fits-lit tt)
+overflow_add-end c =
+    let within : Lies c.args.n c.loop-i.i c.args.openings.now = lies _ _ _ _ c.requires.0 c.loop-i-test.true in
+    Fits-le within.row (Fits-lit tt)
 
 pub overflow_mul-from : goal.overflow_mul-from
-overflow_mul-from c = Fits-le (le_trans (le-add_right _ _) (le_trans (within c).opening (within c).most)) (Fits-lit tt)
+overflow_mul-from c =
+    let within : Lies c.args.n c.loop-i.i c.args.openings.now = lies _ _ _ _ c.requires.0 c.loop-i-test.true in
+    Fits-le (le_trans (le-add_right _ _) (le_trans within.opening within.most)) (Fits-lit tt)
 
 pub overflow_add-to : goal.overflow_add-to
-overflow_add-to c = Fits-le (le_trans (within c).opening (within c).most) (Fits-lit tt)
+overflow_add-to c =
+    let within : Lies c.args.n c.loop-i.i c.args.openings.now = lies _ _ _ _ c.requires.0 c.loop-i-test.true in
+    Fits-le (le_trans within.opening within.most) (Fits-lit tt)
 
 pub slice_bounds-fill_row-end : goal.slice_bounds-fill_row-end
-slice_bounds-fill_row-end c = rw c.loop-i.invariant.1 (within c).row
-
-within-at-after-shared_slice_known-in-loop-i-1 : (c : goal.After-shared_slice_known-in-loop-i-1)
-    → Lies c.args.n c.loop-i.i c.args.openings.now
-within-at-after-shared_slice_known-in-loop-i-1 c = lies _ _ _ _ c.requires.0 c.loop-i-test.true
+slice_bounds-fill_row-end c =
+    let within : Lies c.args.n c.loop-i.i c.args.openings.now = lies _ _ _ _ c.requires.0 c.loop-i-test.true in
+    rw c.loop-i.invariant.1 within.row
 
 pub slice_bounds-fill_row-end-in-loop-i : goal.slice_bounds-fill_row-end-in-loop-i
-slice_bounds-fill_row-end-in-loop-i c = (within-at-after-shared_slice_known-in-loop-i-1 c).opening
-
-within-at-after-fill_row-arg-in-loop-i-1 : (c : goal.After-fill_row-arg-in-loop-i-1)
-    → Lies c.args.n c.loop-i.i c.args.openings.now
-within-at-after-fill_row-arg-in-loop-i-1 c = lies _ _ _ _ c.requires.0 c.loop-i-test.true
+slice_bounds-fill_row-end-in-loop-i c =
+    let within : Lies c.args.n c.loop-i.i c.args.openings.now = lies _ _ _ _ c.requires.0 c.loop-i-test.true in
+    within.opening
 
 pub fill_row-requires : goal.fill_row-requires
 fill_row-requires c =
+    let within : Lies c.args.n c.loop-i.i c.args.openings.now = lies _ _ _ _ c.requires.0 c.loop-i-test.true in
     let loop = c.loop-i in
     let a = c.args in
     let i = loop.i in
     let size = opening_size a.n in
-    let room = within-at-after-fill_row-arg-in-loop-i-1 c in (
+    let room = within in (
       c.requires.0.most,
       ap length (part-size a.openings.now (i * size) size) ∙ part_length a.openings.now (i * size) size room.opening,
       ap length (part-size loop.table (row_size * i) row_size)

@@ -65,15 +65,12 @@ returns-in-Disagree c =
     let openings = c.args.openings.now in
     let table = fill-table.new.table in
     let z = sized c.args.edition n leaves openings c.requires in
+    let e = disagree-answers c.args.edition c.args.statement n leaves openings _ table z (search rules)
+    fill-table.ensures _ _ _ _ _
+    (sym c.first_pair-pair.ensures ∙ c.in-Disagree.is) c.input_at-first.ensures c.input_at-second.ensures in
     record {
       outcome_value = refl;
-      pair_value = (disagree-answers c.args.edition c.args.statement n leaves openings _ table z (search rules)
-          fill-table.ensures _ _ _ _ _
-          (sym c.first_pair-pair.ensures ∙ c.in-Disagree.is) c.input_at-first.ensures c.input_at-second.ensures).0;
-      first_value = (disagree-answers c.args.edition c.args.statement n leaves openings _ table z (search rules)
-          fill-table.ensures _ _ _ _ _
-          (sym c.first_pair-pair.ensures ∙ c.in-Disagree.is) c.input_at-first.ensures c.input_at-second.ensures).1.0;
-      second_value = (disagree-answers c.args.edition c.args.statement n leaves openings _ table z (search rules)
-          fill-table.ensures _ _ _ _ _
-          (sym c.first_pair-pair.ensures ∙ c.in-Disagree.is) c.input_at-first.ensures c.input_at-second.ensures).1.1;
+      pair_value = e.0;
+      first_value = e.1.0;
+      second_value = e.1.1;
     }

@@ -9,13 +9,11 @@ draw_accepted-requires c = sym c.check_file-checked.ensures ∙ ap code_of c.in-
 
 pub returns-in-Rejected : goal.returns-in-Rejected
 returns-in-Rejected c =
+    let e = file-refused c.args.file.now c.args.statement c.args.depth c.args.count c.args.list.now _ _ _
+    c.check_file-checked.ensures c.in-Rejected.is in
     record {
-      drawing_value = (file-refused c.args.file.now c.args.statement c.args.depth c.args.count c.args.list.now _ _ _
-          c.check_file-checked.ensures c.in-Rejected.is).0;
-      list_after = (file-refused c.args.file.now c.args.statement c.args.depth c.args.count c.args.list.now _ _ _
-          c.check_file-checked.ensures c.in-Rejected.is).1.0;
-      first_value = (file-refused c.args.file.now c.args.statement c.args.depth c.args.count c.args.list.now _ _ _
-          c.check_file-checked.ensures c.in-Rejected.is).1.1.0;
-      second_value = (file-refused c.args.file.now c.args.statement c.args.depth c.args.count c.args.list.now _ _ _
-          c.check_file-checked.ensures c.in-Rejected.is).1.1.1;
+      drawing_value = e.0;
+      list_after = e.1.0;
+      first_value = e.1.1.0;
+      second_value = e.1.1.1;
     }

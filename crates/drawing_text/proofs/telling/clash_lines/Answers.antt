@@ -5,11 +5,9 @@ use Rattle.drawing_text.proofs.TellingLaws.{clash-told}
 use borrow.Author.Rules.{rules}
 use Rattle.drawing_text.proofs.telling.clash_lines.Goals as goal
 
-sizes : (s : goal.After-add_line) → (length s.args.first ≡ 105) × (length s.args.second ≡ 105)
-sizes s = (search rules, search rules)
-
 pub returns : goal.returns
 returns c =
-    let both = sizes c in
+    let sizes : (length c.args.first ≡ 105) × (length c.args.second ≡ 105) = (search rules, search rules) in
+    let both = sizes in
     clash-told _ _ _ _ _ both.0 both.1 c.add_line-one.ensures c.add_line.ensures c.clash-pair.ensures
     c.fact_bytes.ensures c.fact_bytes-2.ensures

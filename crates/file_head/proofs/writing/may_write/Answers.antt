@@ -13,69 +13,49 @@ pub returns-then-beyond : goal.returns-then-beyond
 unfolding head_row
 returns-then-beyond c = rw (sym c.beyond.ensures ∙ c.if-beyond.true)
 
-an-edition : (c : goal.Then-beyond-2) → no_edition c.args.edition ≡ false
-an-edition c = sym c.beyond.ensures ∙ c.if-beyond.false
-
 pub returns-then-beyond-2 : goal.returns-then-beyond-2
 unfolding head_row
-returns-then-beyond-2 c = rw (an-edition c, sym c.beyond-2.ensures ∙ c.if-beyond-2.true)
-
-an-edition-at-then-beyond-3 : (c : goal.Then-beyond-3) → no_edition c.args.edition ≡ false
-an-edition-at-then-beyond-3 c = sym c.beyond.ensures ∙ c.if-beyond.false
-
-depth-fits : (c : goal.Then-beyond-3) → outside 1 max_depth c.args.depth ≡ false
-depth-fits c = sym c.beyond-2.ensures ∙ c.if-beyond-2.false
+returns-then-beyond-2 c =
+    let an-edition : no_edition c.args.edition ≡ false = sym c.beyond.ensures ∙ c.if-beyond.false in
+    rw (an-edition, sym c.beyond-2.ensures ∙ c.if-beyond-2.true)
 
 pub returns-then-beyond-3 : goal.returns-then-beyond-3
 unfolding head_row
 returns-then-beyond-3 c =
-    rw (an-edition-at-then-beyond-3 c, depth-fits c, sym c.beyond-3.ensures ∙ c.if-beyond-3.true)
-
-depth-fits-at-else-beyond-3 : (c : goal.Else-beyond-3) → outside 1 max_depth c.args.depth ≡ false
-depth-fits-at-else-beyond-3 c = sym c.beyond-2.ensures ∙ c.if-beyond-2.false
-
-count_fits : (c : goal.Else-beyond-3) → outside 1 max_challenges c.args.count ≡ false
-count_fits c = sym c.beyond-3.ensures ∙ c.if-beyond-3.false
+    let an-edition : no_edition c.args.edition ≡ false = sym c.beyond.ensures ∙ c.if-beyond.false in
+    let depth-fits : outside 1 max_depth c.args.depth ≡ false = sym c.beyond-2.ensures ∙ c.if-beyond-2.false in
+    rw (an-edition, depth-fits, sym c.beyond-3.ensures ∙ c.if-beyond-3.true)
 
 pub file_size-requires : goal.file_size-requires
-file_size-requires c = ((range-of 1 max_depth _ (depth-fits-at-else-beyond-3 c)).1, (range-of 1 max_challenges _ (count_fits c)).1)
-
-an-edition-at-then-out-file_size : (c : goal.Then-out-file_size) → no_edition c.args.edition ≡ false
-an-edition-at-then-out-file_size c = sym c.beyond.ensures ∙ c.if-beyond.false
-
-depth-fits-at-then-out-file_size : (c : goal.Then-out-file_size) → outside 1 max_depth c.args.depth ≡ false
-depth-fits-at-then-out-file_size c = sym c.beyond-2.ensures ∙ c.if-beyond-2.false
-
-count_fits-at-then-out-file_size : (c : goal.Then-out-file_size) → outside 1 max_challenges c.args.count ≡ false
-count_fits-at-then-out-file_size c = sym c.beyond-3.ensures ∙ c.if-beyond-3.false
+file_size-requires c =
+    let depth-fits : outside 1 max_depth c.args.depth ≡ false = sym c.beyond-2.ensures ∙ c.if-beyond-2.false in
+    let count_fits : outside 1 max_challenges c.args.count ≡ false = sym c.beyond-3.ensures ∙ c.if-beyond-3.false in
+    ((range-of 1 max_depth _ depth-fits).1, (range-of 1 max_challenges _ count_fits).1)
 
 pub returns-then-out-file_size : goal.returns-then-out-file_size
 unfolding head_row
 returns-then-out-file_size c =
+    let an-edition : no_edition c.args.edition ≡ false = sym c.beyond.ensures ∙ c.if-beyond.false in
+    let depth-fits : outside 1 max_depth c.args.depth ≡ false = sym c.beyond-2.ensures ∙ c.if-beyond-2.false in
+    let count_fits : outside 1 max_challenges c.args.count ≡ false = sym c.beyond-3.ensures ∙ c.if-beyond-3.false in
     let a = c.args in
     rw (
-      an-edition-at-then-out-file_size c,
-      depth-fits-at-then-out-file_size c,
-      count_fits-at-then-out-file_size c,
+      an-edition,
+      depth-fits,
+      count_fits,
       lt-ltb a.out (file_size a.depth a.count) (rw c.file_size.ensures at c.if-out-file_size.true),
     )
-
-an-edition-at-else-out-file_size : (c : goal.Else-out-file_size) → no_edition c.args.edition ≡ false
-an-edition-at-else-out-file_size c = sym c.beyond.ensures ∙ c.if-beyond.false
-
-depth-fits-at-else-out-file_size : (c : goal.Else-out-file_size) → outside 1 max_depth c.args.depth ≡ false
-depth-fits-at-else-out-file_size c = sym c.beyond-2.ensures ∙ c.if-beyond-2.false
-
-count_fits-at-else-out-file_size : (c : goal.Else-out-file_size) → outside 1 max_challenges c.args.count ≡ false
-count_fits-at-else-out-file_size c = sym c.beyond-3.ensures ∙ c.if-beyond-3.false
 
 pub returns : goal.returns
 unfolding head_row
 returns c =
+    let an-edition : no_edition c.args.edition ≡ false = sym c.beyond.ensures ∙ c.if-beyond.false in
+    let depth-fits : outside 1 max_depth c.args.depth ≡ false = sym c.beyond-2.ensures ∙ c.if-beyond-2.false in
+    let count_fits : outside 1 max_challenges c.args.count ≡ false = sym c.beyond-3.ensures ∙ c.if-beyond-3.false in
     let a = c.args in
     rw (
-      an-edition-at-else-out-file_size c,
-      depth-fits-at-else-out-file_size c,
-      count_fits-at-else-out-file_size c,
+      an-edition,
+      depth-fits,
+      count_fits,
       le-ltb a.out (file_size a.depth a.count) (rw c.file_size.ensures at c.if-out-file_size.false),
     )

@@ -13,29 +13,23 @@ put_numbers-at-requires c =
 
 -- statement and root fit behind the numbers
 
-room : (c : goal.After-statement-1) → c.put_numbers-at.result + 64 ≤ length c.args.out.now
-room c =
-    let a = c.args in
-    omega (arith, c.requires.3, size-numbers a.edition a.n a.t c.requires.0, c.put_numbers-at.ensures.value)
-
 pub put-requires : goal.put-requires
-put-requires c = omega (arith, room c)
-
-room-at-after-put-arg-2-1 : (c : goal.After-put-arg-2-1) → c.put_numbers-at.result + 64 ≤ length c.args.out.now
-room-at-after-put-arg-2-1 c =
-    let a = c.args in
-    omega (arith, c.requires.3, size-numbers a.edition a.n a.t c.requires.0, c.put_numbers-at.ensures.value)
+put-requires c =
+    let room : c.put_numbers-at.result + 64 ≤ length c.args.out.now = let a = c.args in
+    omega (arith, c.requires.3, size-numbers a.edition a.n a.t c.requires.0, c.put_numbers-at.ensures.value) in
+    omega (arith, room)
 
 pub overflow_add-at : goal.overflow_add-at
-overflow_add-at c = omega (arith, room-at-after-put-arg-2-1 c)
-
-room-at-after-root-1 : (c : goal.After-root-1) → c.put_numbers-at.result + 64 ≤ length c.args.out.now
-room-at-after-root-1 c =
-    let a = c.args in
-    omega (arith, c.requires.3, size-numbers a.edition a.n a.t c.requires.0, c.put_numbers-at.ensures.value)
+overflow_add-at c =
+    let room : c.put_numbers-at.result + 64 ≤ length c.args.out.now = let a = c.args in
+    omega (arith, c.requires.3, size-numbers a.edition a.n a.t c.requires.0, c.put_numbers-at.ensures.value) in
+    omega (arith, room)
 
 pub put-requires-2 : goal.put-requires-2
-put-requires-2 c = omega (arith, room-at-after-root-1 c)
+put-requires-2 c =
+    let room : c.put_numbers-at.result + 64 ≤ length c.args.out.now = let a = c.args in
+    omega (arith, c.requires.3, size-numbers a.edition a.n a.t c.requires.0, c.put_numbers-at.ensures.value) in
+    omega (arith, room)
 
 pub returns : goal.returns
 returns c =

@@ -9,27 +9,28 @@ use Rattle.planning.proofs.answering.answer.Goals as goal
 
 pub returns-then-out-lt-MAX_OUTPUT : goal.returns-then-out-lt-MAX_OUTPUT
 returns-then-out-lt-MAX_OUTPUT c =
+    let e = no_room _ _ c.if-out-lt-MAX_OUTPUT.true in
     record {
-      value = (no_room _ _ c.if-out-lt-MAX_OUTPUT.true).0;
-      out_after = (no_room _ _ c.if-out-lt-MAX_OUTPUT.true).1;
+      value = e.0;
+      out_after = e.1;
     }
 
 pub returns-then-input-gt-MAX_INPUT : goal.returns-then-input-gt-MAX_INPUT
 returns-then-input-gt-MAX_INPUT c =
+    let e = answered _ _ _ _ c.if-out-lt-MAX_OUTPUT.false (input-printed _ _ _ _ (long-input _ c.if-input-gt-MAX_INPUT.true) c.put_refused.ensures) in
     record {
-      value = (answered _ _ _ _ c.if-out-lt-MAX_OUTPUT.false (input-printed _ _ _ _ (long-input _ c.if-input-gt-MAX_INPUT.true) c.put_refused.ensures)).0;
-      out_after = (answered _ _ _ _ c.if-out-lt-MAX_OUTPUT.false (input-printed _ _ _ _ (long-input _ c.if-input-gt-MAX_INPUT.true) c.put_refused.ensures)).1;
+      value = e.0;
+      out_after = e.1;
     }
 
 pub returns-then-not-is_readable : goal.returns-then-not-is_readable
 returns-then-not-is_readable c =
+    let e = answered _ _ _ _ c.if-out-lt-MAX_OUTPUT.false
+    (input-printed _ _ _ _ (bad-input _ (sym c.is_readable.ensures ∙ c.if-not-is_readable.true))
+    c.put_refused-then-not-is_readable.ensures) in
     record {
-      value = (answered _ _ _ _ c.if-out-lt-MAX_OUTPUT.false
-          (input-printed _ _ _ _ (bad-input _ (sym c.is_readable.ensures ∙ c.if-not-is_readable.true))
-          c.put_refused-then-not-is_readable.ensures)).0;
-      out_after = (answered _ _ _ _ c.if-out-lt-MAX_OUTPUT.false
-          (input-printed _ _ _ _ (bad-input _ (sym c.is_readable.ensures ∙ c.if-not-is_readable.true))
-          c.put_refused-then-not-is_readable.ensures)).1;
+      value = e.0;
+      out_after = e.1;
     }
 
 pub read_numbers-numbers-requires : goal.read_numbers-numbers-requires
@@ -39,13 +40,12 @@ pub returns-then-count-lt1 : goal.returns-then-count-lt1
 returns-then-count-lt1 c =
     let rn = c.read_numbers-numbers in
     let bytes = c.args.input.now in
+    let e = answered _ _ _ _ c.if-out-lt-MAX_OUTPUT.false
+    (input-printed _ _ _ _ (no_number bytes (omega (arith, c.if-count-lt1.true, rn.ensures.1, length-take max_numbers (numbers bytes))))
+    c.put_refused-then-count-lt1.ensures) in
     record {
-      value = (answered _ _ _ _ c.if-out-lt-MAX_OUTPUT.false
-          (input-printed _ _ _ _ (no_number bytes (omega (arith, c.if-count-lt1.true, rn.ensures.1, length-take max_numbers (numbers bytes))))
-          c.put_refused-then-count-lt1.ensures)).0;
-      out_after = (answered _ _ _ _ c.if-out-lt-MAX_OUTPUT.false
-          (input-printed _ _ _ _ (no_number bytes (omega (arith, c.if-count-lt1.true, rn.ensures.1, length-take max_numbers (numbers bytes))))
-          c.put_refused-then-count-lt1.ensures)).1;
+      value = e.0;
+      out_after = e.1;
     }
 
 pub slice_bounds-put_answer-end : goal.slice_bounds-put_answer-end
@@ -65,13 +65,11 @@ returns c =
     let good =
     good-input bytes c.if-input-gt-MAX_INPUT.false (sym c.is_readable.ensures ∙ c.if-not-is_readable.false)
     (omega (arith, c.if-count-lt1.false, rn.ensures.1, length-take max_numbers (numbers bytes))) in
+    let e = answered _ _ _ _ c.if-out-lt-MAX_OUTPUT.false
+    (plan-printed bytes rn.result.list _ _ rn.result.count _ c.if-count-lt1.false
+    (kept-all rn.result.list _ _ rn.result.count rn.ensures.0 rn.ensures.1) good
+    c.put_answer.ensures) in
     record {
-      value = (answered _ _ _ _ c.if-out-lt-MAX_OUTPUT.false
-          (plan-printed bytes rn.result.list _ _ rn.result.count _ c.if-count-lt1.false
-          (kept-all rn.result.list _ _ rn.result.count rn.ensures.0 rn.ensures.1) good
-          c.put_answer.ensures)).0;
-      out_after = (answered _ _ _ _ c.if-out-lt-MAX_OUTPUT.false
-          (plan-printed bytes rn.result.list _ _ rn.result.count _ c.if-count-lt1.false
-          (kept-all rn.result.list _ _ rn.result.count rn.ensures.0 rn.ensures.1) good
-          c.put_answer.ensures)).1;
+      value = e.0;
+      out_after = e.1;
     }

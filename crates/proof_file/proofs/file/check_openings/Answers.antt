@@ -31,12 +31,9 @@ overflow_add-end c = omega (arith, c.requires)
 pub overflow_mul-end : goal.overflow_mul-end
 overflow_mul-end c = omega (arith, c.requires)
 
-opening-fits : (c : goal.After-opening_start-start)
-    → (c.opening_start-start.result + opening_size c.args.n ≤ length
-    c.args.bytes.now) ×
-    (length c.args.bytes.now ≤ 262470)
-opening-fits c =
-    let loop = c.loop-i in
+pub overflow_add-end-in-loop-i : goal.overflow_add-end-in-loop-i
+overflow_add-end-in-loop-i c =
+    let opening-fits : (c.opening_start-start.result + opening_size c.args.n ≤ length c.args.bytes.now) × (length c.args.bytes.now ≤ 262470) = let loop = c.loop-i in
     let a = c.args in
     let i = loop.i in
     omega (
@@ -46,20 +43,12 @@ opening-fits c =
           c.requires.le_n.1 c.requires.le_n.2,
       opening-inside a.n a.t i loop.invariant.0 c.loop-i-test.true,
       c.requires,
-    )
-
-pub overflow_add-end-in-loop-i : goal.overflow_add-end-in-loop-i
-overflow_add-end-in-loop-i c = omega (arith, opening-fits c)
+    ) in
+    omega (arith, opening-fits)
 
 pub slice_bounds-right-end : goal.slice_bounds-right-end
-slice_bounds-right-end c = omega (arith, opening-fits c)
-
-opening-fits-at-after-right-arg-1 : (c : goal.After-right-arg-1)
-    → (c.opening_start-start.result + opening_size c.args.n ≤ length
-    c.args.bytes.now) ×
-    (length c.args.bytes.now ≤ 262470)
-opening-fits-at-after-right-arg-1 c =
-    let loop = c.loop-i in
+slice_bounds-right-end c =
+    let opening-fits : (c.opening_start-start.result + opening_size c.args.n ≤ length c.args.bytes.now) × (length c.args.bytes.now ≤ 262470) = let loop = c.loop-i in
     let a = c.args in
     let i = loop.i in
     omega (
@@ -69,10 +58,22 @@ opening-fits-at-after-right-arg-1 c =
           c.requires.le_n.1 c.requires.le_n.2,
       opening-inside a.n a.t i loop.invariant.0 c.loop-i-test.true,
       c.requires,
-    )
+    ) in
+    omega (arith, opening-fits)
 
 pub right-outcome-requires : goal.right-outcome-requires
 right-outcome-requires c =
+    let opening-fits : (c.opening_start-start.result + opening_size c.args.n ≤ length c.args.bytes.now) × (length c.args.bytes.now ≤ 262470) = let loop = c.loop-i in
+    let a = c.args in
+    let i = loop.i in
+    omega (
+      arith,
+      c.opening_start-start.ensures,
+      openings-small a.n a.t
+          c.requires.le_n.1 c.requires.le_n.2,
+      opening-inside a.n a.t i loop.invariant.0 c.loop-i-test.true,
+      c.requires,
+    ) in
     let a = c.args in
     let start = c.opening_start-start.result in (
       c.requires.le_n.0,
@@ -80,7 +81,7 @@ right-outcome-requires c =
       rw c.challenge_leaf-leaf.ensures (challenge_leaf-small a.edition a.n _ _ _ (omega (arith, c.requires.le_n.1))),
       ap length
           (part-size a.bytes.now start (opening_size a.n)) ∙ part_length a.bytes.now start (opening_size a.n)
-          (opening-fits-at-after-right-arg-1 c).0,
+          opening-fits.0,
     )
 
 pub overflow_cast-result : goal.overflow_cast-result

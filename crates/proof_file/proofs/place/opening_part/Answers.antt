@@ -18,7 +18,8 @@ pub returns : goal.returns
 returns c =
     let a = c.args in
     let e = c.opening_place-place.ensures in
+    let e = is-part a.bytes.now a.bytes.ref_ptr a.i _ _ e.offset_value e.length_value in
     record {
-      result_value = (is-part a.bytes.now a.bytes.ref_ptr a.i _ _ e.offset_value e.length_value).0;
-      ref_ptr_value = (is-part a.bytes.now a.bytes.ref_ptr a.i _ _ e.offset_value e.length_value).1;
+      result_value = e.0;
+      ref_ptr_value = e.1;
     }
