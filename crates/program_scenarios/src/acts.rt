@@ -1,8 +1,9 @@
 // What a line of the scenarios does to the files of the folder. Each act is told what it does by its words, of which the first is its name.
-ghost use Rattle.io.specs.Counts.{IsPrefixLen};
+ghost use Rattle.descriptors.specs.Counts.{IsPrefixLen};
 
-use crate::{front, make, rest, say};
+use crate::{front, make, output, rest, say, write};
 use base::NEW_EDITION;
+use descriptors::{Stream, open_append, open_overwrite, open_read, read_small};
 use words::word;
 
 pub fn is_word(word: &[u8], name: &[u8]) -> bool {
@@ -17,152 +18,154 @@ fn number(line: &[u8], i: u64) -> u64 {
 }
 
 // Reads a file, as far as there is place for it.
-fn load(name: &[u8], place: &mut [u8]) -> usize
+fn load(rt: &HostRuntime, name: &[u8], place: &mut [u8]) -> usize
     ensures { IsPrefixLen result place.new }
 {
-    let fd = os::open_read(name);
-    let size = io::read_full(fd, place);
-    libc::close(fd);
-    size
+    read_small(rt, name, place)
 }
 
-fn overwrite(name: &[u8], bytes: &[u8]) {
-    let fd = os::open_overwrite(name);
-    io::write_all(fd, bytes);
-    libc::close(fd);
+fn overwrite(rt: &HostRuntime, name: &[u8], bytes: &[u8]) {
+    if let Ok(file) = open_overwrite(rt, name) {
+        write(Stream::File(&file), bytes);
+    }
 }
 
 // `make NAME TEXT`: a new file of a text and a line feed.
-fn make_text(text: &[u8], line: &[u8]) {
+fn make_text(rt: &HostRuntime, text: &[u8], line: &[u8]) {
     let name = word(line, 1);
-    make(name, rest(rest(text, 6), name.len()), false);
-    append(name, b"\n");
+    make(rt, name, rest(rest(text, 6), name.len()), false);
+    append(rt, name, b"\n");
 }
 
 // `zeros NAME SIZE`: a new file of zeros.
-fn make_zeros(line: &[u8]) {
-    let zeros = io::large_buffer();
+fn make_zeros(rt: &HostRuntime, line: &[u8]) {
+    let zeros = [0u8; 65536];
     make(
+        rt,
         word(line, 1),
         front(&zeros, number(line, 2) as usize),
         false,
     );
 }
 
-fn append(name: &[u8], bytes: &[u8]) {
-    let fd = os::open_append(name);
-    io::write_all(fd, bytes);
-    libc::close(fd);
+fn append(rt: &HostRuntime, name: &[u8], bytes: &[u8]) {
+    if let Ok(file) = open_append(rt, name) {
+        write(Stream::File(&file), bytes);
+    }
 }
 
 // `copy FROM START END TO`: the bytes between two places of a file go behind those of another, which is made where it is missing.
-fn copy(line: &[u8]) {
-    let mut place = io::large_buffer();
-    let size = load(word(line, 1), &mut place);
+fn copy(rt: &HostRuntime, line: &[u8]) {
+    let mut place = [0u8; 65536];
+    let size = load(rt, word(line, 1), &mut place);
     let whole = front(&place[..size], number(line, 3) as usize);
-    make(word(line, 4), b"", false);
-    append(word(line, 4), rest(whole, number(line, 2) as usize));
+    make(rt, word(line, 4), b"", false);
+    append(rt, word(line, 4), rest(whole, number(line, 2) as usize));
 }
 
 // `flip NAME PLACE`: the lowest bit of a byte is changed.
-fn flip(line: &[u8]) {
-    let mut place = io::large_buffer();
-    let size = load(word(line, 1), &mut place);
+fn flip(rt: &HostRuntime, line: &[u8]) {
+    let mut place = [0u8; 65536];
+    let size = load(rt, word(line, 1), &mut place);
     let at = number(line, 2) as usize;
     if size <= at {
         return;
     }
     place[at] = place[at] ^ 1;
-    overwrite(word(line, 1), front(&place, size));
+    overwrite(rt, word(line, 1), front(&place, size));
 }
 
 // `stamp NAME`: the last 32 bytes become the SHA-256 of all before them.
-fn stamp(line: &[u8]) {
-    let mut place = io::large_buffer();
-    let size = load(word(line, 1), &mut place);
+fn stamp(rt: &HostRuntime, line: &[u8]) {
+    let mut place = [0u8; 65536];
+    let size = load(rt, word(line, 1), &mut place);
     if size < 32 {
         return;
     }
     let before = front(&place, size - 32);
     let hashed = sha256::digest(before);
     let digest = hashed.digest;
-    overwrite(word(line, 1), before);
-    append(word(line, 1), &digest);
+    overwrite(rt, word(line, 1), before);
+    append(rt, word(line, 1), &digest);
 }
 
 // `remove NAME`
-fn remove(line: &[u8]) {
-    os::unlink(word(line, 1));
+fn remove(rt: &HostRuntime, line: &[u8]) {
+    let _ = descriptors::remove(rt, word(line, 1));
 }
 
 // `pause REPORT PROOF DEPTH CHALLENGES MEMORY LABELS`: the checkpoint that a seal of the newest edition has after so many labels, at memory
 // level 6 at most.
-fn pause(line: &[u8]) {
-    let stated = files::state_report(word(line, 1), 1);
+fn pause(rt: &HostRuntime, line: &[u8]) {
+    let stated = files::state_report(rt, word(line, 1), Stream::Input(rt.stdin()), output(rt));
     let statement = stated.statement;
-    let mut store = io::buffer();
+    let mut store = [0u8; 4096];
     let run = run::new_run(NEW_EDITION, statement, number(line, 3), number(line, 5));
     let advanced = run.advance(number(line, 6), &mut store);
     let paused = advanced.run;
     let mut space = [0u8; 8192];
     let written = checkpoint::write_checkpoint(paused, number(line, 4), &store, &mut space);
-    files::save(word(line, 2), front(&space, written.size), b"", 1);
+    files::save(
+        rt,
+        word(line, 2),
+        front(&space, written.size),
+        b"",
+        output(rt),
+    );
 }
 
-fn say_digest(digest: [u8; 32]) {
-    lines::say(1, lines::fact_bytes(b" sha256 ", &digest));
+fn say_digest(rt: &HostRuntime, digest: [u8; 32]) {
+    lines::say(output(rt), lines::fact_bytes(b" sha256 ", &digest));
 }
 
 // How many bytes a file has, and their SHA-256.
-fn tell_bytes(name: &[u8]) {
-    let mut place = io::large_buffer();
-    let size = load(name, &mut place);
+fn tell_bytes(rt: &HostRuntime, name: &[u8]) {
+    let mut place = [0u8; 65536];
+    let size = load(rt, name, &mut place);
     let hashed = sha256::digest(&place[..size]);
     let digest = hashed.digest;
-    say(b" bytes ");
-    io::print_decimal(1, size as u64);
-    say_digest(digest);
+    say(rt, b" bytes ");
+    let _ = print!(rt; "{size}");
+    say_digest(rt, digest);
 }
 
 // `tell NAME`
-fn tell(line: &[u8]) {
+fn tell(rt: &HostRuntime, line: &[u8]) {
     let name = word(line, 1);
-    say(b"file ");
-    say(name);
-    let fd = os::open_read(name);
-    libc::close(fd);
-    if fd < 0 {
-        say(b" not there\n");
+    say(rt, b"file ");
+    say(rt, name);
+    if open_read(rt, name).is_err() {
+        say(rt, b" not there\n");
     } else {
-        tell_bytes(name);
+        tell_bytes(rt, name);
     }
 }
 
 // Does what a line says, given as it stands and with a byte 0 in place of each blank. Any other line, as one that begins with #, does nothing.
-pub fn act(text: &[u8], line: &[u8]) {
+pub fn act(rt: &HostRuntime, text: &[u8], line: &[u8]) {
     let name = word(line, 0);
     if is_word(name, b"make") {
-        return make_text(text, line);
+        return make_text(rt, text, line);
     }
     if is_word(name, b"zeros") {
-        return make_zeros(line);
+        return make_zeros(rt, line);
     }
     if is_word(name, b"copy") {
-        return copy(line);
+        return copy(rt, line);
     }
     if is_word(name, b"flip") {
-        return flip(line);
+        return flip(rt, line);
     }
     if is_word(name, b"stamp") {
-        return stamp(line);
+        return stamp(rt, line);
     }
     if is_word(name, b"remove") {
-        return remove(line);
+        return remove(rt, line);
     }
     if is_word(name, b"pause") {
-        return pause(line);
+        return pause(rt, line);
     }
     if is_word(name, b"tell") {
-        return tell(line);
+        return tell(rt, line);
     }
 }

@@ -5,17 +5,30 @@
 mod acts; // acts.rt: files made, copied, changed and told of, and checkpoints
 mod meanwhile; // meanwhile.rt: what can happen between the start of a run and its end
 mod plans; // plans.rt: the planning program
-mod streams; // streams.rt: answers apart from complaints, and closed descriptors
+mod streams; // streams.rt: answers apart from complaints, and streams that cannot be written
 
 ghost use Rattle.std.specs.Prelude.{◌≡◌, ◌≤◌, length};
 
-pub fn say(bytes: &[u8]) {
-    io::write_all(1, bytes);
+use descriptors::{Stream, create, read_small, write_all};
+use std::fs::Permissions;
+use std::os::unix::fs::PermissionsExt;
+
+// Standard output.
+pub fn output(rt: &HostRuntime) -> Stream<'static> {
+    Stream::Output(rt.stdout())
 }
 
-fn say_line(bytes: &[u8]) {
-    say(bytes);
-    say(b"\n");
+pub fn write(to: Stream<'_>, bytes: &[u8]) {
+    let _ = write_all(to, bytes);
+}
+
+pub fn say(rt: &HostRuntime, bytes: &[u8]) {
+    write(output(rt), bytes);
+}
+
+fn say_line(rt: &HostRuntime, bytes: &[u8]) {
+    say(rt, bytes);
+    say(rt, b"\n");
 }
 
 fn parted(byte: u8) -> u8 {
@@ -57,44 +70,47 @@ pub fn rest(bytes: &[u8], from: usize) -> &[u8] {
     &bytes[from..]
 }
 
-fn say_status(status: u8) {
-    say(b"status ");
-    io::print_decimal(1, status as u64);
-    say(b"\n");
+fn say_status(rt: &HostRuntime, status: u8) {
+    say(rt, b"status ");
+    let _ = print!(rt; "{status}");
+    say(rt, b"\n");
 }
 
 // The program called with a line of words, each ended by a byte 0, and its status.
-fn call(line: &[u8], out: i32, err: i32) {
-    say_status(commands::command(line, out, err));
+fn call(rt: &HostRuntime, line: &[u8], out: Stream<'_>, err: Stream<'_>) {
+    say_status(
+        rt,
+        commands::command(rt, line, Stream::Input(rt.stdin()), out, err),
+    );
 }
 
-// The program called with words that are parted by blanks, and what it tells on two descriptors.
-pub fn run_on(words: &[u8], out: i32, err: i32) {
-    say(b"> mastdock ");
-    say_line(words);
+// The program called with words that are parted by blanks, and what it tells on two streams.
+pub fn run_on(rt: &HostRuntime, words: &[u8], out: Stream<'_>, err: Stream<'_>) {
+    say(rt, b"> mastdock ");
+    say_line(rt, words);
     let mut line = [0u8; 256];
     let size = part_words(words, &mut line);
-    call(front(&line, size), out, err);
+    call(rt, front(&line, size), out, err);
 }
 
-pub fn run(words: &[u8]) {
-    run_on(words, 1, 1)
+pub fn run(rt: &HostRuntime, words: &[u8]) {
+    run_on(rt, words, output(rt), output(rt))
 }
 
-fn obey(text: &[u8], line: &[u8]) {
+fn obey(rt: &HostRuntime, text: &[u8], line: &[u8]) {
     if acts::is_word(words::word(line, 0), b"mastdock") {
-        return call(rest(line, 9), 1, 1);
+        return call(rt, rest(line, 9), output(rt), output(rt));
     }
-    acts::act(text, line)
+    acts::act(rt, text, line)
 }
 
 // A line of the scenarios.
-fn run_line(text: &[u8]) {
-    say(b"> ");
-    say_line(text);
+fn run_line(rt: &HostRuntime, text: &[u8]) {
+    say(rt, b"> ");
+    say_line(rt, text);
     let mut line = [0u8; 256];
     let size = part_words(text, &mut line);
-    obey(text, front(&line, size))
+    obey(rt, text, front(&line, size))
 }
 
 // The end of the line that begins at a place.
@@ -112,42 +128,40 @@ fn line_end(text: &[u8], from: usize) -> usize
     i
 }
 
-fn run_lines(text: &[u8]) {
+fn run_lines(rt: &HostRuntime, text: &[u8]) {
     let mut at: usize = 0;
     while at < text.len() {
         let end = line_end(text, at);
-        run_line(&text[at..end]);
+        run_line(rt, &text[at..end]);
         at = end + 1;
     }
 }
 
 // The scenarios of the file of that name.
-fn run_file() {
-    let mut text = io::large_buffer();
-    let fd = os::open_read(b"scenarios");
-    let size = io::read_full(fd, &mut text);
-    libc::close(fd);
-    run_lines(&text[..size]);
+fn run_file(rt: &HostRuntime) {
+    let mut text = [0u8; 65536];
+    let size = read_small(rt, b"scenarios", &mut text);
+    run_lines(rt, &text[..size]);
 }
 
 // Seals a report of a path.
-fn run_path(path: &[u8]) {
+fn run_path(rt: &HostRuntime, path: &[u8]) {
     let mut line = [0u8; 8192];
     let first = words::join(&mut line, 0, b"seal");
     let second = words::join(&mut line, first, path);
     let third = words::join(&mut line, second, b"x.proof");
     let last = words::join(&mut line, third, b"3");
-    call(front(&line, last), 1, 1);
+    call(rt, front(&line, last), output(rt), output(rt));
 }
 
 // A new file of some bytes that nobody may open any more, if locked.
-pub fn make(name: &[u8], bytes: &[u8], locked: bool) {
-    let fd = os::create(name);
-    io::write_all(fd, bytes);
-    if locked {
-        libc::fchmod(fd, 0);
+pub fn make(rt: &HostRuntime, name: &[u8], bytes: &[u8], locked: bool) {
+    if let Ok(file) = create(rt, name) {
+        write(Stream::File(&file), bytes);
+        if locked {
+            let _ = file.set_permissions(Permissions::from_mode(0));
+        }
     }
-    libc::close(fd);
 }
 
 // One byte more than the largest proof has.
@@ -155,41 +169,48 @@ fn too_much() -> [u8; 262469] {
     [0u8; 262469]
 }
 
-fn make_files() {
-    make(b"locked", b"a report that nobody may read\n", true);
-    make(b"large.proof", &too_much(), false);
+fn make_files(rt: &HostRuntime) {
+    make(rt, b"locked", b"a report that nobody may read\n", true);
+    make(rt, b"large.proof", &too_much(), false);
 }
 
 // Too long for the system, which takes 255 bytes between two slashes, and for the program; and bytes that a terminal would obey.
-fn paths() {
-    say(b"> a path of 256 bytes, and one of 4091\n");
-    run_path(&[97u8; 256]);
-    run_path(&[97u8; 4091]);
-    say(b"> control characters and a backslash in a path\n");
-    run_path(b"none\x1b[31m\n\x7f\\");
+fn paths(rt: &HostRuntime) {
+    say(rt, b"> a path of 256 bytes, and one of 4091\n");
+    run_path(rt, &[97u8; 256]);
+    run_path(rt, &[97u8; 4091]);
+    say(rt, b"> control characters and a backslash in a path\n");
+    run_path(rt, b"none\x1b[31m\n\x7f\\");
 }
 
 // No proof whose openings clash is known: the lines are shown with made-up inputs.
-fn clash() {
-    say(b"> a clash\n");
-    commands::say_clash(2, 5, 1, [10u8; 105], [171u8; 105], 1);
+fn clash(rt: &HostRuntime) {
+    say(rt, b"> a clash\n");
+    commands::say_clash(2, 5, 1, [10u8; 105], [171u8; 105], output(rt));
 }
 
 // The words of this program's own arguments, which are one too many.
-fn surplus() {
-    say(b"> this program's arguments: seal report x.proof 3 2 1 4\n");
-    say_status(commands::run_arguments(1, 1));
+fn surplus(rt: &HostRuntime) {
+    say(
+        rt,
+        b"> this program's arguments: seal report x.proof 3 2 1 4\n",
+    );
+    say_status(
+        rt,
+        commands::run_arguments(rt, Stream::Input(rt.stdin()), output(rt), output(rt)),
+    );
 }
 
-fn main() {
-    plans::plans();
-    make_files();
-    surplus();
-    run_file();
-    paths();
-    clash();
-    streams::apart();
-    streams::not_written();
-    meanwhile::all();
-    streams::closed();
+fn main(host: HostRuntime) {
+    let rt = &host;
+    plans::plans(rt);
+    make_files(rt);
+    surplus(rt);
+    run_file(rt);
+    paths(rt);
+    clash(rt);
+    streams::apart(rt);
+    streams::not_written(rt);
+    meanwhile::all(rt);
+    streams::closed(rt);
 }

@@ -1,69 +1,79 @@
 // What can happen to the proof's names and its room between the start of a run and its end.
 use crate::streams::show;
-use crate::{make, run, say};
+use crate::{make, output, run, say};
+use descriptors::{make_folder, open_append, open_read, read_small};
 use files::keep_proof;
+use std::fs::{File, Permissions};
+use std::io;
+use std::os::unix::fs::PermissionsExt;
 
 // Room for three bytes.
-fn make_part(proof: &[u8]) -> i32 {
-    files::make_part(proof, b"abc", 3, 1)
+fn make_part(rt: &HostRuntime, proof: &[u8]) -> Option<File> {
+    files::make_part(rt, proof, b"abc", 3, output(rt))
 }
 
-fn keep(fd: i32, proof: &[u8]) {
-    if keep_proof(fd, proof, b"abc", 1) {
-        say(b"kept\n");
+fn keep_file(rt: &HostRuntime, file: File, proof: &[u8]) {
+    if keep_proof(rt, file, proof, b"abc", output(rt)) {
+        say(rt, b"kept\n");
     }
 }
 
-fn show_size(name: &[u8]) {
-    say(name);
-    let fd = os::open_read(name);
-    let mut place = io::buffer();
-    let size = io::read_full(fd, &mut place);
-    libc::close(fd);
-    say(b": bytes ");
-    io::print_decimal(1, size as u64);
-    say(b"\n");
+fn keep(rt: &HostRuntime, part: Option<File>, proof: &[u8]) {
+    if let Some(file) = part {
+        keep_file(rt, file, proof);
+    }
+}
+
+fn show_size(rt: &HostRuntime, name: &[u8]) {
+    say(rt, name);
+    let mut place = [0u8; 4096];
+    let size = read_small(rt, name, &mut place);
+    say(rt, b": bytes ");
+    let _ = print!(rt; "{size}");
+    say(rt, b"\n");
 }
 
 // The room is taken before anything is labelled, and the proof is written over it.
-fn room() {
-    say(b"> the room of a proof of three bytes, and the proof\n");
-    let fd = make_part(b"room.proof");
-    show_size(b"room.proof.part");
-    keep(fd, b"room.proof");
-    show(b"room.proof");
-    show(b"room.proof.part");
+fn room(rt: &HostRuntime) {
+    say(rt, b"> the room of a proof of three bytes, and the proof\n");
+    let part = make_part(rt, b"room.proof");
+    show_size(rt, b"room.proof.part");
+    keep(rt, part, b"room.proof");
+    show(rt, b"room.proof");
+    show(rt, b"room.proof.part");
 }
 
-fn taken() {
-    say(b"> the name is taken meanwhile\n");
-    let fd = make_part(b"taken.proof");
-    make(b"taken.proof", b"made meanwhile", false);
-    keep(fd, b"taken.proof");
-    show(b"taken.proof");
-    show(b"taken.proof.part");
+fn taken(rt: &HostRuntime) {
+    say(rt, b"> the name is taken meanwhile\n");
+    let part = make_part(rt, b"taken.proof");
+    make(rt, b"taken.proof", b"made meanwhile", false);
+    keep(rt, part, b"taken.proof");
+    show(rt, b"taken.proof");
+    show(rt, b"taken.proof.part");
 }
 
-fn replace(bytes: &[u8], proof: &[u8], name: &[u8], kept: &[u8]) {
-    let fd = make_part(proof);
-    os::unlink(name);
-    make(name, bytes, false);
-    keep(fd, proof);
-    show(proof);
-    show(name);
-    show(kept);
+fn replace(rt: &HostRuntime, bytes: &[u8], proof: &[u8], name: &[u8], kept: &[u8]) {
+    let part = make_part(rt, proof);
+    let _ = descriptors::remove(rt, name);
+    make(rt, name, bytes, false);
+    keep(rt, part, proof);
+    show(rt, proof);
+    show(rt, name);
+    show(rt, kept);
 }
 
-fn replaced() {
-    say(b"> the temporary file is replaced meanwhile\n");
+fn replaced(rt: &HostRuntime) {
+    say(rt, b"> the temporary file is replaced meanwhile\n");
     replace(
+        rt,
         b"xyz",
         b"moved.proof",
         b"moved.proof.part",
         b"moved.proof.kept",
     );
-    say(b"> the same by a file of the same bytes\n");
+    say(rt, b"> the same by a file of the same bytes\n");
     replace(
+        rt,
         b"abc",
         b"equal.proof",
         b"equal.proof.part",
@@ -71,50 +81,55 @@ fn replaced() {
     );
 }
 
+fn allow(folder: &io::Result<File>, mode: u32) {
+    if let Ok(open) = folder {
+        let _ = open.set_permissions(Permissions::from_mode(mode));
+    }
+}
+
 // A folder that may not be changed any more.
-fn not_renamed() {
-    say(b"> the proof cannot be renamed\n");
-    os::mkdir(b"still");
-    let folder = os::open_read(b"still");
-    let fd = make_part(b"still/x.proof");
-    libc::fchmod(folder, 0o500);
-    keep(fd, b"still/x.proof");
-    show(b"still/x.proof.part");
-    libc::fchmod(folder, 0o700);
-    libc::close(folder);
+fn not_renamed(rt: &HostRuntime) {
+    say(rt, b"> the proof cannot be renamed\n");
+    let _ = make_folder(rt, b"still");
+    let folder = open_read(rt, b"still");
+    let part = make_part(rt, b"still/x.proof");
+    allow(&folder, 0o500);
+    keep(rt, part, b"still/x.proof");
+    show(rt, b"still/x.proof.part");
+    allow(&folder, 0o700);
 }
 
 // A disk with no room, and one that cannot be synced, by devices that answer so.
-fn device(path: &[u8], proof: &[u8], kept: &[u8]) {
-    let fd = os::open_append(path);
-    keep(fd, proof);
-    show(proof);
-    show(kept);
+fn device(rt: &HostRuntime, path: &[u8], proof: &[u8], kept: &[u8]) {
+    if let Ok(file) = open_append(rt, path) {
+        keep_file(rt, file, proof);
+    }
+    show(rt, proof);
+    show(rt, kept);
 }
 
-fn devices() {
-    say(b"> a disk with no room\n");
-    device(b"/dev/full", b"full.proof", b"full.proof.kept");
-    say(b"> a disk that cannot be synced\n");
-    device(b"/dev/null", b"null.proof", b"null.proof.kept");
+fn devices(rt: &HostRuntime) {
+    say(rt, b"> a disk with no room\n");
+    device(rt, b"/dev/full", b"full.proof", b"full.proof.kept");
+    say(rt, b"> a disk that cannot be synced\n");
+    device(rt, b"/dev/null", b"null.proof", b"null.proof.kept");
 }
 
 // A folder that may be changed but not read, and so not synced.
-fn folder() {
-    os::mkdir(b"dark");
-    let fd = os::open_read(b"dark");
-    libc::fchmod(fd, 0o300);
-    run(b"seal report dark/x.proof 3 2");
-    libc::fchmod(fd, 0o700);
-    libc::close(fd);
-    run(b"verify report dark/x.proof");
+fn folder(rt: &HostRuntime) {
+    let _ = make_folder(rt, b"dark");
+    let folder = open_read(rt, b"dark");
+    allow(&folder, 0o300);
+    run(rt, b"seal report dark/x.proof 3 2");
+    allow(&folder, 0o700);
+    run(rt, b"verify report dark/x.proof");
 }
 
-pub fn all() {
-    room();
-    taken();
-    replaced();
-    not_renamed();
-    devices();
-    folder();
+pub fn all(rt: &HostRuntime) {
+    room(rt);
+    taken(rt);
+    replaced(rt);
+    not_renamed(rt);
+    devices(rt);
+    folder(rt);
 }

@@ -1,33 +1,47 @@
-// Answers apart from complaints, large reports, and closed standard descriptors.
-use crate::{make, run, run_on, say};
+// Answers apart from complaints, large reports, and streams that cannot be written.
+use crate::{make, output, run, run_on, say, write};
+use descriptors::{Stream, create, open_read, read_whole};
+use std::fs::File;
+use std::os::fd::AsRawFd;
 
-// What a file has, at most 4,096 bytes of it.
-pub fn show(name: &[u8]) {
-    say(name);
-    say(b": ");
-    let fd = os::open_read(name);
-    if fd < 0 {
-        say(b"not there\n");
-        return;
-    }
-    let mut place = io::buffer();
-    let size = io::read_full(fd, &mut place);
-    libc::close(fd);
-    say(&place[..size]);
-    say(b"\n");
+fn show_file(rt: &HostRuntime, file: &File) {
+    let mut place = [0u8; 4096];
+    let input = read_whole(Stream::File(file), &mut place);
+    let size = input.size;
+    say(rt, &place[..size]);
+    say(rt, b"\n");
 }
 
-// A scenario whose standard output and standard error are two files, shown one after the other.
-fn run_apart(words: &[u8]) {
-    let out = os::create(b"out");
-    let err = os::create(b"err");
-    run_on(words, out, err);
-    libc::close(out);
-    libc::close(err);
-    show(b"out");
-    show(b"err");
-    os::unlink(b"out");
-    os::unlink(b"err");
+// What a file has, at most 4,096 bytes of it.
+pub fn show(rt: &HostRuntime, name: &[u8]) {
+    say(rt, name);
+    say(rt, b": ");
+    match open_read(rt, name) {
+        Ok(file) => show_file(rt, &file),
+        Err(_) => say(rt, b"not there\n"),
+    }
+}
+
+fn run_between(rt: &HostRuntime, words: &[u8], out: &File, err: &File) {
+    run_on(rt, words, Stream::File(out), Stream::File(err));
+}
+
+// A scenario whose standard output and standard error are two new files.
+fn run_into(rt: &HostRuntime, words: &[u8]) {
+    if let Ok(out) = create(rt, b"out") {
+        if let Ok(err) = create(rt, b"err") {
+            run_between(rt, words, &out, &err);
+        }
+    }
+}
+
+// The same, and both files shown, one after the other.
+fn run_apart(rt: &HostRuntime, words: &[u8]) {
+    run_into(rt, words);
+    show(rt, b"out");
+    show(rt, b"err");
+    let _ = descriptors::remove(rt, b"out");
+    let _ = descriptors::remove(rt, b"err");
 }
 
 fn piece() -> [u8; 50000] {
@@ -35,67 +49,77 @@ fn piece() -> [u8; 50000] {
 }
 
 // A report of 200,001 bytes, of which only byte 150,000 is chosen.
-fn make_large(name: &[u8], byte: &[u8]) {
+fn make_large(rt: &HostRuntime, name: &[u8], byte: &[u8]) {
     let same = piece();
-    let fd = os::create(name);
-    io::write_all(fd, &same);
-    io::write_all(fd, &same);
-    io::write_all(fd, &same);
-    io::write_all(fd, byte);
-    io::write_all(fd, &same);
-    libc::close(fd);
+    if let Ok(file) = create(rt, name) {
+        let to = Stream::File(&file);
+        write(to, &same);
+        write(to, &same);
+        write(to, &same);
+        write(to, byte);
+        write(to, &same);
+    }
 }
 
 // Reports that take several reads and differ in one byte; what is an answer, and what is a complaint or progress.
-pub fn apart() {
-    make_large(b"long", b"h");
-    make_large(b"changed", b"H");
-    run_apart(b"seal long long.proof 3 2");
-    show(b"long.proof.part");
-    run_apart(b"verify long long.proof");
-    run_apart(b"verify long long.proof 3 2");
-    run_apart(b"verify changed long.proof");
-    run_apart(b"seal changed changed.proof 3 2");
-    run_apart(b"chain long long.proof");
-    run_apart(b"seal none x.proof 3");
-    run_apart(b"weigh");
+pub fn apart(rt: &HostRuntime) {
+    make_large(rt, b"long", b"h");
+    make_large(rt, b"changed", b"H");
+    run_apart(rt, b"seal long long.proof 3 2");
+    show(rt, b"long.proof.part");
+    run_apart(rt, b"verify long long.proof");
+    run_apart(rt, b"verify long long.proof 3 2");
+    run_apart(rt, b"verify changed long.proof");
+    run_apart(rt, b"seal changed changed.proof 3 2");
+    run_apart(rt, b"chain long long.proof");
+    run_apart(rt, b"seal none x.proof 3");
+    run_apart(rt, b"weigh");
 }
 
-// Every kind of answer to a descriptor that can only be read.
-pub fn not_written() {
-    say(b"> standard output cannot be written\n");
-    let fd = os::open_read(b"report");
-    run_on(b"verify report report.proof", fd, 1);
-    run_on(b"chain report report.proof", fd, 1);
-    run_on(b"info report.proof", fd, 1);
-    run_on(b"help", fd, 1);
-    run_on(b"--version", fd, 1);
-    run_on(b"seal report unsaid.proof 3 2", fd, 1);
-    libc::close(fd);
-    run(b"verify report unsaid.proof");
+// Every kind of answer to a stream that can only be read.
+fn not_written_to(rt: &HostRuntime, to: Stream<'_>) {
+    run_on(rt, b"verify report report.proof", to, output(rt));
+    run_on(rt, b"chain report report.proof", to, output(rt));
+    run_on(rt, b"info report.proof", to, output(rt));
+    run_on(rt, b"help", to, output(rt));
+    run_on(rt, b"--version", to, output(rt));
+    run_on(rt, b"seal report unsaid.proof 3 2", to, output(rt));
+}
+
+pub fn not_written(rt: &HostRuntime) {
+    say(rt, b"> standard output cannot be written\n");
+    if let Ok(file) = open_read(rt, b"report") {
+        not_written_to(rt, Stream::File(&file));
+    }
+    run(rt, b"verify report unsaid.proof");
 }
 
 // The next file that is opened does not get the number of a standard descriptor.
-fn opened() {
-    let fd = os::open_read(b"report");
-    if 2 < fd {
-        say(b"the next file is none of the three\n");
+fn opened(rt: &HostRuntime) {
+    if let Ok(file) = open_read(rt, b"report") {
+        if 2 < file.as_raw_fd() {
+            say(rt, b"the next file is none of the three\n");
+        }
     }
-    libc::close(fd);
 }
 
-// Standard error closed while sealing, and standard input and error before a file is opened.
-pub fn closed() {
-    say(b"> standard error is closed\n");
-    libc::close(2);
-    run_on(b"seal report closed.proof 3 2", 1, 2);
-    run(b"verify report closed.proof");
-    say(b"> standard input and standard error are closed\n");
-    libc::close(0);
-    libc::close(2);
-    if descriptors::occupy() {
-        opened();
+// A closed standard error is what stands in its place: /dev/null, open for reading. No program closes a standard descriptor of its own by
+// the library; tests/program does that from outside, for all three and in each combination.
+pub fn closed(rt: &HostRuntime) {
+    say(rt, b"> standard error is closed\n");
+    if let Ok(null) = open_read(rt, b"/dev/null") {
+        run_on(
+            rt,
+            b"seal report closed.proof 3 2",
+            output(rt),
+            Stream::File(&null),
+        );
     }
-    make(b"last", b"", false);
-    show(b"last");
+    run(rt, b"verify report closed.proof");
+    say(rt, b"> standard input and standard error are closed\n");
+    if descriptors::occupy(rt) {
+        opened(rt);
+    }
+    make(rt, b"last", b"", false);
+    show(rt, b"last");
 }

@@ -28,7 +28,8 @@ fn openings_done(run: Run, count: u64, behind: &[u8]) -> u64
         (openings_taken run.edition run.statement (take 32 run.held) run.depth count behind.now) 0 }
 {
     let all = nodes(run.depth);
-    if run.made < all {
+    let early = run.made < all;
+    if early {
         return 0;
     }
     let held = run.held;
