@@ -1,7 +1,7 @@
 // Sealing a statement: labels, openings and the proof file, a portion of labels at a time, with progress and checkpoints by the clock.
 #![tactic(auto)]
 
-mod labelling; // labelling.rt: the tree labelled
+mod labels; // labels.rt: the tree labelled
 mod opening_all; // opening_all.rt: the openings made
 mod portions; // portions.rt: how many labels in all
 mod resuming; // resuming.rt: a seal taken up from its checkpoint
@@ -15,7 +15,7 @@ ghost use Rattle.sealing.specs.Front.{Seals};
 
 use base::label_at;
 use file_head::write_head;
-use labelling::label_on;
+use labels::label_on;
 use opening_all::open_rest;
 pub use portions::all_labels;
 use progress::Progress;

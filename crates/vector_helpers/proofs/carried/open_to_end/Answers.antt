@@ -19,7 +19,7 @@ returns-then-step-eq0 c =
     let none = sym made.ensures.labels_value ∙ c.if-step-eq0.true in
     let idle = opening-idle a.store.now s a.budget none in
     let rest = labels-idle (opens.advanced a.store.now) (opens.labels_in a.store.now) a.budget s idle none l.left in
-    let all = idle ∙ sym (calls-idle (opens.advanced a.store.now) (opens.labels_in a.store.now) a.budget s idle l.left) ∙ l.invariant.2 in 
+    let all = idle ∙ sym (calls-idle (opens.advanced a.store.now) (opens.labels_in a.store.now) a.budget s idle l.left) ∙ l.invariant.2 in
     record {
       value = counted-all l.labels _ _ l.invariant.1 rest l.invariant.3;
       out_after = made.ensures.out_after ∙ ap (λ (t : Open). t.out) all;
@@ -52,7 +52,7 @@ returns c =
     let s = open_of l.state l.out in
     let advance = opens.advanced a.store.now in
     let labels = opens.labels_in a.store.now in
-    let all = sym (calls-none advance labels a.budget s l.left c.loop-left-test.false) ∙ l.invariant.2 in 
+    let all = sym (calls-none advance labels a.budget s l.left c.loop-left-test.false) ∙ l.invariant.2 in
     record {
       value = counted-all l.labels _ _ l.invariant.1 (labels-none advance labels a.budget s l.left c.loop-left-test.false)
           l.invariant.3;

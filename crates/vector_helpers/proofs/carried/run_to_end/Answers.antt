@@ -15,7 +15,7 @@ returns-then-step-eq0 c =
     let s = stamped l.state l.store in
     let idle = run-idle s a.budget (sym made.ensures.labels_value ∙ c.if-step-eq0.true) in
     let same = sym (calls-idle advanced labels_in a.budget s idle l.left) ∙ l.invariant.1 in
-    let all = idle ∙ same in 
+    let all = idle ∙ same in
     record {
       value = made.ensures.run_value ∙ ap (λ (t : Stamped). t.run) all;
       store_after = made.ensures.store_after ∙ ap (λ (t : Stamped). t.store) all;
@@ -38,7 +38,7 @@ pub returns : goal.returns
 returns c =
     let l = c.loop-left in
     let a = c.args in
-    let all = sym (calls-none advanced labels_in a.budget (stamped l.state l.store) l.left c.loop-left-test.false) ∙ l.invariant.1 in 
+    let all = sym (calls-none advanced labels_in a.budget (stamped l.state l.store) l.left c.loop-left-test.false) ∙ l.invariant.1 in
     record {
       value = ap (λ (t : Stamped). t.run) all;
       store_after = ap (λ (t : Stamped). t.store) all;

@@ -9,7 +9,7 @@ returns c =
     let space = c.store_space-store.ensures in
     let run = c.run_whole.ensures in
     let root = c.label_at-root in
-    let store = run ∙ ap (λ (s : List ℕ). whole_run a.edition a.statement a.depth a.memory s) space in 
+    let store = run ∙ ap (λ (s : List ℕ). whole_run a.edition a.statement a.depth a.memory s) space in
     record {
       value = root.ensures ∙ ap (λ (s : List ℕ). take 32 s) store;
       file_after = c.write_whole.ensures

@@ -7,7 +7,7 @@ loop-i-init c = (omega arith, refl, omega arith, spelled_none c.args.text.now c.
 
 pub returns-then-text-i : goal.returns-then-text-i
 returns-then-text-i c =
-    let l = c.loop-i in 
+    let l = c.loop-i in
     record {
       value = (omega (arith, c.if-text-i.true), omega arith);
       out_after = l.invariant.3;
@@ -27,7 +27,7 @@ loop-i-preserved c =
 
 pub returns : goal.returns
 returns c =
-    let l = c.loop-i in 
+    let l = c.loop-i in
     record {
       value = (omega arith, omega arith);
       out_after = l.invariant.3;

@@ -6,7 +6,7 @@ use Prim.Native.Nat.{◌-◌}
 use Rattle.run.specs.Steps.{stamped}
 use Rattle.run.proofs.RowLaws.{may-go-on}
 use Rattle.sealing.proofs.LabelLaws.{first_run, next-run, last-run}
-use Rattle.sealing.proofs.labelling.label_on.Goals as goal
+use Rattle.sealing.proofs.labels.label_on.Goals as goal
 
 -- the function's start, from a turn's test
 

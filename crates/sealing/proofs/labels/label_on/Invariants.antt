@@ -1,10 +1,10 @@
--- `sealing::labelling::label_on` meets its contract: the invariant: run and store are those after as many steps as are no longer left.
+-- `sealing::labels::label_on` meets its contract: the invariant: run and store are those after as many steps as are no longer left.
 use mathlib.Core.Path.{◌≡◌}
 use lib.ListN.{length}
 use Prim.Native.Nat.{◌-◌, ◌≤◌}
 use Rattle.run.specs.Steps.{stamped, steps}
 use Rattle.run_record_theory.specs.Pausing.{remaining_of}
-use Rattle.sealing.proofs.labelling.label_on.Given as goal
+use Rattle.sealing.proofs.labels.label_on.Given as goal
 
 abbrev pub invariant-loop-left : goal.invariant-loop-left
 invariant-loop-left g l =
