@@ -9,7 +9,7 @@ use Rattle.drawing_text.proofs.facts.shape_refusal.Goals as goal
 
 pub file_length-requires : goal.file_length-requires
 file_length-requires c =
-    let w = head-within c.args.file.now _ _ _ _ (λ j. (c.shared_slice_known-1.given j).fits) (sym (ap head_answer (sym c.in-Numbers.is) ∙ c.read_head-head.ensures)) in
+    let w = head-within c.args.file.now _ _ _ _ (λ j. (c.type_inv.file j).fits) (sym (ap head_answer (sym c.in-Numbers.is) ∙ c.read_head-head.ensures)) in
     (w.depth.1, w.count.1, w.place)
 
 pub returns-in-NotRead : goal.returns-in-NotRead

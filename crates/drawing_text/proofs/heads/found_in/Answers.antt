@@ -8,7 +8,7 @@ use Rattle.drawing_text.proofs.heads.found_in.Goals as goal
 
 pub is_report-same_report-requires : goal.is_report-same_report-requires
 is_report-same_report-requires c =
-    omega (arith, (head-within c.args.file.now _ _ _ _ (λ j. (c.shared_slice_known-1.given j).fits) (sym (ap head_answer (sym c.in-Numbers.is) ∙ c.read_head-head.ensures))).place)
+    omega (arith, (head-within c.args.file.now _ _ _ _ (λ j. (c.type_inv.file j).fits) (sym (ap head_answer (sym c.in-Numbers.is) ∙ c.read_head-head.ensures))).place)
 
 pub returns-in-NotRead : goal.returns-in-NotRead
 returns-in-NotRead c =
@@ -24,7 +24,7 @@ returns-in-NotRead c =
 pub returns-in-Numbers : goal.returns-in-Numbers
 returns-in-Numbers c =
     let a = c.args in
-    let e = ap head_answer (sym c.in-Numbers.is) ∙ c.read_head-head.ensures in
+    let e = (ap head_answer (sym c.in-Numbers.is) ∙ c.read_head-head.ensures) in
     record {
       edition_value = ap head_edition e;
       depth_value = ap head_depth e;

@@ -29,5 +29,5 @@ returns-in-15 c = words-known _ 15 _ c.in-15.is c.sentence-in-15.ensures
 
 pub returns-in_default : goal.returns-in_default
 returns-in_default c =
-    words-other c.args.number _ (omega arith) (omega arith) (omega arith) (omega arith) (omega arith) (omega arith) (omega arith) (omega arith)
-    c.sentence-in_default.ensures
+    words-other c.args.number _ (omega arith) (omega arith) (omega arith) (omega arith) (omega arith)
+    (omega arith) (omega arith) (omega arith) c.sentence-in_default.ensures
