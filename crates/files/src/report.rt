@@ -155,6 +155,11 @@ fn open_report<R: Files<File = File>>(rt: &R, path: &[u8]) -> io::Result<Option<
     Ok(Some(open_read(rt, path)?))
 }
 
+// Closes a report; standard input stays as it is.
+fn close_report(opened: Option<File>) {
+    drop(opened);
+}
+
 // The stream that a report is read from.
 fn stream_of<'a>(opened: &'a Option<File>, input: Stream<'a>) -> Stream<'a> {
     match opened {
@@ -202,6 +207,7 @@ pub fn is_apart<R: Files<File = File>>(
         }
         Ok(opened) => {
             let own = is_own(rt, stream_of(&opened, input), proof);
+            close_report(opened);
             if own {
                 complain(
                     err,
@@ -228,6 +234,7 @@ pub fn state_report<R: Files<File = File>>(
         }
         Ok(opened) => {
             let hashed = take_all(stream_of(&opened, input));
+            close_report(opened);
             if !hashed.good {
                 complain_of(err, path, hashed.error);
                 return not_stated();

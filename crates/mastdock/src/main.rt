@@ -19,7 +19,7 @@ fn status(number: u8) -> u8 {
 
 // Does what the program's arguments ask, with answers on standard output, and progress and complaints on standard error. 0 if it is done, 1
 // if it is refused, 2 if it could not be tried.
-fn mastdock_main<R: Env + Files<File = File> + Clock>(
+pub fn mastdock_main<R: Env + Files<File = File> + Clock>(
     rt: &R,
     input: Stream<'_>,
     out: Stream<'_>,
