@@ -4,6 +4,8 @@ use Prim.Native.Nat.{ℕ}
 use mathlib.Core.Bool.{Bool, true, false}
 use mathlib.Core.List.{List, [], ◌∷◌}
 use borrow.Author.Tests.{eqb-true, eq-eqb}
+use lib.Pointwise.{pointwise}
+use Rattle.std.specs.Prelude.{◌&&◌}
 use Rattle.base.specs.Choice.{both}
 use Rattle.base.specs.Lists.{same_by, same_bytes, same_labels}
 use Rattle.base.proofs.ChoiceLaws.{both_first, both-second, both_yes, true-false, not_so}
@@ -52,3 +54,15 @@ tells-labels = tells-lists tells-bytes
 pub same-two : (a b c d : List ℕ) → same_labels (a ∷ b ∷ []) (c ∷ d ∷ []) ≡ both (same_bytes a c) (same_bytes b d)
 unfolding same_by
 same-two a b c d = ap (both (same_bytes a c)) (both_yes (same_bytes b d))
+
+-- std's comparison of slices is this one
+pub same_by-pointwise : {A : Type 0} (test : A → A → Bool) (x y : List A) → pointwise test x y ≡ same_by test x y
+unfolding same_by
+same_by-pointwise test [] [] = refl
+same_by-pointwise test [] (b ∷ y) = refl
+same_by-pointwise test (a ∷ x) [] = refl
+same_by-pointwise test (a ∷ x) (b ∷ y) = joined (test a b) (same_by-pointwise test x y)
+  where
+    joined : {p q : Bool} (t : Bool) → p ≡ q → (t && p) ≡ both t q
+    joined true e = e
+    joined false e = refl

@@ -9,8 +9,7 @@ use borrow.Author.Tests.{leb-true}
 use Rattle.base.specs.Choice.{pick, both}
 use Rattle.base.proofs.ChoiceLaws.{both_first, both-second, true-false}
 use Rattle.base.specs.declared.refusal.Refusal.{Refusal}
-use Rattle.base.specs.declared.refusal.Outcome.{Outcome}
-use Rattle.base.specs.declared.refusal.Outcome.TheVariants.{Done, Refused}
+use Rattle.std.specs.Prelude.{Result, Ok, Err}
 use Rattle.base.specs.Number.{number_of, outcome_number}
 use Rattle.base.specs.Row.{first_of, is_done}
 use Rattle.base.proofs.Bounds.{number-some}
@@ -67,11 +66,11 @@ never-gives [] number some never e = omega arith
 never-gives (check ∷ row) number some never e =
     never-by check.0 check.1 number (first_of row) never.0 (λ f. never-gives row number some (never.1 f)) e
 
--- an outcome is told by its number
-pub is-done : (o : Outcome) (row : ℕ) → outcome_number o ≡ row → o ≡ Done → row ≡ 0
-is-done o row e d = rw d at (sym e)
+-- an answer is told by its number
+pub is-done : {A : Type 0} (o : Result A Refusal) (row : ℕ) (x : A) → outcome_number o ≡ row → o ≡ Ok x → row ≡ 0
+is-done o row x e d = rw d at (sym e)
 
-pub refused-number : (o : Outcome) (row : ℕ) (r : Refusal) → outcome_number o ≡ row → o ≡ Refused r → number_of r ≡ row
+pub refused-number : {A : Type 0} (o : Result A Refusal) (row : ℕ) (r : Refusal) → outcome_number o ≡ row → o ≡ Err r → number_of r ≡ row
 refused-number o row r e d = rw d at e
 
 pub some-refused : (row : ℕ) → 1 ≤ row → is_done row ≡ false
@@ -81,5 +80,5 @@ some-refused (suc row) h = refl
 pub not_done : (r : Refusal) (row : ℕ) → number_of r ≡ row → is_done row ≡ false
 not_done r row e = some-refused row (omega (arith, number-some r))
 
-pub is-refused : (o : Outcome) (row : ℕ) (r : Refusal) → outcome_number o ≡ row → o ≡ Refused r → is_done row ≡ false
+pub is-refused : {A : Type 0} (o : Result A Refusal) (row : ℕ) (r : Refusal) → outcome_number o ≡ row → o ≡ Err r → is_done row ≡ false
 is-refused o row r e d = not_done r row (refused-number o row r e d)

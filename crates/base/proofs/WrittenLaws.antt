@@ -1,4 +1,5 @@
 -- What stands in a list after a part is written over it.
+use borrow.Rule.Slice.PartMut.{put_mid, post_of, Post-is}
 use mathlib.Core.Path.{◌≡◌, sym, ap, ◌∙◌}
 use mathlib.Core.Logic.{◌⊎◌, inl, inr}
 use mathlib.Core.List.{List, [], ◌∷◌, ◌++◌, append_assoc, append-nil}
@@ -131,3 +132,10 @@ written-append d at (x ∷ a) b h =
     let e : at + length (x ∷ a) ≡ at + 1 + length a = omega arith in
     rw (written_one d at x (a ++ b) h, written_one d at x a k, e)
     (written-append (set d at x) (at + 1) a b (rw length-set (omega arith)))
+
+-- a part of a slice replaced by as many bytes, as std says it
+pub put_mid-written : (bytes part : List ℕ) (at : ℕ) → put_mid at (at + length part - at) bytes part ≡ written bytes at part
+unfolding written
+put_mid-written bytes part at =
+    sym (append_assoc (take at bytes) part (post_of at (at + length part - at) bytes))
+    ∙ ap (λ (l : List ℕ). (take at bytes ++ part) ++ l) (Post-is at (at + length part) bytes (omega arith))

@@ -1,13 +1,10 @@
 -- Document 01, 'The checks, by place': the number of each refusal, from 18 on a change request's, and a check's answer as one number.
-use Rattle.std.specs.Prelude.{ℕ, ◌+◌, ◌*◌}
+use Rattle.std.specs.Prelude.{ℕ, ◌+◌, ◌*◌, Result, Ok, Err}
 use Rattle.base.specs.declared.refusal.Refusal.{Refusal}
 use Rattle.base.specs.declared.refusal.Refusal.TheVariants.{Depth, MemoryLevel, ShortStore, State, TooManyBytes, LeafPosition, ShortOutput, Count}
 use Rattle.base.specs.declared.refusal.Refusal.TheVariants.{NotWanted, BytesEnd, NotShortest, Edition, BytesLeft, LeafLabel, Root, ShortList}
 use Rattle.base.specs.declared.refusal.Refusal.TheVariants.{Input, RecordLength, Runs}
-use Rattle.base.specs.declared.refusal.Outcome.{Outcome}
-use Rattle.base.specs.declared.refusal.Outcome.TheVariants.{Done, Refused}
-use Rattle.base.specs.declared.refusal.Check.{Check}
-use Rattle.base.specs.declared.refusal.Check.TheVariants.{Accepted, Rejected}
+use Rattle.base.specs.declared.refusal.Rejection.{Rejection}
 
 abbrev pub number_of : Refusal → ℕ
 -- n not 1..40
@@ -50,11 +47,11 @@ number_of RecordLength = 18
 number_of Runs = 21
 
 -- 0 if done, else the refusal's number
-abbrev pub outcome_number : Outcome → ℕ
-outcome_number Done = 0
-outcome_number (Refused r) = number_of r
+abbrev pub outcome_number : {A : Type 0} → Result A Refusal → ℕ
+outcome_number (Ok value) = 0
+outcome_number (Err r) = number_of r
 
 -- 'Where an answer must be one number it is 256 × refusal + opening, and 0 if accepted.'
-abbrev pub code_of : Check → ℕ
-code_of Accepted = 0
-code_of (Rejected r opening) = 256 * number_of r + opening
+abbrev pub code_of : Result Unit Rejection → ℕ
+code_of (Ok value) = 0
+code_of (Err r) = 256 * number_of r.refusal + r.opening

@@ -7,7 +7,7 @@ ghost use Rattle.std.specs.Prelude.{◌≡◌, ◌+◌, ◌<◌, ◌≤◌, min,
 ghost use Rattle.base.specs.Bytes.{big_endian, written};
 ghost use Rattle.base.specs.Lists.{same_bytes};
 
-pub use refusal::{Check, Outcome, Refusal, beyond, code, memory_over, number, outcome_number};
+pub use refusal::{Refusal, Rejection, beyond, code, memory_over, number, outcome_number};
 
 // Document 01's limits and the sizes that follow from them: specs/Limits.antt says what each one is.
 pub const MAX_DEPTH: u64 = 40;
@@ -41,48 +41,15 @@ pub fn put(dst: &mut [u8], at: usize, src: &[u8])
     requires { at + length src.now ≤ length dst.old }
     ensures { dst.new ≡ written dst.old at src.now }
 {
-    let count = src.len();
-    let mut i: usize = 0;
-    while i < count {
-        dst[at + i] = src[i];
-        i += 1;
-    }
+    let end = at + src.len();
+    dst[at..end].copy_from_slice(src);
 }
 
 // A number in eight bytes, highest first.
 pub fn big_endian(x: u64) -> [u8; 8]
     ensures { result ≡ big_endian 8 x }
 {
-    let x1 = x / 256;
-    let x2 = x1 / 256;
-    let x3 = x2 / 256;
-    let x4 = x3 / 256;
-    let x5 = x4 / 256;
-    let x6 = x5 / 256;
-    let x7 = x6 / 256;
-    [
-        (x7 % 256) as u8,
-        (x6 % 256) as u8,
-        (x5 % 256) as u8,
-        (x4 % 256) as u8,
-        (x3 % 256) as u8,
-        (x2 % 256) as u8,
-        (x1 % 256) as u8,
-        (x % 256) as u8,
-    ]
-}
-
-pub fn smaller(x: u64, y: u64) -> u64
-    ensures { result ≡ min x y }
-{
-    if x < y { x } else { y }
-}
-
-// A byte as a number.
-pub fn wide(byte: u8) -> u64
-    ensures { (result ≡ byte) × (result < 256) }
-{
-    byte as u64
+    x.to_be_bytes()
 }
 
 // Whether two lists of bytes of one length are the same.
@@ -90,14 +57,7 @@ pub fn same(a: &[u8], b: &[u8]) -> bool
     requires { length a.now ≡ length b.now }
     ensures { result ≡ same_bytes a.now b.now }
 {
-    let mut i = 0;
-    while i < a.len() {
-        if a[i] != b[i] {
-            return false;
-        }
-        i += 1;
-    }
-    true
+    a == b
 }
 
 // The 32 bytes at a place.
@@ -107,6 +67,6 @@ pub fn label_at(bytes: &[u8], at: usize) -> [u8; 32]
 {
     let end = at + 32;
     let mut label = [0u8; 32];
-    put(&mut label, 0, &bytes[at..end]);
+    label.copy_from_slice(&bytes[at..end]);
     label
 }

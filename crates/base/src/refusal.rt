@@ -5,89 +5,73 @@ ghost use Rattle.base.specs.Row.{outside, memory_over};
 
 use crate::MAX_MEMORY;
 
-// What was wrong. The number of each case, document 01's or a change request's, is `number_of` of specs/Number.antt.
-#[derive(Clone, Copy)]
+// What was wrong, with its number: document 01's, and from 18 on a change request's.
+#[derive(Clone, Copy, Debug, PartialEq, Eq)]
 pub enum Refusal {
-    Depth,
-    MemoryLevel,
-    ShortStore,
-    State,
-    TooManyBytes,
-    LeafPosition,
-    ShortOutput,
-    Count,
-    NotWanted,
-    BytesEnd,
-    NotShortest,
-    Edition,
-    BytesLeft,
-    LeafLabel,
-    Root,
-    ShortList,
-    Input,
-    RecordLength,
-    Runs,
+    Depth = 1,
+    MemoryLevel = 2,
+    ShortStore = 3,
+    State = 4,
+    TooManyBytes = 5,
+    LeafPosition = 6,
+    ShortOutput = 7,
+    Count = 8,
+    NotWanted = 9,
+    BytesEnd = 10,
+    NotShortest = 11,
+    Edition = 12,
+    BytesLeft = 13,
+    LeafLabel = 14,
+    Root = 15,
+    ShortList = 16,
+    Input = 17,
+    RecordLength = 18,
+    Runs = 21,
 }
 
-// The answer of a call that is done whole or refused.
-#[derive(Clone, Copy)]
-pub enum Outcome {
-    Done,
-    Refused(Refusal),
+// Why a file is not accepted: a refusal with the opening that it was found in, from 1, or 0 outside openings.
+#[derive(Clone, Copy, Debug, PartialEq, Eq)]
+pub struct Rejection {
+    pub refusal: Refusal,
+    pub opening: u8,
 }
 
-// The answer of a check: accepted, or a refusal with the opening that it was found in, from 1, or 0
-// outside openings.
-#[derive(Clone, Copy)]
-pub enum Check {
-    Accepted,
-    Rejected(Refusal, u8),
+// A refusal outside openings.
+impl From<Refusal> for Rejection {
+    ghost from_gives = { λ refusal result. result ≡ record { refusal = refusal; opening = 0 } };
+
+    fn from(refusal: Refusal) -> Rejection {
+        Rejection {
+            refusal,
+            opening: 0,
+        }
+    }
 }
 
 // The number of a refusal.
 pub fn number(r: Refusal) -> u64
     ensures { result ≡ number_of r }
 {
-    match r {
-        Refusal::Depth => 1,
-        Refusal::MemoryLevel => 2,
-        Refusal::ShortStore => 3,
-        Refusal::State => 4,
-        Refusal::TooManyBytes => 5,
-        Refusal::LeafPosition => 6,
-        Refusal::ShortOutput => 7,
-        Refusal::Count => 8,
-        Refusal::NotWanted => 9,
-        Refusal::BytesEnd => 10,
-        Refusal::NotShortest => 11,
-        Refusal::Edition => 12,
-        Refusal::BytesLeft => 13,
-        Refusal::LeafLabel => 14,
-        Refusal::Root => 15,
-        Refusal::ShortList => 16,
-        Refusal::Input => 17,
-        Refusal::RecordLength => 18,
-        Refusal::Runs => 21,
-    }
+    r as u64
 }
 
-// The number of an outcome: 0 if done.
-pub fn outcome_number(o: Outcome) -> u64
-    ensures { result ≡ outcome_number o }
+// The number of an answer: 0 if done.
+pub fn outcome_number<T: Copy>(answer: Result<T, Refusal>) -> u64
+    ensures { result ≡ outcome_number answer }
 {
-    match o {
-        Outcome::Done => 0,
-        Outcome::Refused(r) => number(r),
+    match answer {
+        Ok(_) => 0,
+        Err(refusal) => number(refusal),
     }
 }
 
 // A check's answer as one number.
-pub fn code(c: Check) -> u64
-    ensures { result ≡ code_of c }
+pub fn code(answer: Result<(), Rejection>) -> u64
+    ensures { result ≡ code_of answer }
 {
-    match c {
-        Check::Accepted => 0,
-        Check::Rejected(r, opening) => 256 * number(r) + (opening as u64),
+    match answer {
+        Ok(()) => 0,
+        Err(found) => 256 * number(found.refusal) + u64::from(found.opening),
     }
 }
 
@@ -95,21 +79,12 @@ pub fn code(c: Check) -> u64
 pub fn beyond(high: u64, x: u64) -> bool
     ensures { result ≡ outside 1 high x }
 {
-    if x < 1 {
-        return true;
-    }
-    if high < x {
-        return true;
-    }
-    false
+    !(1..=high).contains(&x)
 }
 
 // Whether a memory level is over the smaller of the depth and the limit.
 pub fn memory_over(depth: u64, memory: u64) -> bool
     ensures { result ≡ memory_over depth memory }
 {
-    if depth < memory {
-        return true;
-    }
-    MAX_MEMORY < memory
+    depth.min(MAX_MEMORY) < memory
 }

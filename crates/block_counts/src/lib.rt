@@ -56,10 +56,8 @@ pub fn seal_blocks(
     ensures upper_bound { result < 2 ^ 54 }
 {
     let mut blocks = tree_blocks(depth);
-    let mut i = 0;
-    while i < count {
-        i += 1;
-        let leaf = challenge_leaf(edition, depth, statement, root, i);
+    for i in 0..count {
+        let leaf = challenge_leaf(edition, depth, statement, root, i + 1);
         blocks += opening_blocks(depth, memory, leaf);
     }
     blocks

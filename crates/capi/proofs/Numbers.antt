@@ -1,24 +1,15 @@
--- Equal drawings have the same numbers, and so have equal pairs and equal heads.
-use mathlib.Core.Path.{◌≡◌, ap}
-use Rattle.file_head.specs.Head.{HeadAnswer, head_refusal, head_edition, head_depth, head_count}
-use Rattle.compare.specs.declared.Pair.{Pair}
-use Rattle.draw.specs.Drawing.{DrawingAnswer}
-use Rattle.capi.specs.Answers.{first_of, second_of, level_of, kind_of, refusal_of, count_of}
+-- What stands beside an answer in a struct of C: its value, or one that is fixed where it is refused.
+use mathlib.Core.Path.{◌≡◌}
+use mathlib.Core.Bool.{false}
+use Prim.Native.Nat.{ℕ}
+use Rattle.std.specs.Prelude.{Result, Ok, Err, IfOk}
+use Rattle.std.specs.Result.{result_unwrap_or}
+use Rattle.base.specs.declared.refusal.Refusal.{Refusal}
+use Rattle.base.specs.Number.{outcome_number}
+use Rattle.base.specs.Row.{is_done}
+use Rattle.base.proofs.RowLaws.{not_done}
 
-pub same_numbers :
-    (d e : DrawingAnswer) →
-    d ≡ e →
-    (kind_of d ≡ kind_of e) × ((refusal_of d ≡ refusal_of e) × (count_of d ≡ count_of e))
-same_numbers d e same = (ap kind_of same, (ap refusal_of same, ap count_of same))
-
-pub same-pair :
-    (p q : Pair) →
-    p ≡ q →
-    (first_of p ≡ first_of q) × ((second_of p ≡ second_of q) × (level_of p ≡ level_of q))
-same-pair p q same = (ap first_of same, (ap second_of same, ap level_of same))
-
-pub same_head :
-    (g h : HeadAnswer) →
-    g ≡ h →
-    ((head_refusal g ≡ head_refusal h) × (head_edition g ≡ head_edition h)) × ((head_depth g ≡ head_depth h) × (head_count g ≡ head_count h))
-same_head g h same = ((ap head_refusal same, ap head_edition same), (ap head_depth same, ap head_count same))
+pub value_or : {A : Type 0} (o : Result A Refusal) (row : ℕ) (none : A) (P : A → Type 0) → outcome_number o ≡ row → IfOk o P
+    → (is_done row ≡ false → P none) → P (result_unwrap_or o none)
+value_or (Ok x) row none P e ok refused = ok
+value_or (Err r) row none P e ok refused = refused (not_done r row e)

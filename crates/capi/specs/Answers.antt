@@ -1,21 +1,20 @@
 -- Answers that are enums, as numbers: one definition for each number, 0 where the case has none.
-use Rattle.std.specs.Prelude.{ℕ}
+use Rattle.std.specs.Prelude.{ℕ, Option, Some, None}
 use Rattle.compare.specs.declared.Pair.{Pair}
-use Rattle.compare.specs.declared.Pair.TheVariants.{Agree, Disagree}
 use Rattle.draw.specs.Drawing.{DrawingAnswer, not_drawn, drawn_chain, drawn_clash}
 
 -- the openings of the first pair that disagrees, from 1, and the smallest level: 0, 0 and 0 where no pair does
-abbrev pub first_of : Pair → ℕ
-first_of Agree = 0
-first_of (Disagree i j l) = i
+abbrev pub first_of : Option Pair → ℕ
+first_of None = 0
+first_of (Some pair) = pair.first
 
-abbrev pub second_of : Pair → ℕ
-second_of Agree = 0
-second_of (Disagree i j l) = j
+abbrev pub second_of : Option Pair → ℕ
+second_of None = 0
+second_of (Some pair) = pair.second
 
-abbrev pub level_of : Pair → ℕ
-level_of Agree = 0
-level_of (Disagree i j l) = l
+abbrev pub level_of : Option Pair → ℕ
+level_of None = 0
+level_of (Some pair) = pair.level
 
 -- what drawing found: 0 refused, 1 a chain, 2 a clash
 abbrev pub kind_of : DrawingAnswer → ℕ

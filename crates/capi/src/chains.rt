@@ -1,14 +1,14 @@
 // Chains: planned and drawn, and the comparison of openings.
-ghost use Rattle.std.specs.Prelude.{◌≡◌, length};
+ghost use Rattle.std.specs.Prelude.{◌≡◌, length, IfNone, IfSome};
 ghost use Rattle.base.specs.Bytes.{zeros};
 ghost use Rattle.chain.specs.PlanRow.{plan_row, planned_count, planned_list};
 ghost use Rattle.compare.specs.Comparison.{compare_row, compared, first_input, second_input};
 ghost use Rattle.draw.specs.Drawing.{drawing_answer, drawing_of, drawn_list, first_drawn, second_drawn, clash_pair};
 ghost use Rattle.capi.specs.Answers.{first_of, second_of, level_of, kind_of, refusal_of, count_of};
 
-use base::{Check, outcome_number};
-use compare::Pair;
+use base::outcome_number;
 use draw::Drawing;
+use labelling::Tree;
 
 #[repr(C)]
 #[derive(Clone, Copy)]
@@ -23,12 +23,10 @@ pub fn mastdock_plan(depth: u64, leaves: &[u64], list: &mut [u64]) -> Planned
     ensures count_value { result.count ≡ planned_count depth leaves.now (length list.old) }
     ensures list_after { list.new ≡ planned_list depth leaves.now list.old }
 {
-    let p = chain::plan(depth, leaves, list);
-    let outcome = p.outcome;
-    let count = p.count;
+    let planned = chain::plan(depth, leaves, list);
     Planned {
-        refusal: outcome_number(outcome),
-        count,
+        refusal: outcome_number(planned),
+        count: planned.unwrap_or(0),
     }
 }
 
@@ -45,29 +43,42 @@ pub struct Clash {
     pub zero: [u8; 6],
 }
 
-// A pair with its inputs.
-fn clash_of(pair: Pair, first: [u8; 105], second: [u8; 105]) -> Clash
-    ensures i_value { (result.i ≡ first_of pair) × ((result.j ≡ second_of pair) × (result.level ≡ level_of pair)) }
-    ensures first_value { (result.first ≡ first) × ((result.second ≡ second) × (result.zero ≡ zeros 6)) }
+// What stands where there is no clash.
+const NO_CLASH: Clash = Clash {
+    i: 0,
+    j: 0,
+    level: 0,
+    first: [0; 105],
+    second: [0; 105],
+    zero: [0; 6],
+};
+
+// A clash as C is told of it.
+fn clash_of(found: Option<compare::Clash>) -> Clash
+    ensures none { IfNone found (result ≡ record { i = 0; j = 0; level = 0; first = zeros 105; second = zeros 105; zero = zeros 6 }) }
+    ensures some { IfSome found (λ c. result ≡ record {
+      i = c.pair.first;
+      j = c.pair.second;
+      level = c.pair.level;
+      first = c.first;
+      second = c.second;
+      zero = zeros 6;
+    }) }
 {
-    let zero = [0u8; 6];
-    match pair {
-        Pair::Agree => Clash {
-            i: 0,
-            j: 0,
-            level: 0,
-            first,
-            second,
-            zero,
-        },
-        Pair::Disagree(i, j, level) => Clash {
-            i,
-            j,
-            level,
-            first,
-            second,
-            zero,
-        },
+    match found {
+        None => NO_CLASH,
+        Some(clash) => {
+            let first = clash.first;
+            let second = clash.second;
+            Clash {
+                i: clash.pair.first,
+                j: clash.pair.second,
+                level: clash.pair.level,
+                first,
+                second,
+                zero: [0; 6],
+            }
+        }
     }
 }
 
@@ -99,55 +110,15 @@ pub fn mastdock_compare(
         (compared edition statement.now depth leaves.now openings.now) }
     ensures zero_value { result.clash.zero ≡ zeros 6 }
 {
-    let c = compare::compare(edition, *statement, depth, leaves, openings);
-    let outcome = c.outcome;
-    let pair = c.pair;
-    let first = c.first;
-    let second = c.second;
-    let refusal = outcome_number(outcome);
-    let clash = clash_of(pair, first, second);
-    Compared { refusal, clash }
-}
-
-// A drawing in numbers, but for its clash.
-#[derive(Clone, Copy)]
-struct Parts {
-    kind: u64,
-    code: u64,
-    count: u64,
-}
-
-fn drawing_numbers(drawing: Drawing) -> Parts
-    ensures { (result.kind ≡ kind_of (drawing_answer drawing))
-        × ((result.code ≡ refusal_of (drawing_answer drawing)) × (result.count ≡ count_of (drawing_answer drawing))) }
-{
-    match drawing {
-        Drawing::NotDrawn(why, opening) => Parts {
-            kind: 0,
-            code: base::code(Check::Rejected(why, opening)),
-            count: 0,
-        },
-        Drawing::Chain(count) => Parts {
-            kind: 1,
-            code: 0,
-            count,
-        },
-        Drawing::Clash(_, _, _) => Parts {
-            kind: 2,
-            code: 0,
-            count: 0,
-        },
-    }
-}
-
-// The pair of a clash.
-fn clash_pair(drawing: Drawing) -> Pair
-    ensures { result ≡ clash_pair (drawing_answer drawing) }
-{
-    match drawing {
-        Drawing::NotDrawn(_, _) => Pair::Agree,
-        Drawing::Chain(_) => Pair::Agree,
-        Drawing::Clash(i, j, level) => Pair::Disagree(i, j, level),
+    let tree = Tree {
+        statement: *statement,
+        edition,
+        depth,
+    };
+    let compared = compare::compare(&tree, leaves, openings);
+    Compared {
+        refusal: outcome_number(compared),
+        clash: clash_of(compared.unwrap_or(None)),
     }
 }
 
@@ -179,17 +150,24 @@ pub fn mastdock_draw(
     ensures zero_value { result.clash.zero ≡ zeros 6 }
     ensures list_after { list.new ≡ drawn_list file.now statement.now depth count list.old }
 {
-    let d = draw::draw(file, *statement, depth, count, list);
-    let drawing = d.drawing;
-    let first = d.first;
-    let second = d.second;
-    let n = drawing_numbers(drawing);
-    let pair = clash_pair(drawing);
-    let clash = clash_of(pair, first, second);
-    Drawn {
-        kind: n.kind,
-        code: n.code,
-        count: n.count,
-        clash,
+    match draw::draw(file, *statement, depth, count, list) {
+        Err(why) => Drawn {
+            kind: 0,
+            code: base::code(Err(why)),
+            count: 0,
+            clash: NO_CLASH,
+        },
+        Ok(Drawing::Chain(count)) => Drawn {
+            kind: 1,
+            code: 0,
+            count,
+            clash: NO_CLASH,
+        },
+        Ok(Drawing::Clash(found)) => Drawn {
+            kind: 2,
+            code: 0,
+            count: 0,
+            clash: clash_of(Some(found)),
+        },
     }
 }

@@ -3,11 +3,11 @@ ghost use Rattle.std.specs.Prelude.{◌≡◌, length};
 ghost use Rattle.opening_check.specs.OpeningCheck.{opening_row};
 ghost use Rattle.file_head.specs.Challenge.{challenge_row, challenged};
 ghost use Rattle.file_head.specs.Layout.{head_row, head_written};
-ghost use Rattle.file_head.specs.Head.{head_answer, head_refusal, head_edition, head_depth, head_count, head_of, part_start, part_length};
+ghost use Rattle.file_head.specs.Head.{head_refusal, head_edition, head_depth, head_count, head_of, part_start, part_length};
 ghost use Rattle.proof_file.specs.FileCheck.{file_check};
 
 use base::outcome_number;
-use file_head::HeadNumbers;
+use labelling::Tree;
 use proof_file::Place;
 
 #[repr(C)]
@@ -28,12 +28,10 @@ pub fn mastdock_challenge(
     ensures refusal_value { result.refusal ≡ challenge_row edition depth i }
     ensures leaf_value { result.leaf ≡ challenged edition depth statement.now root.now i }
 {
-    let c = file_head::challenge(edition, depth, *statement, *root, i);
-    let outcome = c.outcome;
-    let leaf = c.leaf;
+    let picked = file_head::challenge(edition, depth, *statement, *root, i);
     Challenged {
-        refusal: outcome_number(outcome),
-        leaf,
+        refusal: outcome_number(picked),
+        leaf: picked.unwrap_or(0),
     }
 }
 
@@ -49,8 +47,7 @@ pub fn mastdock_write_head(
     ensures value { result ≡ head_row edition depth count (length file.old) }
     ensures file_after { file.new ≡ head_written edition statement.now root.now depth count file.old }
 {
-    let outcome = file_head::write_head(edition, *statement, *root, depth, count, file);
-    outcome_number(outcome)
+    outcome_number(file_head::write_head(edition, *statement, *root, depth, count, file))
 }
 
 #[repr(C)]
@@ -62,27 +59,6 @@ pub struct HeadRead {
     pub count: u64,
 }
 
-// The head's numbers, or the refusal beside 0, 0 and 0.
-fn head_read(numbers: HeadNumbers) -> HeadRead
-    ensures refusal_value { (result.refusal ≡ head_refusal (head_answer numbers)) × (result.edition ≡ head_edition (head_answer numbers)) }
-    ensures depth_value { (result.depth ≡ head_depth (head_answer numbers)) × (result.count ≡ head_count (head_answer numbers)) }
-{
-    match numbers {
-        HeadNumbers::Numbers(edition, depth, count, _) => HeadRead {
-            refusal: 0,
-            edition,
-            depth,
-            count,
-        },
-        HeadNumbers::NotRead(why) => HeadRead {
-            refusal: base::number(why),
-            edition: 0,
-            depth: 0,
-            count: 0,
-        },
-    }
-}
-
 // Reads edition, depth and count out of a file's head.
 pub fn mastdock_read_head(file: &[u8]) -> HeadRead
     ensures refusal_value { result.refusal ≡ head_refusal (head_of file.now) }
@@ -90,8 +66,20 @@ pub fn mastdock_read_head(file: &[u8]) -> HeadRead
     ensures depth_value { result.depth ≡ head_depth (head_of file.now) }
     ensures count_value { result.count ≡ head_count (head_of file.now) }
 {
-    let numbers = file_head::read_head(file);
-    head_read(numbers)
+    match file_head::read_head(file) {
+        Ok(head) => HeadRead {
+            refusal: 0,
+            edition: head.edition,
+            depth: head.depth,
+            count: head.count,
+        },
+        Err(why) => HeadRead {
+            refusal: base::number(why),
+            edition: 0,
+            depth: 0,
+            count: 0,
+        },
+    }
 }
 
 // Where opening i, from 1, lies in a file; 0 and 0 where there is none.
@@ -113,8 +101,12 @@ pub fn mastdock_check_opening(
 ) -> u64
     ensures { result ≡ opening_row edition statement.now depth leaf root.now opening.now }
 {
-    let outcome = opening_check::check_opening(edition, *statement, depth, leaf, *root, opening);
-    outcome_number(outcome)
+    let tree = Tree {
+        statement: *statement,
+        edition,
+        depth,
+    };
+    outcome_number(opening_check::check_opening(&tree, leaf, *root, opening))
 }
 
 // A file checked, by the edition that its head says: 256 × refusal + opening, or 0 if accepted.

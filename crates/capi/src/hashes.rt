@@ -3,7 +3,13 @@ ghost use Rattle.std.specs.Prelude.{◌≡◌};
 ghost use Rattle.sha256.specs.Portions.{new_hash, update_row, update_state, finish_row, finish_blocks, finish_digest, digest_row, digest_blocks, digest_answer};
 
 use base::outcome_number;
-use sha256::Hash;
+use sha256::{Hash, Hashed};
+
+// What stands beside a refusal.
+const NOT_HASHED: Hashed = Hashed {
+    digest: [0; 32],
+    blocks: 0,
+};
 
 #[repr(C)]
 #[derive(Clone, Copy)]
@@ -41,11 +47,10 @@ pub fn mastdock_hash_update(hash: Hash, part: &[u8]) -> HashUpdated
     ensures refusal_value { result.refusal ≡ update_row hash part.now }
     ensures hash_value { result.hash ≡ update_state hash part.now }
 {
-    let u = hash.update(part);
-    let outcome = u.outcome;
-    let next = u.hash;
+    let mut next = hash;
+    let updated = next.update(part);
     HashUpdated {
-        refusal: outcome_number(outcome),
+        refusal: outcome_number(updated),
         hash: next,
     }
 }
@@ -57,16 +62,14 @@ pub fn mastdock_hash_finish(hash: Hash) -> HashFinished
     ensures digest_value { result.digest ≡ finish_digest hash }
     ensures hash_value { result.hash ≡ hash }
 {
-    let f = hash.finish();
-    let outcome = f.outcome;
-    let blocks = f.blocks;
-    let digest = f.digest;
-    let same = f.hash;
+    let finished = hash.finish();
+    let hashed = finished.unwrap_or(NOT_HASHED);
+    let digest = hashed.digest;
     HashFinished {
-        refusal: outcome_number(outcome),
-        blocks,
+        refusal: outcome_number(finished),
+        blocks: hashed.blocks,
         digest,
-        hash: same,
+        hash,
     }
 }
 
@@ -76,13 +79,12 @@ pub fn mastdock_digest(message: &[u8]) -> HashDigest
     ensures blocks_value { result.blocks ≡ digest_blocks message.now }
     ensures digest_value { result.digest ≡ digest_answer message.now }
 {
-    let d = sha256::digest(message);
-    let outcome = d.outcome;
-    let blocks = d.blocks;
-    let digest = d.digest;
+    let answer = sha256::digest(message);
+    let hashed = answer.unwrap_or(NOT_HASHED);
+    let digest = hashed.digest;
     HashDigest {
-        refusal: outcome_number(outcome),
-        blocks,
+        refusal: outcome_number(answer),
+        blocks: hashed.blocks,
         digest,
     }
 }

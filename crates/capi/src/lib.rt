@@ -1,5 +1,6 @@
 // The public calls for C and Rust: structs by value, numbers, and slices as a pointer and a length. Refusals are document 01's
-// numbers, 0 where there is none. Each call passes on, with the contract of the one that it calls. Crate capi_c exports them to C.
+// numbers, 0 where there is none; a C struct has them beside its values, which are zero where a call is refused. Each call passes on,
+// with the contract of the one that it calls. Crate capi_c exports them to C.
 #![tactic(auto)]
 
 mod chains; // chains.rt: planning, comparing and drawing

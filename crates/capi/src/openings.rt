@@ -4,8 +4,21 @@ ghost use Rattle.opening.specs.Rows.{open_row, reopen_row};
 ghost use Rattle.opening.specs.Names.{open_of};
 ghost use Rattle.opening.specs.Steps.{started, started_out, labels_in, blocks_in, advanced};
 
-use base::outcome_number;
+use crate::runs::NO_WORK;
+use base::{HELD_SIZE, outcome_number};
+use labelling::Tree;
 use opening::Opening;
+
+// What stands beside a refusal.
+pub const NO_OPENING: Opening = Opening {
+    statement: [0; 32],
+    edition: 0,
+    depth: 0,
+    memory: 0,
+    leaf: 0,
+    made: 0,
+    held: [0; HELD_SIZE],
+};
 
 #[repr(C)]
 #[derive(Clone, Copy)]
@@ -37,12 +50,15 @@ pub fn mastdock_opening_start(
     ensures opening_value { result.opening ≡ started edition statement.now depth memory leaf (length store.now) (length out.old) }
     ensures out_after { out.new ≡ started_out edition depth memory leaf store.now out.old }
 {
-    let s = Opening::start(edition, *statement, depth, memory, leaf, store, out);
-    let outcome = s.outcome;
-    let opening = s.opening;
+    let tree = Tree {
+        statement: *statement,
+        edition,
+        depth,
+    };
+    let started = Opening::start(tree, memory, leaf, store, out);
     OpeningStarted {
-        refusal: outcome_number(outcome),
-        opening,
+        refusal: outcome_number(started),
+        opening: started.unwrap_or(NO_OPENING),
     }
 }
 
@@ -59,15 +75,13 @@ pub fn mastdock_opening_advance(
     ensures opening_value { result.opening ≡ (advanced store.now (open_of opening out.old) budget).opening }
     ensures out_after { out.new ≡ (advanced store.now (open_of opening out.old) budget).out }
 {
-    let a = opening.advance(budget, store, out);
-    let outcome = a.outcome;
-    let labels = a.labels;
-    let blocks = a.blocks;
-    let next = a.opening;
+    let mut next = opening;
+    let advanced = next.advance(budget, store, out);
+    let work = advanced.unwrap_or(NO_WORK);
     OpeningAdvanced {
-        refusal: outcome_number(outcome),
-        labels,
-        blocks,
+        refusal: outcome_number(advanced),
+        labels: work.labels,
+        blocks: work.blocks,
         opening: next,
     }
 }

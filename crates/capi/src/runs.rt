@@ -5,8 +5,24 @@ ghost use Rattle.run.specs.Steps.{started, stamped, labels_in, blocks_in, advanc
 ghost use Rattle.run_record.specs.Layout.{record_row, record_size, record_written};
 ghost use Rattle.run_record.specs.Reading.{resume_row, resumed};
 
-use base::outcome_number;
+use base::{HELD_SIZE, outcome_number};
+use labelling::Work;
 use run::Run;
+
+// What stands beside a refusal.
+pub const NO_WORK: Work = Work {
+    labels: 0,
+    blocks: 0,
+};
+
+const NO_RUN: Run = Run {
+    statement: [0; 32],
+    edition: 0,
+    depth: 0,
+    memory: 0,
+    made: 0,
+    held: [0; HELD_SIZE],
+};
 
 #[repr(C)]
 #[derive(Clone, Copy)]
@@ -36,12 +52,10 @@ pub fn mastdock_run_start(statement: &[u8; 32], depth: u64, memory: u64, store: 
     ensures refusal_value { result.refusal ≡ start_row depth memory (length store.now) }
     ensures run_value { result.run ≡ started statement.now depth memory (length store.now) }
 {
-    let s = Run::start(*statement, depth, memory, store);
-    let outcome = s.outcome;
-    let run = s.run;
+    let started = Run::start(*statement, depth, memory, store);
     RunStarted {
-        refusal: outcome_number(outcome),
-        run,
+        refusal: outcome_number(started),
+        run: started.unwrap_or(NO_RUN),
     }
 }
 
@@ -53,15 +67,13 @@ pub fn mastdock_run_advance(run: Run, budget: u64, store: &mut [u8]) -> RunAdvan
     ensures run_value { result.run ≡ (advanced (stamped run store.old) budget).run }
     ensures store_after { store.new ≡ (advanced (stamped run store.old) budget).store }
 {
-    let a = run.advance(budget, store);
-    let outcome = a.outcome;
-    let labels = a.labels;
-    let blocks = a.blocks;
-    let next = a.run;
+    let mut next = run;
+    let advanced = next.advance(budget, store);
+    let work = advanced.unwrap_or(NO_WORK);
     RunAdvanced {
-        refusal: outcome_number(outcome),
-        labels,
-        blocks,
+        refusal: outcome_number(advanced),
+        labels: work.labels,
+        blocks: work.blocks,
         run: next,
     }
 }
@@ -72,12 +84,10 @@ pub fn mastdock_run_record(run: Run, out: &mut [u8]) -> RunRecorded
     ensures size_value { result.size ≡ record_size run (length out.old) }
     ensures out_after { out.new ≡ record_written run out.old }
 {
-    let w = run_record::write_record(run, out);
-    let outcome = w.outcome;
-    let size = w.size;
+    let written = run_record::write_record(run, out);
     RunRecorded {
-        refusal: outcome_number(outcome),
-        size,
+        refusal: outcome_number(written),
+        size: written.unwrap_or(0),
     }
 }
 
@@ -86,11 +96,9 @@ pub fn mastdock_run_resume(bytes: &[u8]) -> RunStarted
     ensures refusal_value { result.refusal ≡ resume_row bytes.now }
     ensures run_value { result.run ≡ resumed bytes.now }
 {
-    let s = run_record::read_record(bytes);
-    let outcome = s.outcome;
-    let run = s.run;
+    let read = run_record::read_record(bytes);
     RunStarted {
-        refusal: outcome_number(outcome),
-        run,
+        refusal: outcome_number(read),
+        run: read.unwrap_or(NO_RUN),
     }
 }

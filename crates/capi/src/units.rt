@@ -3,6 +3,7 @@ ghost use Rattle.std.specs.Prelude.{◌≡◌, length};
 ghost use Rattle.unit.specs.Rows.{unit_row};
 ghost use Rattle.unit.specs.Turns.{carried, labels_in, blocks_in, advanced, place_offset, place_length};
 
+use crate::runs::NO_WORK;
 use base::outcome_number;
 use unit::{StampingUnit, StorePlace};
 
@@ -23,15 +24,13 @@ pub fn mastdock_unit_advance(unit: StampingUnit, budget: u64, store: &mut [u8]) 
     ensures unit_value { result.unit ≡ (advanced (carried unit store.old) budget).unit }
     ensures store_after { store.new ≡ (advanced (carried unit store.old) budget).store }
 {
-    let a = unit.advance(budget, store);
-    let outcome = a.outcome;
-    let labels = a.labels;
-    let blocks = a.blocks;
-    let next = a.unit;
+    let mut next = unit;
+    let advanced = next.advance(budget, store);
+    let work = advanced.unwrap_or(NO_WORK);
     UnitAdvanced {
-        refusal: outcome_number(outcome),
-        labels,
-        blocks,
+        refusal: outcome_number(advanced),
+        labels: work.labels,
+        blocks: work.blocks,
         unit: next,
     }
 }
@@ -41,5 +40,11 @@ pub fn mastdock_unit_store_place(unit: StampingUnit, i: u64, store: &[u8]) -> St
     ensures offset_value { result.offset ≡ place_offset unit i (length store.now) }
     ensures length_value { result.length ≡ place_length unit i (length store.now) }
 {
-    unit.store_place(i, store)
+    match unit.store_place(i, store) {
+        Some(place) => place,
+        None => StorePlace {
+            offset: 0,
+            length: 0,
+        },
+    }
 }

@@ -4,8 +4,19 @@ ghost use Rattle.writing.specs.Rows.{write_row, rewrite_row};
 ghost use Rattle.writing.specs.Possible.{written_of};
 ghost use Rattle.writing.specs.Steps.{started, labels_in, blocks_in, advanced};
 
+use crate::openings::NO_OPENING;
+use crate::runs::NO_WORK;
 use base::outcome_number;
+use labelling::Tree;
 use writing::Writing;
+
+// What stands beside a refusal.
+const NO_WRITING: Writing = Writing {
+    root: [0; 32],
+    count: 0,
+    number: 0,
+    opening: NO_OPENING,
+};
 
 #[repr(C)]
 #[derive(Clone, Copy)]
@@ -40,14 +51,15 @@ pub fn mastdock_writing_start(
     ensures file_after { file.new
         ≡ (started edition statement.now root.now depth memory count store.now file.old).file }
 {
-    let s = Writing::start(
-        edition, *statement, *root, depth, memory, count, store, file,
-    );
-    let outcome = s.outcome;
-    let writing = s.writing;
+    let tree = Tree {
+        statement: *statement,
+        edition,
+        depth,
+    };
+    let started = Writing::start(tree, *root, memory, count, store, file);
     WritingStarted {
-        refusal: outcome_number(outcome),
-        writing,
+        refusal: outcome_number(started),
+        writing: started.unwrap_or(NO_WRITING),
     }
 }
 
@@ -64,15 +76,13 @@ pub fn mastdock_writing_advance(
     ensures writing_value { result.writing ≡ (advanced store.now (written_of writing file.old) budget).writing }
     ensures file_after { file.new ≡ (advanced store.now (written_of writing file.old) budget).file }
 {
-    let a = writing.advance(budget, store, file);
-    let outcome = a.outcome;
-    let labels = a.labels;
-    let blocks = a.blocks;
-    let next = a.writing;
+    let mut next = writing;
+    let advanced = next.advance(budget, store, file);
+    let work = advanced.unwrap_or(NO_WORK);
     WritingAdvanced {
-        refusal: outcome_number(outcome),
-        labels,
-        blocks,
+        refusal: outcome_number(advanced),
+        labels: work.labels,
+        blocks: work.blocks,
         writing: next,
     }
 }

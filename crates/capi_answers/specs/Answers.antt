@@ -1,5 +1,5 @@
 -- The answer of each exported call, whole, as document 01's definitions give it: a record with every field that the struct has.
-use Rattle.std.specs.Prelude.{ℕ, List, length}
+use Rattle.std.specs.Prelude.{ℕ, List, length, Option}
 use Rattle.base.specs.Bytes.{zeros}
 use Rattle.sha256.specs.declared.Hash.{Hash}
 use Rattle.sha256.specs.Portions.{update_row, update_state, finish_row, finish_blocks, finish_digest, digest_row, digest_blocks, digest_answer}
@@ -47,7 +47,7 @@ use Rattle.capi.specs.declared.chains.Drawn.{Drawn}
 use Rattle.capi.specs.declared.chains.Clash.{Clash}
 
 -- a pair that disagrees with its two inputs
-abbrev pub clash_of : Pair → List ℕ → List ℕ → Clash
+abbrev pub clash_of : Option Pair → List ℕ → List ℕ → Clash
 clash_of pair first second =
     record { i = first_of pair; j = second_of pair; level = level_of pair; first = first; second = second; zero = zeros 6 }
 
@@ -153,7 +153,7 @@ abbrev pub plan : ℕ → List ℕ → List ℕ → Planned
 plan depth leaves list =
     record { refusal = plan_row depth leaves (length list); count = planned_count depth leaves (length list) }
 
-abbrev pub compare_from : Pair → ℕ → List ℕ → ℕ → List ℕ → List ℕ → Compared
+abbrev pub compare_from : Option Pair → ℕ → List ℕ → ℕ → List ℕ → List ℕ → Compared
 compare_from pair edition statement depth leaves openings =
     record {
       refusal = compare_row edition depth leaves (length openings);

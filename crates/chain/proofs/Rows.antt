@@ -2,12 +2,13 @@
 use mathlib.Core.Path.{◌≡◌, refl, sym, ◌∙◌}
 use Prim.Native.Nat.{ℕ, ◌≤◌, ◌<◌}
 use native.Mathlib.Omega.{arith}
-use mathlib.Core.Bool.{true, false}
+use mathlib.Core.Bool.{Bool, true, false, ◌&&◌}
 use mathlib.Core.List.{List, [], ◌∷◌, ◌++◌}
 use lib.Dec.{ltb}
 use lib.ListN.{length}
 use borrow.Author.Tests.{lt-ltb, le-ltb, not-false}
-use Rattle.base.specs.Choice.{pick, every}
+use Rattle.base.specs.Choice.{pick, both, every}
+use Rattle.std.specs.List.{list_all}
 use Rattle.base.specs.Bytes.{written}
 use Rattle.base.specs.Limits.{max_depth, max_challenges}
 use Rattle.base.specs.declared.refusal.Refusal.{Refusal}
@@ -113,3 +114,13 @@ module _ (n : ℕ) (leaves xs list : List ℕ) (count : ℕ) (done : leaves_row 
       let r : plan_row n leaves (length list) ≡ 0 =
       list-check n leaves done (length list) ∙ rw (le-ltb (length list) (length (chain n leaves)) (omega (arith, chain-count))) in
       (sym r, (rw r chain-count, rw r (f ∙ rw (e, plan-chain n leaves (leaves-known n leaves done).inside))))
+
+-- std's test of all elements is the definition's
+pub every_all : (t : ℕ → Bool) (xs : List ℕ) → list_all t xs ≡ every t xs
+unfolding every
+every_all t [] = refl
+every_all t (x ∷ xs) = go (t x) (every_all t xs)
+  where
+    go : (b : Bool) → list_all t xs ≡ every t xs → (b && list_all t xs) ≡ both b (every t xs)
+    go true e = e
+    go false e = refl

@@ -1,42 +1,52 @@
 -- Codes written one after the other, and climbs of them.
 use mathlib.Core.Path.{◌≡◌, sym, ◌∙◌}
-use Prim.Native.Nat.{ℕ, zero, suc, ◌+◌, ◌-◌, ◌/◌, ◌≤◌, ◌<◌}
+use Prim.Native.Nat.{ℕ, zero, suc, ◌+◌, ◌/◌, ◌≤◌, ◌<◌}
 use native.Mathlib.Omega.{arith}
-use mathlib.Core.List.{List, [], ◌++◌}
-use lib.ListN.{length, set, drop, length-append}
+use mathlib.Core.Bool.{Bool, true, false}
+use lib.Dec.{eqb}
+use Rattle.base.specs.Choice.{pick}
+use mathlib.Core.Logic.{◌⊎◌, inl, inr}
+use mathlib.Core.List.{List, [], ◌∷◌, ◌++◌}
+use lib.ListN.{length, set, drop, length-set}
 use Rattle.base.specs.Bytes.{written}
-use Rattle.base.proofs.WrittenLaws.{written_none, written_one, written-append}
+use Rattle.base.proofs.WrittenLaws.{written_none, written_one}
 use Rattle.chain_theory.specs.Planning.{climb, next_code, plan_from}
-use Rattle.chain_theory.proofs.Turns.{climb-step, climb-out, plan_from-turn, next-leaf}
+use Rattle.chain_theory.proofs.Plan.{climb-met}
+use Rattle.chain_theory.proofs.Turns.{climb-out, plan_from-turn, next-leaf}
 
--- nothing is left to climb
-pub climb-ended : (left from other : ℕ) → left ≤ 0 → climb left from other ≡ []
-climb-ended zero from other h = climb-out from other
-climb-ended (suc left) from other h = absurd (omega arith)
+-- a climb ends at its other code, or where no code may come any more
+pub climb-ended : (left from other : ℕ) → (left ≡ 0) ⊎ (from ≡ other) → climb left from other ≡ []
+climb-ended left from other (inl e) = rw e (climb-out from other)
+climb-ended left from other (inr e) = climb-met left from other e
 
--- one code of a climb written, and what is left of it
-pub climb-written : (d : List ℕ) (at left from other : ℕ) → 0 < left → (from ≡ other → ⊥) → at + length (climb left from other) ≤ length d
-    → written (set d at from) (at + 1) (climb (left - 1) (from / 2) (other / 2)) ≡ written d at (climb left from other)
-climb-written d at left from other h ne k =
-    let e = climb-step left from other h ne in
-    sym (rw e (written_one d at from (climb (left - 1) (from / 2) (other / 2)) (rw e at k)))
+-- a list with the codes `left` still to be written from a place on, so that it holds the whole plan
+pub record Writing (before list : List ℕ) (at : ℕ) (left whole : List ℕ) : Type 0 where
+  pub wanted : written list at left ≡ written before 0 whole
+  pub room : at + length left ≡ length whole
+  pub long : length list ≡ length before
 
--- all of it written
-pub all-written : (d whole : List ℕ) (at : ℕ) (left : List ℕ) → left ≡ [] → written d at left ≡ whole → d ≡ whole
-all-written d whole at left e w = sym (written_none d at) ∙ (rw e at w)
+pub written-step : (before list : List ℕ) (at x : ℕ) (left whole : List ℕ) → length whole ≤ length before
+    → Writing before list at (x ∷ left) whole → Writing before (set list at x) (at + 1) left whole
+written-step before list at x left whole fits w =
+    record {
+      wanted = sym (written_one list at x left (omega (arith, w.room, w.long))) ∙ w.wanted;
+      room = omega (arith, w.room);
+      long = length-set list at x ∙ w.long;
+    }
 
--- the climb of the leaf at i, by its code and the next one's, and what the leaves after it write
-module _ (n : ℕ) (xs : List ℕ) (i code next : ℕ) (h : i < length xs) (e : code ≡ next_code n (drop i xs))
-    (f : next ≡ next_code n (drop (i + 1) xs)) where
-  plan-turn : plan_from n (drop i xs) ≡ climb (n + 1) code next ++ plan_from n (drop (i + 1) xs)
-  plan-turn = rw (e, f, next-leaf n xs i h) (plan_from-turn n xs i h)
+pub written-all : (before list : List ℕ) (at : ℕ) (whole : List ℕ) → Writing before list at [] whole → list ≡ written before 0 whole
+written-all before list at whole w = sym (written_none list at) ∙ w.wanted
 
-  pub plan-count : length (plan_from n (drop i xs)) ≡ length (climb (n + 1) code next) + length (plan_from n (drop (i + 1) xs))
-  plan-count = rw (plan-turn, length-append)
+pub plan-turn : (n : ℕ) (xs : List ℕ) (i code next : ℕ) → i < length xs → code ≡ next_code n (drop i xs) → next ≡ next_code n (drop (i + 1) xs)
+    → plan_from n (drop i xs) ≡ climb (n + 1) code next ++ plan_from n (drop (i + 1) xs)
+plan-turn n xs i code next h e f = rw (e, f, next-leaf n xs i h) (plan_from-turn n xs i h)
 
-  pub plan-written :
-      (d after : List ℕ) (at end : ℕ) → at + length (plan_from n (drop i xs)) ≤ length d
-      → after ≡ written d at (climb (n + 1) code next)
-      → end ≡ at + length (climb (n + 1) code next) → written after end (plan_from n (drop (i + 1) xs)) ≡ written d at (plan_from n (drop i xs))
-  plan-written d after at end k g m =
-      rw (g, m, plan-turn) (sym (written-append d at (climb (n + 1) code next) (plan_from n (drop (i + 1) xs)) (rw plan-turn at k)))
+-- a climb writes no more codes than it may
+pub climb-few : (left from other : ℕ) → length (climb left from other) ≤ left
+unfolding climb
+climb-few zero from other = omega arith
+climb-few (suc left) from other = few (eqb from other) (climb-few left (from / 2) (other / 2))
+  where
+    few : (b : Bool) → length (climb left (from / 2) (other / 2)) ≤ left → length (pick b [] (from ∷ climb left (from / 2) (other / 2))) ≤ suc left
+    few true h = omega arith
+    few false h = omega arith

@@ -1,3 +1,2 @@
 pub mod PlanRow
 pub mod Leaves
-pub mod Place

@@ -1,5 +1,6 @@
 // Planning: the row of checks, then the count, then the codes.
 ghost use Rattle.std.specs.Prelude.{◌≡◌, true, ◌+◌, ◌≤◌, length, leb};
+ghost use Rattle.std.specs.Result.{result_unwrap_or};
 ghost use Rattle.base.specs.Choice.{pick, every};
 ghost use Rattle.base.specs.Limits.{max_depth, max_challenges};
 ghost use Rattle.chain_theory.specs.Counts.{leaves_opened};
@@ -10,90 +11,51 @@ ghost use Rattle.chain.specs.Leaves.{leaves_row};
 
 use crate::climbing::{count_plan, width, write_plan};
 use crate::sorting::sort_leaves;
-use base::{MAX_DEPTH, MAX_LEAVES, Outcome, Refusal, beyond};
-
-// Done with the count of codes written, or refused with 0.
-#[derive(Clone, Copy)]
-pub struct Planned {
-    pub outcome: Outcome,
-    pub count: u64,
-}
+use base::{MAX_DEPTH, MAX_LEAVES, Refusal, beyond};
 
 // Whether each is a position on the leaves' level.
+
 fn are_leaves(depth: u64, leaves: &[u64]) -> bool
     requires { depth ≤ max_depth }
     ensures { result ≡ every (is_leaf depth) leaves.now }
 {
     let end = width(depth);
-    let mut i: usize = 0;
-    while i < leaves.len() {
-        if end <= leaves[i] {
-            return false;
-        }
-        i += 1;
-    }
-    true
+    leaves.iter().all(|leaf| *leaf < end)
 }
 
 // The checks of depth and leaves, of which there are to be `least` to 200.
-pub fn check_leaves(least: usize, depth: u64, leaves: &[u64]) -> Outcome
+#[tactic(auto, unfolding(crate::specs::Leaves::leaves_row))]
+pub fn check_leaves(least: usize, depth: u64, leaves: &[u64]) -> Result<(), Refusal>
     ensures { outcome_number result ≡ leaves_row least depth leaves.now }
 {
     if beyond(MAX_DEPTH, depth) {
-        return Outcome::Refused(Refusal::Depth);
+        return Err(Refusal::Depth);
     }
-    let count = leaves.len();
-    if count < least {
-        return Outcome::Refused(Refusal::Count);
-    }
-    if MAX_LEAVES < count {
-        return Outcome::Refused(Refusal::Count);
+    if leaves.len() < least || MAX_LEAVES < leaves.len() {
+        return Err(Refusal::Count);
     }
     if !are_leaves(depth, leaves) {
-        return Outcome::Refused(Refusal::LeafPosition);
+        return Err(Refusal::LeafPosition);
     }
-    Outcome::Done
-}
-
-// The plan of leaves that passed the checks: counted before anything is written.
-fn plan_leaves(depth: u64, leaves: &[u64], list: &mut [u64]) -> Planned
-    requires { leaves_row 0 depth leaves.now ≡ 0 }
-    ensures outcome_value { outcome_number result.outcome ≡ plan_row depth leaves.now (length list.old) }
-    ensures count_value { result.count ≡ planned_count depth leaves.now (length list.old) }
-    ensures list_after { list.new ≡ planned_list depth leaves.now list.old }
-{
-    let sorted = sort_leaves(leaves);
-    let found = sorted.leaves;
-    let k = sorted.count;
-    let count = count_plan(depth, &found[..k]);
-    if list.len() < count {
-        return Planned {
-            outcome: Outcome::Refused(Refusal::ShortList),
-            count: 0,
-        };
-    }
-    write_plan(depth, &found[..k], list);
-    Planned {
-        outcome: Outcome::Done,
-        count: count as u64,
-    }
+    Ok(())
 }
 
 // Plans the chain of leaves in any order, with repeats: its codes from the list's first place on, and their count. With no leaf it is
-// empty (W-203).
-pub fn plan(depth: u64, leaves: &[u64], list: &mut [u64]) -> Planned
-    ensures outcome_value { outcome_number result.outcome ≡ plan_row depth leaves.now (length list.old) }
-    ensures count_value { result.count ≡ planned_count depth leaves.now (length list.old) }
+// empty (W-203). All are counted before anything is written; a list that is refused stays as it was.
+pub fn plan(depth: u64, leaves: &[u64], list: &mut [u64]) -> Result<u64, Refusal>
+    ensures outcome_value { outcome_number result ≡ plan_row depth leaves.now (length list.old) }
+    ensures count_value { result_unwrap_or result 0 ≡ planned_count depth leaves.now (length list.old) }
     ensures list_after { list.new ≡ planned_list depth leaves.now list.old }
 {
-    let checked = check_leaves(0, depth, leaves);
-    match checked {
-        Outcome::Refused(why) => Planned {
-            outcome: Outcome::Refused(why),
-            count: 0,
-        },
-        Outcome::Done => plan_leaves(depth, leaves, list),
+    check_leaves(0, depth, leaves)?;
+    let mut room = [0u64; MAX_LEAVES];
+    let found = sort_leaves(leaves, &mut room);
+    let count = count_plan(depth, found);
+    if list.len() < count {
+        return Err(Refusal::ShortList);
     }
+    write_plan(depth, found, list);
+    Ok(count as u64)
 }
 
 // How many of at most 200 leaves are different; 0 for more leaves.
@@ -103,6 +65,7 @@ pub fn different_leaves(leaves: &[u64]) -> u64
     if MAX_LEAVES < leaves.len() {
         return 0;
     }
-    let sorted = sort_leaves(leaves);
-    sorted.count as u64
+    let mut room = [0u64; MAX_LEAVES];
+    let found = sort_leaves(leaves, &mut room);
+    found.len() as u64
 }

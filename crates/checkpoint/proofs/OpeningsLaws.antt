@@ -2,47 +2,12 @@
 use mathlib.Core.Path.{◌≡◌}
 use mathlib.Core.Bool.{true, false}
 use mathlib.Core.List.{List}
-use Prim.Native.Nat.{ℕ, suc, ◌+◌, ◌-◌, ◌*◌, ◌≤◌, ◌<◌}
+use Prim.Native.Nat.{ℕ, suc, ◌+◌, ◌-◌, ◌≤◌, ◌<◌}
 use native.Mathlib.Nat.{zero-add}
 use native.Mathlib.Omega.{arith}
-use borrow.Author.Tests.{le-leb, lt-leb}
-use lib.ListN.{length, take, drop}
 use Rattle.base.specs.Limits.{max_depth, max_challenges}
-use Rattle.base.specs.declared.refusal.Refusal.{Refusal}
-use Rattle.base.specs.declared.refusal.Outcome.{Outcome}
-use Rattle.base.specs.declared.refusal.Outcome.TheVariants.{Done, Refused}
-use Rattle.base.specs.Number.{outcome_number}
 use Rattle.base.specs.Row.{outside}
-use Rattle.base.proofs.Parts.{part-size}
-use Rattle.base.proofs.RowLaws.{is-done, is-refused}
-use Rattle.tree.specs.Openings.{opening_size}
-use Rattle.file_head.specs.Challenge.{challenge_leaf}
-use Rattle.opening_check.specs.OpeningCheck.{right_row}
-use Rattle.checkpoint.specs.Openings.{opening_in, is_right, right_after, openings_taken}
-
--- where opening i ends
-pub opening-end : (n i : ℕ) → 1 ≤ i → (i - 1) * opening_size n + opening_size n ≡ i * opening_size n
-opening-end n i some = next (i - 1) (omega arith)
-  where
-    next : (j : ℕ) → j + 1 ≡ i → j * opening_size n + opening_size n ≡ i * opening_size n
-    next j e = rw (← e) (omega arith)
-
--- ---- one opening: cut short, right, or wrong
-module _ (edition : ℕ) (statement root : List ℕ) (n : ℕ) (bytes : List ℕ) (i : ℕ) where
-  pub cut_short : length bytes < i * opening_size n → false ≡ is_right edition statement root n bytes i
-  cut_short h = rw (lt-leb (i * opening_size n) (length bytes) h)
-
-  module _ (leaf start : ℕ) (outcome : Outcome) (there : i * opening_size n ≤ length bytes)
-      (l : leaf ≡ challenge_leaf edition n statement root i) (from : start ≡ (i - 1) * opening_size n)
-      (o : outcome_number outcome ≡ right_row edition statement n leaf root (take (start + opening_size n - start) (drop start bytes))) where
-    outcome-is : outcome_number outcome ≡ right_row edition statement n (challenge_leaf edition n statement root i) root (opening_in n bytes i)
-    outcome-is = rw (← l, ← from, ← part-size bytes start (opening_size n)) o
-
-    pub opening-right : outcome ≡ Done → true ≡ is_right edition statement root n bytes i
-    opening-right e = rw (le-leb (i * opening_size n) (length bytes) there, is-done outcome _ outcome-is e)
-
-    pub opening-wrong : (r : Refusal) → outcome ≡ Refused r → false ≡ is_right edition statement root n bytes i
-    opening-wrong r e = rw (le-leb (i * opening_size n) (length bytes) there, is-refused outcome _ r outcome-is e)
+use Rattle.checkpoint.specs.Openings.{is_right, right_after, openings_taken}
 
 -- ---- how many are taken
 module _ (edition : ℕ) (statement root : List ℕ) (n : ℕ) (bytes : List ℕ) (t : ℕ) where

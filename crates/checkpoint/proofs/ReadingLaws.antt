@@ -1,35 +1,28 @@
 -- Laws of reading a checkpoint: what its SHA-256 is compared with, the fault by each check, and what is handed back beside it.
-use mathlib.Core.Path.{◌≡◌, ◌∙◌}
+use mathlib.Core.Path.{◌≡◌}
 use mathlib.Core.Bool.{true, false, not}
 use mathlib.Core.List.{List}
 use Prim.Native.Nat.{ℕ, ◌+◌, ◌-◌, ◌*◌, ◌≤◌, ◌<◌}
-use native.Mathlib.Omega.{arith}
 use borrow.Author.Tests.{lt-ltb, le-ltb, ltb-false}
 use lib.Dec.{ltb}
-use lib.ListN.{length, take, drop, get_or, length-take}
-use Rattle.base.specs.Choice.{pick}
+use lib.ListN.{length, take, drop, get_or}
 use Rattle.base.specs.Limits.{max_depth, max_memory}
 use Rattle.base.specs.Lists.{same_bytes}
 use Rattle.base.specs.Row.{outside, memory_over, is_done}
 use Rattle.base.proofs.Parts.{part-size}
 use Rattle.base.proofs.Ranges.{memory-inside, neither}
-use Rattle.sha256.specs.Portions.{digest_answer}
-use Rattle.file_head.proofs.ChallengeLaws.{short-digest}
+use Rattle.sha256.specs.Digest.{digest}
 use Rattle.tree.specs.Walk.{nodes_in}
 use Rattle.tree.specs.Store.{store_size}
-use Rattle.run.specs.declared.Run.{Run}
-use Rattle.run.specs.Steps.{no_run}
 use Rattle.run_record.specs.Reading.{resume_row, resumed}
-use Rattle.checkpoint.specs.declared.Found.{Found}
 use Rattle.checkpoint.specs.Layout.{head_size, size_of}
 use Rattle.checkpoint.specs.Reading.{depth_in, memory_in, count_in, length_in, record_from, record_end, record_in, unmarked, no_order, altered, other_run}
-use Rattle.checkpoint.specs.Reading.{record_fault, fault_of, fault_number}
+use Rattle.checkpoint.specs.Reading.{record_fault, fault_of}
 
 -- the 32 bytes at a place are compared with the SHA-256 of all before it
-pub compared : (bytes hash : List ℕ) (end : ℕ) → end < 4294967296 → hash ≡ digest_answer (take end bytes)
+pub compared : (bytes hash : List ℕ) (end : ℕ) → hash ≡ digest (take end bytes)
     → not (same_bytes (take (end + 32 - end) (drop end bytes)) hash) ≡ altered bytes end
-compared bytes hash end few e =
-    rw (part-size bytes end 32, e ∙ short-digest (take end bytes) (omega (arith, length-take end bytes)))
+compared bytes hash end e = rw (part-size bytes end 32, e)
 
 -- the store's bytes, from its nodes
 pub store_bytes : (m nodes : ℕ) → nodes ≡ nodes_in m → 32 * nodes ≡ store_size m
@@ -55,8 +48,8 @@ module _ (bytes : List ℕ) where
   part-read from size e f = rw (part-size bytes from size, e, f)
 
 -- an order's memory level
-pub memory-low : (n m t : ℕ) → no_order n m t ≡ false → m ≤ max_memory
-memory-low n m t e = memory-inside n m (neither (memory_over n m) _ (neither (outside 1 max_depth n) _ e).1).0
+pub memory_low : (n m t : ℕ) → no_order n m t ≡ false → m ≤ max_memory
+memory_low n m t e = memory-inside n m (neither (memory_over n m) _ (neither (outside 1 max_depth n) _ e).1).0
 
 -- ---- the record: of no run, of another one, or of the order's
 module _ (bytes : List ℕ) (n m : ℕ) where
@@ -99,23 +92,4 @@ module _ (bytes : List ℕ) where
         unfolding fault_of record_fault
         unchanged e = rw (marked, order, le-ltb (length bytes) (size_of (memory_in bytes) (length_in bytes)) there, e)
 
--- ---- what is handed back: what was read, or nothing beside a fault
-abbrev pub Nothing : ℕ → Found → Type 0
-Nothing number f = (fault_number f.fault ≡ number) × (f.count ≡ 0) × (f.size ≡ 0) × (f.run ≡ no_run)
-
-pub record Answered (fault : ℕ) (run : Run) (t size : ℕ) (f : Found) : Type 0 where
-  pub number : fault_number f.fault ≡ fault
-  pub rest : (f.run ≡ pick (is_done fault) run no_run) × (f.count ≡ pick (is_done fault) t 0) × (f.size ≡ pick (is_done fault) size 0)
-
-pub beside : (number fault : ℕ) (run : Run) (t size : ℕ) (f : Found) → is_done number ≡ false → Nothing number f → number ≡ fault
-    → Answered fault run t size f
-beside number fault run t size f some nothing e =
-    record { number = nothing.0 ∙ e; rest = rw (← e, some) (nothing.3, nothing.1, nothing.2) }
-
--- the record's answer is the checkpoint's, where the checks before it found nothing
-pub handed-on : (bytes part : List ℕ) (n m t size : ℕ) (f : Found) → part ≡ record_in bytes → n ≡ depth_in bytes → m ≡ memory_in bytes
-    → t ≡ count_in bytes → size ≡ size_of (memory_in bytes) (length_in bytes)
-    → record_fault (record_in bytes) (depth_in bytes) (memory_in bytes) ≡ fault_of bytes
-    → Answered (record_fault part n m) (resumed part) t size f
-    → Answered (fault_of bytes) (resumed (record_in bytes)) (count_in bytes) (size_of (memory_in bytes) (length_in bytes)) f
-handed-on bytes part n m t size f p a b c d e told = rw (p, a, b, c, d, e) at told
+pub ruleset reading_laws = (memory_low)

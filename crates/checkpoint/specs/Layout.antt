@@ -33,6 +33,12 @@ checkpoint_of run t store = covered run t store ++ digest (covered run t store)
 abbrev pub size_of : ℕ → ℕ → ℕ
 size_of m size = head_size + store_size m + size + 32
 
+-- the checks before that of the buffer
+unfoldable pub order_row : Run → ℕ → ℕ → ℕ
+order_row run t store =
+    first_of
+    ((no_such_run run.edition run.depth run.memory run.made, 4) ∷ (ltb store (store_size run.memory), 3) ∷ (outside 1 max_challenges t, 8) ∷ [])
+
 -- 4 as when the run is continued; 3: store short; 8: t not 1..200; 7: less than the whole fits
 unfoldable pub checkpoint_row : Run → ℕ → ℕ → ℕ → ℕ
 checkpoint_row run t store out =

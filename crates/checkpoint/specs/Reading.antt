@@ -1,5 +1,5 @@
 -- What reading gives back of any bytes as a checkpoint. Behind it may stand the openings that are finished.
-use Rattle.std.specs.Prelude.{ℕ, ◌+◌, ◌*◌, Bool, not, List, [], ◌∷◌, ltb, eqb, length, take, drop, get_or}
+use Rattle.std.specs.Prelude.{◌≡◌, ℕ, ◌+◌, ◌*◌, Bool, not, List, [], ◌∷◌, ltb, eqb, length, take, drop, get_or, Result, Ok, Err}
 use Rattle.base.specs.Choice.{pick, both}
 use Rattle.base.specs.Limits.{max_depth, max_challenges}
 use Rattle.base.specs.Lists.{same_bytes}
@@ -10,7 +10,8 @@ use Rattle.run.specs.declared.Run.{Run}
 use Rattle.run.specs.Steps.{no_run}
 use Rattle.run_record.specs.Reading.{resume_row, resumed}
 use Rattle.checkpoint.specs.declared.Fault.{Fault}
-use Rattle.checkpoint.specs.declared.Fault.TheVariants.{Whole, Foreign, Damaged, Impossible}
+use Rattle.checkpoint.specs.declared.Found.{Found}
+use Rattle.checkpoint.specs.declared.Fault.TheVariants.{Foreign, Damaged, Impossible}
 use Rattle.checkpoint.specs.Layout.{mark, head_size, size_of}
 
 -- ---- the fields, where they stand
@@ -75,11 +76,11 @@ fault_of bytes =
     ∷ record_checks (record_in bytes) (depth_in bytes) (memory_in bytes)
     )
 
-abbrev pub fault_number : Fault → ℕ
-fault_number Whole = 0
-fault_number Foreign = 1
-fault_number Damaged = 2
-fault_number Impossible = 3
+abbrev pub fault_number : {A : Type 0} → Result A Fault → ℕ
+fault_number (Ok x) = 0
+fault_number (Err Foreign) = 1
+fault_number (Err Damaged) = 2
+fault_number (Err Impossible) = 3
 
 -- ---- what is handed back: nothing beside a fault
 unfoldable pub run_found : List ℕ → Run
@@ -90,3 +91,9 @@ count_found bytes = pick (is_done (fault_of bytes)) (count_in bytes) 0
 
 unfoldable pub size_found : List ℕ → ℕ
 size_found bytes = pick (is_done (fault_of bytes)) (size_of (memory_in bytes) (length_in bytes)) 0
+
+-- what a whole checkpoint says
+pub record IsFoundIn (bytes : List ℕ) (found : Found) : Type 0 where
+  pub run : found.run ≡ run_found bytes
+  pub count : found.count ≡ count_found bytes
+  pub size : found.size ≡ size_found bytes

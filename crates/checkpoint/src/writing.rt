@@ -1,13 +1,16 @@
 // A checkpoint written.
-ghost use Rattle.std.specs.Prelude.{◌≡◌, ◌++◌, ◌+◌, ◌≤◌, ◌<◌, length};
+ghost use Rattle.std.specs.Prelude.{◌≡◌, ◌++◌, ◌+◌, ◌≤◌, ◌<◌, length, take, false};
+ghost use Rattle.std.specs.Result.{result_unwrap_or};
 ghost use Rattle.base.specs.Bytes.{written};
-ghost use Rattle.base.specs.Number.{number_of, outcome_number};
+ghost use Rattle.base.specs.Number.{outcome_number};
+ghost use Rattle.base.specs.Limits.{max_record};
+ghost use Rattle.run_record.specs.Layout.{record_of, no_such_run};
 ghost use Rattle.sha256.specs.Digest.{digest};
-ghost use Rattle.checkpoint.specs.Layout.{order_head, checkpoint_row, checkpoint_size, checkpoint_written};
+ghost use Rattle.checkpoint.specs.Layout.{order_row, order_head, checkpoint_row, checkpoint_size, checkpoint_written};
 
-use crate::{Checkpointed, HEAD_SIZE};
-use base::{MAX_CHALLENGES, MAX_RECORD, Outcome, Refusal, beyond, put};
-use run::{Run, nodes, not_possible, store_short};
+use crate::{HEAD_SIZE, digest_of, kept_size};
+use base::{MAX_CHALLENGES, MAX_RECORD, Refusal, beyond, put};
+use run::{Run, not_possible, store_short};
 use run_record::write_record;
 
 // The mark, the order's numbers and the record's length.
@@ -38,47 +41,58 @@ fn put_parts(head: &[u8], store: &[u8], laid: &[u8], out: &mut [u8])
     put(out, 0, head);
     put(out, middle, store);
     put(out, last, laid);
-    let hashed = sha256::digest(&out[..end]);
-    let digest = hashed.digest;
+    let digest = digest_of(&out[..end]);
     put(out, end, &digest);
 }
 
-fn refused(why: Refusal) -> Checkpointed
-    ensures { (outcome_number result.outcome ≡ number_of why) × (result.size ≡ 0) }
+// Refuses a run, a store or a count of which no checkpoint is written.
+#[tactic(auto, unfolding(crate::specs::Layout::order_row))]
+fn check_order(run: &Run, count: u64, store: usize) -> Result<(), Refusal>
+    ensures { outcome_number result ≡ order_row run.now count store }
 {
-    Checkpointed {
-        outcome: Outcome::Refused(why),
-        size: 0,
+    if not_possible(run.edition, run.depth, run.memory, run.made) {
+        return Err(Refusal::State);
     }
+    if store_short(run.memory, store) {
+        return Err(Refusal::ShortStore);
+    }
+    if beyond(MAX_CHALLENGES, count) {
+        return Err(Refusal::Count);
+    }
+    Ok(())
+}
+
+// The run's record, laid over the front of a room of its own. How many bytes it has.
+fn lay_record(run: Run, room: &mut [u8]) -> usize
+    requires possible { no_such_run run.edition run.depth run.memory run.made ≡ false }
+    requires room { max_record ≤ length room.old }
+    ensures size_value { (result ≡ length (record_of run)) × (result ≤ max_record) }
+    ensures room_after { take result room.new ≡ record_of run }
+{
+    write_record(run, room).unwrap()
 }
 
 // Writes the checkpoint over the front of `out`, or nothing where it does not fit. How many bytes were written.
-pub fn write_checkpoint(run: Run, count: u64, store: &[u8], out: &mut [u8]) -> Checkpointed
-    ensures outcome_value { outcome_number result.outcome ≡ checkpoint_row run count (length store.now) (length out.old) }
-    ensures size_value { result.size ≡ checkpoint_size run count (length store.now) (length out.old) }
+#[tactic(auto, unfolding(crate::specs::Layout::order_row, crate::specs::Layout::checkpoint_row, crate::specs::Layout::checkpoint_size, crate::specs::Layout::checkpoint_written))]
+pub fn write_checkpoint(
+    run: Run,
+    count: u64,
+    store: &[u8],
+    out: &mut [u8],
+) -> Result<usize, Refusal>
+    ensures outcome_value { outcome_number result ≡ checkpoint_row run count (length store.now) (length out.old) }
+    ensures size_value { result_unwrap_or result 0 ≡ checkpoint_size run count (length store.now) (length out.old) }
     ensures out_after { out.new ≡ checkpoint_written run count store.now out.old }
 {
-    if not_possible(run.edition, run.depth, run.memory, run.made) {
-        return refused(Refusal::State);
-    }
-    if store_short(run.memory, store.len()) {
-        return refused(Refusal::ShortStore);
-    }
-    if beyond(MAX_CHALLENGES, count) {
-        return refused(Refusal::Count);
-    }
+    check_order(&run, count, store.len())?;
     let mut record = [0u8; MAX_RECORD];
-    let recorded = write_record(run, &mut record);
-    let length = recorded.size;
-    let kept = (32 * nodes(run.memory)) as usize;
+    let length = lay_record(run, &mut record);
+    let kept = kept_size(run.memory);
     let size = HEAD_SIZE + kept + length + 32;
     if out.len() < size {
-        return refused(Refusal::ShortOutput);
+        return Err(Refusal::ShortOutput);
     }
     let head = order_head(run.depth, run.memory, count, length);
     put_parts(&head, &store[..kept], &record[..length], out);
-    Checkpointed {
-        outcome: Outcome::Done,
-        size,
-    }
+    Ok(size)
 }

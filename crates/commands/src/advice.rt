@@ -1,11 +1,11 @@
 // Usage, and what is wrong with the words.
-use crate::{Ordered, UNTRIED};
+use crate::UNTRIED;
 use base::{MAX_CHALLENGES, NEW_EDITION, beyond};
 use descriptors::Stream;
-use lines::{add, add_line, complain, empty, say, say_text};
+use lines::{Line, complain, say, say_text};
 use run::{nodes, not_possible};
 use sealing::all_labels;
-use words::Problem;
+use words::{Problem, SealOrder};
 
 // What `help` prints, and `mastdock` alone.
 fn usage(to: Stream<'_>) -> bool {
@@ -81,20 +81,19 @@ pub fn note_empty(size: u64, report: &[u8], err: Stream<'_>) {
 
 fn say_anew(memory: u64, anew: u64, tree: u64, err: Stream<'_>) {
     let told = lines::anew(memory, anew, tree);
-    say(err, add_line(add(empty(), b"mastdock: "), told));
+    say(err, &Line::new().add(b"mastdock: ").add_line(&told));
 }
 
 // Tells of a memory level at which the openings make more labels anew than the tree has.
-pub fn note_anew(ordered: Ordered, err: Stream<'_>) {
-    if not_possible(NEW_EDITION, ordered.depth, ordered.memory, 0) {
+pub fn note_anew(order: SealOrder, err: Stream<'_>) {
+    if not_possible(NEW_EDITION, order.depth, order.memory, 0)
+        || beyond(MAX_CHALLENGES, order.challenges)
+    {
         return;
     }
-    if beyond(MAX_CHALLENGES, ordered.count) {
-        return;
-    }
-    let tree = nodes(ordered.depth);
-    let anew = all_labels(ordered.depth, ordered.memory, ordered.count) - tree;
+    let tree = nodes(order.depth);
+    let anew = all_labels(order.depth, order.memory, order.challenges) - tree;
     if tree < anew {
-        say_anew(ordered.memory, anew, tree, err);
+        say_anew(order.memory, anew, tree, err);
     }
 }

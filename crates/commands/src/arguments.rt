@@ -28,24 +28,19 @@ fn add_argument<R: Env>(rt: &R, line: &mut [u8], at: usize, i: usize) -> usize {
 // Whether there is an argument i.
 fn has_argument<R: Env>(rt: &R, i: usize) -> bool {
     let mut word = [0u8; 4097];
-    match rt.arg(i, &mut word) {
-        Err(FillError::NotPresent) => false,
-        _ => true,
-    }
+    !matches!(rt.arg(i, &mut word), Err(FillError::NotPresent))
 }
 
 // The program's name and its words, of which one more than any order has is enough to see that there are too many.
 fn argument_count<R: Env>(rt: &R) -> usize
     ensures { result ≤ 10 }
 {
-    let mut count: usize = 0;
-    while count < 10 {
-        if !has_argument(rt, count) {
-            return count;
+    for i in 0..10 {
+        if !has_argument(rt, i) {
+            return i;
         }
-        count += 1;
     }
-    count
+    10
 }
 
 // Does what the program's arguments ask, and answers with the status. `input` is standard input.
@@ -56,26 +51,12 @@ pub fn run_arguments<R: Env + Files<File = File> + Clock>(
     err: Stream<'_>,
 ) -> u8 {
     let mut line = line_space();
-    let count = argument_count(rt);
-    let mut at: usize = 0;
-    let mut i: usize = 1;
-    while i < count {
+    let mut at = 0;
+    for i in 1..argument_count(rt) {
         at = add_argument(rt, &mut line, at, i);
-        i += 1;
     }
-    run(rt, &line, at, input, out, err)
-}
-
-fn run<R: Files<File = File> + Clock>(
-    rt: &R,
-    line: &[u8],
-    length: usize,
-    input: Stream<'_>,
-    out: Stream<'_>,
-    err: Stream<'_>,
-) -> u8 {
-    if line.len() < length {
-        return UNTRIED;
+    match line.get(..at) {
+        Some(words) => command(rt, words, input, out, err),
+        None => UNTRIED,
     }
-    command(rt, &line[..length], input, out, err)
 }

@@ -12,7 +12,7 @@ mod telling; // telling.rt: verdict, chain, clash and facts written
 
 use advice::{advise, tell_usage, tell_version};
 pub use arguments::run_arguments;
-use asking::{Asked, ask, info};
+use asking::{ask, info};
 use descriptors::Stream;
 use lines::complain;
 use seal::seal;
@@ -25,15 +25,6 @@ use words::Order;
 const REFUSED: u8 = 1;
 
 const UNTRIED: u8 = 2;
-
-// What is to be sealed: depth, challenges, memory level, and the seconds between checkpoints.
-#[derive(Clone, Copy)]
-pub struct Ordered {
-    pub depth: u64,
-    pub count: u64,
-    pub memory: u64,
-    pub seconds: u64,
-}
 
 // Does what a line of words asks, each word ended by a byte 0. `input` is standard input; answers go to `out`, progress and complaints to
 // `err`. No file is opened before the standard descriptors are occupied.
@@ -62,46 +53,14 @@ fn obey<R: Files<File = File> + Clock>(
     out: Stream<'_>,
     err: Stream<'_>,
 ) -> u8 {
-    let order = words::read_order(line);
     let report = words::report(line);
     let proof = words::proof(line);
-    match order {
-        Order::Refuse(problem) => advise(problem, words::word(line, 0), err),
-        Order::Seal(depth, count, memory, seconds) => {
-            let ordered = Ordered {
-                depth,
-                count,
-                memory,
-                seconds,
-            };
-            seal(rt, report, proof, ordered, input, out, err)
-        }
-        Order::Verify => ask(rt, Asked::Verdict, report, proof, input, out, err),
-        Order::VerifyAs(depth, challenges) => {
-            ask(
-                rt,
-                Asked::VerdictFor(depth, challenges),
-                report,
-                proof,
-                input,
-                out,
-                err,
-            )
-        }
-        Order::VerifyAtLeast(depth, challenges) => {
-            ask(
-                rt,
-                Asked::AtLeast(depth, challenges),
-                report,
-                proof,
-                input,
-                out,
-                err,
-            )
-        }
-        Order::Chain => ask(rt, Asked::Chain, report, proof, input, out, err),
-        Order::Info => info(rt, proof, out, err),
-        Order::Help => tell_usage(out, err),
-        Order::Version => tell_version(out, err),
+    match words::read_order(line) {
+        Err(problem) => advise(problem, words::word(line, 0), err),
+        Ok(Order::Seal(order)) => seal(rt, report, proof, order, input, out, err),
+        Ok(Order::Info) => info(rt, proof, out, err),
+        Ok(Order::Help) => tell_usage(out, err),
+        Ok(Order::Version) => tell_version(out, err),
+        Ok(order) => ask(rt, order, report, proof, input, out, err),
     }
 }

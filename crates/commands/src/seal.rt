@@ -2,16 +2,18 @@
 use crate::advice::{note_anew, note_empty};
 use crate::resume::resume;
 use crate::sealed::seal_from;
-use crate::{Ordered, REFUSED, UNTRIED};
+use crate::{REFUSED, UNTRIED};
 use base::{MAX_FILE, MAX_STORE, NEW_EDITION};
 use checkpoint::MAX_CHECKPOINT;
 use descriptors::Stream;
 use files::{
-    Holding, There, empty_file, hold, is_apart, is_free, load_run, may_save, release, state_report,
+    NotHeld, empty_file, hold, is_apart, is_free, load_run, may_save, release, state_report,
 };
 use run::new_run;
+use sealing::Seal;
 use std::fs::File;
 use std::rt::{Clock, Files};
+use words::SealOrder;
 
 // Room for the longest checkpoint and for the openings behind it.
 const SPACE: usize = MAX_CHECKPOINT + MAX_FILE;
@@ -29,16 +31,20 @@ pub fn empty_store() -> [u8; MAX_STORE] {
 fn seal_anew<R: Files<File = File> + Clock>(
     rt: &R,
     statement: [u8; 32],
-    ordered: Ordered,
+    order: SealOrder,
     proof: &[u8],
     out: Stream<'_>,
     err: Stream<'_>,
 ) -> u8 {
-    let run = new_run(NEW_EDITION, statement, ordered.depth, ordered.memory);
+    let seal = Seal {
+        count: order.challenges,
+        done: 0,
+        run: new_run(NEW_EDITION, statement, order.depth, order.memory),
+    };
     let mut store = empty_store();
     let mut file = empty_file();
     seal_from(
-        rt, run, 0, ordered, false, &mut store, &mut file, proof, out, err,
+        rt, seal, order, false, &mut store, &mut file, proof, out, err,
     )
 }
 
@@ -46,23 +52,19 @@ fn seal_anew<R: Files<File = File> + Clock>(
 fn seal_held<R: Files<File = File> + Clock>(
     rt: &R,
     statement: [u8; 32],
-    ordered: Ordered,
+    order: SealOrder,
     proof: &[u8],
     out: Stream<'_>,
     err: Stream<'_>,
 ) -> u8 {
-    if !is_free(rt, proof, err) {
-        return UNTRIED;
-    }
-    if !may_save(rt, proof, b"mastdock run 1\n", err) {
+    if !is_free(rt, proof, err) || !may_save(rt, proof, b"mastdock run 1\n", err) {
         return UNTRIED;
     }
     let mut space = empty_space();
-    let there = load_run(rt, proof, &mut space, err);
-    match there {
-        There::Unread => UNTRIED,
-        There::Nothing => seal_anew(rt, statement, ordered, proof, out, err),
-        There::Bytes(size) => resume(rt, &space, size, statement, ordered, proof, out, err),
+    match load_run(rt, proof, &mut space, err) {
+        Err(_) => UNTRIED,
+        Ok(None) => seal_anew(rt, statement, order, proof, out, err),
+        Ok(Some(size)) => resume(rt, &space, size, statement, order, proof, out, err),
     }
 }
 
@@ -71,30 +73,24 @@ pub fn seal<R: Files<File = File> + Clock>(
     rt: &R,
     report: &[u8],
     proof: &[u8],
-    ordered: Ordered,
+    order: SealOrder,
     input: Stream<'_>,
     out: Stream<'_>,
     err: Stream<'_>,
 ) -> u8 {
-    if !is_free(rt, proof, err) {
+    if !is_free(rt, proof, err) || !is_apart(rt, report, proof, input, err) {
         return UNTRIED;
     }
-    if !is_apart(rt, report, proof, input, err) {
+    let Some(stated) = state_report(rt, report, input, err) else {
         return UNTRIED;
-    }
-    let stated = state_report(rt, report, input, err);
-    if !stated.good {
-        return UNTRIED;
-    }
+    };
     note_empty(stated.size, report, err);
-    note_anew(ordered, err);
-    let holding = hold(rt, proof, err);
-    match holding {
-        Holding::Busy => REFUSED,
-        Holding::Failed => UNTRIED,
-        Holding::Held => {
-            let statement = stated.statement;
-            let status = seal_held(rt, statement, ordered, proof, out, err);
+    note_anew(order, err);
+    match hold(rt, proof, err) {
+        Err(NotHeld::Busy) => REFUSED,
+        Err(NotHeld::Failed) => UNTRIED,
+        Ok(()) => {
+            let status = seal_held(rt, stated.statement, order, proof, out, err);
             release(rt, proof);
             status
         }

@@ -5,6 +5,7 @@ ghost use Rattle.planning.specs.Output.{places, max_output};
 
 use crate::UNTRIED;
 use base::MAX_CHAIN;
+use compare::Clash;
 use descriptors::Stream;
 use drawing_text::{
     chain_status, clash_lines, found_in, info, info_status, put_drawing, verdict, verdict_status,
@@ -26,12 +27,9 @@ fn empty_text() -> [u8; MAX_OUTPUT]
     [0u8; MAX_OUTPUT]
 }
 
-// Writes the first bytes of a text to `out`; if that fails, one line on `err` says so. The status is what was told, or 2.
-fn write_out(text: &[u8], length: usize, status: u8, out: Stream<'_>, err: Stream<'_>) -> u8 {
-    if text.len() < length {
-        return UNTRIED;
-    }
-    if say_text(out, &text[..length]) {
+// Writes a text to `out`; if that fails, one line on `err` says so. The status is what was told, or 2.
+fn write_out(text: &[u8], status: u8, out: Stream<'_>, err: Stream<'_>) -> u8 {
+    if say_text(out, text) {
         return status;
     }
     complain(err, b"standard output", b"could not be written whole");
@@ -49,12 +47,10 @@ pub fn tell_verdict(
     err: Stream<'_>,
 ) -> u8 {
     let mut list = empty_list();
-    let drawn = draw::draw(file, statement, depth, count, &mut list);
-    let drawing = drawn.drawing;
+    let drawing = draw::draw(file, statement, depth, count, &mut list);
     let found = found_in(file, statement);
-    let line = verdict(drawing, depth, count, found, file.len());
-    let text = line.text;
-    write_out(&text, line.length, verdict_status(drawing), out, err)
+    let line = verdict(&drawing, depth, count, found, file.len());
+    write_out(line.as_bytes(), verdict_status(&drawing), out, err)
 }
 
 // Prints `chain_text` of drawing_text's specs/Text.antt: of the drawing by the depth and count of the head.
@@ -63,21 +59,21 @@ pub fn tell_chain(file: &[u8], statement: [u8; 32], out: Stream<'_>, err: Stream
     let depth = found.depth;
     let count = found.count;
     let mut list = empty_list();
-    let drawn = draw::draw(file, statement, depth, count, &mut list);
-    let drawing = drawn.drawing;
+    let drawing = draw::draw(file, statement, depth, count, &mut list);
     let mut text = empty_text();
-    let length = put_drawing(file, statement, depth, count, drawn, &list, &mut text);
-    write_out(&text, length, chain_status(drawing), out, err)
+    let length = put_drawing(file, statement, depth, count, &drawing, &list, &mut text);
+    match text.get(..length) {
+        Some(told) => write_out(told, chain_status(&drawing), out, err),
+        None => UNTRIED,
+    }
 }
 
 // Prints `info_text` of drawing_text's specs/Info.antt.
 pub fn tell_info(file: &[u8], out: Stream<'_>, err: Stream<'_>) -> u8 {
-    let line = info(file);
-    let text = line.text;
-    write_out(&text, line.length, info_status(file), out, err)
+    write_out(info(file).as_bytes(), info_status(file), out, err)
 }
 
 // Prints `clash_lines` of drawing_text's specs/Verdict.antt.
-pub fn say_clash(i: u64, j: u64, level: u64, first: [u8; 105], second: [u8; 105], out: Stream<'_>) {
-    say(out, clash_lines(i, j, level, first, second));
+pub fn say_clash(clash: &Clash, out: Stream<'_>) {
+    say(out, &clash_lines(clash));
 }

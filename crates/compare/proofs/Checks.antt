@@ -17,7 +17,7 @@ use Rattle.tree.specs.Openings.{opening_size}
 use Rattle.chain.specs.Leaves.{leaves_checks, leaves_row}
 use Rattle.chain.proofs.Rows.{passed}
 use Rattle.compare.specs.Comparison.{size_checks, compare_row, compared, first_disagreement}
-use Rattle.compare.specs.declared.Pair.TheVariants.{Agree}
+use Rattle.std.specs.Prelude.{None}
 use Rattle.compare.specs.Table.{Sized}
 
 -- what the checks of the leaves leave
@@ -88,6 +88,6 @@ unfolding compared
 compared-done edition statement n leaves openings e = rw e
 
 pub compared-refused : (edition : ℕ) (statement : List ℕ) (n : ℕ) (leaves openings : List ℕ)
-    → is_done (compare_row edition n leaves (length openings)) ≡ false → compared edition statement n leaves openings ≡ Agree
+    → is_done (compare_row edition n leaves (length openings)) ≡ false → compared edition statement n leaves openings ≡ None
 unfolding compared
 compared-refused edition statement n leaves openings e = rw e

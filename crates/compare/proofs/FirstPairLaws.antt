@@ -1,17 +1,17 @@
 -- The first pair: turns of the loops that look for it, where it lies, and that it depends on its test within the range alone.
-use mathlib.Core.Path.{◌≡◌, refl, sym}
+use mathlib.Core.Path.{◌≡◌, refl}
 use Prim.Native.Nat.{ℕ, zero, suc, ◌+◌, ◌-◌, ◌≤◌, ◌<◌}
 use native.Mathlib.Omega.{arith}
 use mathlib.Core.Bool.{Bool, true, false}
 use Rattle.base.specs.Choice.{pick}
 use Rattle.compare.specs.declared.Pair.{Pair}
-use Rattle.compare.specs.declared.Pair.TheVariants.{Agree, Disagree}
-use Rattle.compare.specs.FirstPair.{levels_from, or_else, seconds_from, firsts_from, first_pair}
+use Rattle.std.specs.Prelude.{Option, Some, None, IfSome}
+use Rattle.compare.specs.FirstPair.{disagree_at_level, levels_from, or_else, seconds_from, firsts_from, first_pair, Lies}
 
 -- ---- turns
 module _ (d : ℕ → ℕ → ℕ → Bool) where
   module _ (i j : ℕ) where
-    pub level-found : (n l : ℕ) → l < n → d i j l ≡ true → levels_from d i j l (n - l) ≡ Disagree i j l
+    pub level-found : (n l : ℕ) → l < n → d i j l ≡ true → levels_from d i j l (n - l) ≡ disagree_at_level i j l
     unfolding levels_from
     level-found n l h e = let more : n - l ≡ suc (n - (l + 1)) = omega arith in rw (more, e)
 
@@ -19,28 +19,28 @@ module _ (d : ℕ → ℕ → ℕ → Bool) where
     unfolding levels_from
     level-passed n l h e = let more : n - l ≡ suc (n - (l + 1)) = omega arith in rw (more, e)
 
-    pub levels-none : (l left : ℕ) → ((k : ℕ) → l ≤ k → k < l + left → d i j k ≡ false) → levels_from d i j l left ≡ Agree
+    pub levels-none : (l left : ℕ) → ((k : ℕ) → l ≤ k → k < l + left → d i j k ≡ false) → levels_from d i j l left ≡ None
     unfolding levels_from
     levels-none l zero none = refl
     levels-none l (suc left) none =
         rw (none l (omega arith) (omega arith)) (levels-none (l + 1) left (λ k a b. none k (omega arith) (omega arith)))
 
-    pub levels-ended : (n l : ℕ) → n ≤ l → levels_from d i j l (n - l) ≡ Agree
+    pub levels-ended : (n l : ℕ) → n ≤ l → levels_from d i j l (n - l) ≡ None
     unfolding levels_from
     levels-ended n l h = let none : n - l ≡ 0 = omega arith in rw none
 
   module _ (n i : ℕ) where
-    pub second-found : (t j : ℕ) (p : Pair) → j ≤ t → levels_from d i j 0 n ≡ p
+    pub second-found : (t j : ℕ) (p : Option Pair) → j ≤ t → levels_from d i j 0 n ≡ p
         → seconds_from d n i j (t + 1 - j) ≡ or_else p (seconds_from d n i (j + 1) (t + 1 - (j + 1)))
     unfolding seconds_from
     second-found t j p h e = let more : t + 1 - j ≡ suc (t + 1 - (j + 1)) = omega arith in rw (more, e)
 
-    pub seconds-ended : (t j : ℕ) → t < j → seconds_from d n i j (t + 1 - j) ≡ Agree
+    pub seconds-ended : (t j : ℕ) → t < j → seconds_from d n i j (t + 1 - j) ≡ None
     unfolding seconds_from
     seconds-ended t j h = let none : t + 1 - j ≡ 0 = omega arith in rw none
 
   module _ (n : ℕ) where
-    pub first_found : (t i : ℕ) (p : Pair) → i ≤ t → seconds_from d n i (i + 1) (t - i) ≡ p
+    pub first_found : (t i : ℕ) (p : Option Pair) → i ≤ t → seconds_from d n i (i + 1) (t - i) ≡ p
         → firsts_from d n i (t + 1 - i) ≡ or_else p (firsts_from d n (i + 1) (t + 1 - (i + 1)))
     unfolding firsts_from
     first_found t i p h e =
@@ -48,7 +48,7 @@ module _ (d : ℕ → ℕ → ℕ → Bool) where
         let left : t + 1 - (i + 1) ≡ t - i = omega arith in
         rw (more, left, e)
 
-    pub firsts-ended : (t i : ℕ) → t < i → firsts_from d n i (t + 1 - i) ≡ Agree
+    pub firsts-ended : (t i : ℕ) → t < i → firsts_from d n i (t + 1 - i) ≡ None
     unfolding firsts_from
     firsts-ended t i h = let none : t + 1 - i ≡ 0 = omega arith in rw none
 
@@ -57,58 +57,58 @@ module _ (d : ℕ → ℕ → ℕ → Bool) where
     firsts-all t = let all : t + 1 - 1 ≡ t = omega arith in rw all
 
 -- ---- where it lies
-pub record Lies (n t i j l : ℕ) : Type 0 where
-  pub first : 1 ≤ i
-  pub order : i < j
-  pub second : j ≤ t
-  pub level : l < n
+weaker : (o : Option Pair) (P Q : Pair → Type 0) → ((p : Pair) → P p → Q p) → IfSome o P → IfSome o Q
+weaker None P Q f h = tt
+weaker (Some p) P Q f h = f p h
 
-module _ (d : ℕ → ℕ → ℕ → Bool) (a b m : ℕ) where
-  level_by : (v : Bool) (i j l left : ℕ) (rest : Pair) → (rest ≡ Disagree a b m → (a ≡ i) × (b ≡ j) × (m < l + 1 + left))
-      → pick v (Disagree i j l) rest ≡ Disagree a b m → (a ≡ i) × (b ≡ j) × (m < l + suc left)
-  level_by true i j l left rest f e =
-      let first : i ≡ a = cc in
-      let second : j ≡ b = cc in
-      let level : l ≡ m = cc in
-      (sym first, sym second, omega arith)
-  level_by false i j l left rest f e = let r = f e in (r.0, r.1, omega (arith, r.2))
+or_by : (o next : Option Pair) (P : Pair → Type 0) → IfSome o P → IfSome next P → IfSome (or_else o next) P
+or_by None next P f g = g
+or_by (Some p) next P f g = f
 
-  levels-lie : (i j l left : ℕ) → levels_from d i j l left ≡ Disagree a b m → (a ≡ i) × (b ≡ j) × (m < l + left)
+module _ (d : ℕ → ℕ → ℕ → Bool) where
+  levels-lie : (i j l left : ℕ) → IfSome (levels_from d i j l left) (λ p. (p.first ≡ i) × (p.second ≡ j) × (p.level < l + left))
   unfolding levels_from
-  levels-lie i j l zero e = absurd (let z : ◌≡◌ {A = ℕ} 0 1 = cc in omega arith)
-  levels-lie i j l (suc left) e = level_by (d i j l) i j l left (levels_from d i j (l + 1) left) (levels-lie i j (l + 1) left) e
+  levels-lie i j l zero = tt
+  levels-lie i j l (suc left) =
+      by (d i j l)
+      (weaker (levels_from d i j (l + 1) left) (λ p. (p.first ≡ i) × (p.second ≡ j) × (p.level < l + 1 + left))
+      (λ p. (p.first ≡ i) × (p.second ≡ j) × (p.level < l + suc left)) (λ p r. (r.0, r.1, omega (arith, r.2))) (levels-lie i j (l + 1) left))
+    where
+      by : (v : Bool) → IfSome (levels_from d i j (l + 1) left) (λ p. (p.first ≡ i) × (p.second ≡ j) × (p.level < l + suc left))
+          → IfSome (pick v (disagree_at_level i j l) (levels_from d i j (l + 1) left)) (λ p. (p.first ≡ i) × (p.second ≡ j) × (p.level < l + suc left))
+      by true rest = (refl, refl, omega arith)
+      by false rest = rest
 
-  second-by : (p : Pair) (n i j left : ℕ) (rest : Pair) → (p ≡ Disagree a b m → (a ≡ i) × (b ≡ j) × (m < n))
-      → (rest ≡ Disagree a b m → (a ≡ i) × (j + 1 ≤ b) × (b < j + 1 + left) × (m < n))
-      → or_else p rest ≡ Disagree a b m → (a ≡ i) × (j ≤ b) × (b < j + suc left) × (m < n)
-  second-by Agree n i j left rest f g e = let r = g e in (r.0, omega (arith, r.1), omega (arith, r.2), r.3)
-  second-by (Disagree x y z) n i j left rest f g e = let r = f e in (r.0, omega (arith, r.1), omega (arith, r.1), r.2)
-
-  seconds-lie : (n i j left : ℕ) → seconds_from d n i j left ≡ Disagree a b m → (a ≡ i) × (j ≤ b) × (b < j + left) × (m < n)
+  seconds-lie : (n i j left : ℕ) → IfSome (seconds_from d n i j left) (λ p. (p.first ≡ i) × (j ≤ p.second) × (p.second < j + left) × (p.level < n))
   unfolding seconds_from
-  seconds-lie n i j zero e = absurd (let z : ◌≡◌ {A = ℕ} 0 1 = cc in omega arith)
-  seconds-lie n i j (suc left) e =
-      second-by (levels_from d i j 0 n) n i j left (seconds_from d n i (j + 1) left)
-      (λ q. let r = levels-lie i j 0 n q in (r.0, r.1, omega (arith, r.2))) (seconds-lie n i (j + 1) left) e
+  seconds-lie n i j zero = tt
+  seconds-lie n i j (suc left) =
+      or_by (levels_from d i j 0 n) (seconds_from d n i (j + 1) left) (λ p. (p.first ≡ i) × (j ≤ p.second) × (p.second < j + suc left) × (p.level < n))
+      (weaker (levels_from d i j 0 n) (λ p. (p.first ≡ i) × (p.second ≡ j) × (p.level < 0 + n))
+      (λ p. (p.first ≡ i) × (j ≤ p.second) × (p.second < j + suc left) × (p.level < n))
+      (λ p r. (r.0, omega (arith, r.1), omega (arith, r.1), omega (arith, r.2))) (levels-lie i j 0 n))
+      (weaker (seconds_from d n i (j + 1) left) (λ p. (p.first ≡ i) × (j + 1 ≤ p.second) × (p.second < j + 1 + left) × (p.level < n))
+      (λ p. (p.first ≡ i) × (j ≤ p.second) × (p.second < j + suc left) × (p.level < n))
+      (λ p r. (r.0, omega (arith, r.1), omega (arith, r.2), r.3)) (seconds-lie n i (j + 1) left))
 
-  first_by : (p : Pair) (n i left : ℕ) (rest : Pair) → (p ≡ Disagree a b m → (a ≡ i) × (i + 1 ≤ b) × (b < i + 1 + left) × (m < n))
-      → (rest ≡ Disagree a b m → (i + 1 ≤ a) × (a < b) × (b < i + 1 + left) × (m < n))
-      → or_else p rest ≡ Disagree a b m → (i ≤ a) × (a < b) × (b < i + suc left) × (m < n)
-  first_by Agree n i left rest f g e = let r = g e in (omega (arith, r.0), r.1, omega (arith, r.2), r.3)
-  first_by (Disagree x y z) n i left rest f g e =
-      let r = f e in (omega (arith, r.0), omega (arith, r.0, r.1), omega (arith, r.2), r.3)
-
-  firsts-lie : (n i left : ℕ) → firsts_from d n i left ≡ Disagree a b m → (i ≤ a) × (a < b) × (b < i + left) × (m < n)
+  firsts-lie : (n i left : ℕ) → IfSome (firsts_from d n i left) (λ p. (i ≤ p.first) × (p.first < p.second) × (p.second < i + left) × (p.level < n))
   unfolding firsts_from
-  firsts-lie n i zero e = absurd (let z : ◌≡◌ {A = ℕ} 0 1 = cc in omega arith)
-  firsts-lie n i (suc left) e =
-      first_by (seconds_from d n i (i + 1) left) n i left (firsts_from d n (i + 1) left) (seconds-lie n i (i + 1) left) (firsts-lie n (i + 1) left) e
+  firsts-lie n i zero = tt
+  firsts-lie n i (suc left) =
+      or_by (seconds_from d n i (i + 1) left) (firsts_from d n (i + 1) left)
+      (λ p. (i ≤ p.first) × (p.first < p.second) × (p.second < i + suc left) × (p.level < n))
+      (weaker (seconds_from d n i (i + 1) left) (λ p. (p.first ≡ i) × (i + 1 ≤ p.second) × (p.second < i + 1 + left) × (p.level < n))
+      (λ p. (i ≤ p.first) × (p.first < p.second) × (p.second < i + suc left) × (p.level < n))
+      (λ p r. (omega (arith, r.0), omega (arith, r.0, r.1), omega (arith, r.2), r.3)) (seconds-lie n i (i + 1) left))
+      (weaker (firsts_from d n (i + 1) left) (λ p. (i + 1 ≤ p.first) × (p.first < p.second) × (p.second < i + 1 + left) × (p.level < n))
+      (λ p. (i ≤ p.first) × (p.first < p.second) × (p.second < i + suc left) × (p.level < n))
+      (λ p r. (omega (arith, r.0), r.1, omega (arith, r.2), r.3)) (firsts-lie n (i + 1) left))
 
-  pub pair-lies : (n t : ℕ) → first_pair d n t ≡ Disagree a b m → Lies n t a b m
+  pub pair-lies : (n t : ℕ) → IfSome (first_pair d n t) (Lies n t)
   unfolding first_pair
-  pair-lies n t e =
-      let r = firsts-lie n 1 t e in
-      record { first = r.0; order = r.1; second = omega (arith, r.2); level = r.3 }
+  pair-lies n t =
+      weaker (firsts_from d n 1 t) (λ p. (1 ≤ p.first) × (p.first < p.second) × (p.second < 1 + t) × (p.level < n)) (Lies n t)
+      (λ p r. record { first = r.0; order = r.1; second = omega (arith, r.2); level = r.3 }) (firsts-lie n 1 t)
 
 -- ---- tests that are the same within the range
 module _ (d e : ℕ → ℕ → ℕ → Bool) (n t : ℕ) (same : (i j l : ℕ) → 1 ≤ i → i < j → j ≤ t → l < n → d i j l ≡ e i j l) where

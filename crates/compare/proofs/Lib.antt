@@ -2,5 +2,4 @@ pub mod Checks
 pub mod FirstPairLaws
 pub mod Lookup
 pub mod Turns
-pub mod Cells
-pub mod Filling
+pub mod FillingLaws

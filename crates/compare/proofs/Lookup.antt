@@ -8,7 +8,7 @@ use borrow.Author.Tests.{lt-ltb}
 use lib.ListN.{length, take, drop, length-drop, take-append-drop}
 use lib.Seq.{length-take-le, take-append-le, drop-append-le, drop-drop}
 use Rattle.base.specs.Limits.{max_depth, max_challenges}
-use Rattle.base.specs.Bytes.{joined, zeros}
+use Rattle.base.specs.Bytes.{joined}
 use Rattle.base.specs.Lists.{EachOf, same_bytes}
 use Rattle.base.proofs.BytesLaws.{joined-injective}
 use Rattle.base.proofs.ListsLaws.{tells-bytes, test-false}
@@ -22,13 +22,13 @@ use Rattle.labelling.proofs.RuleLaws.{stamp-hash}
 use Rattle.base.proofs.Parts.{part_length}
 use Rattle.opening_check.proofs.OneOpening.{given-labels}
 use Rattle.compare.specs.declared.Pair.{Pair}
-use Rattle.compare.specs.declared.Pair.TheVariants.{Agree, Disagree}
-use Rattle.compare.specs.FirstPair.{first_pair}
+use Rattle.std.specs.Prelude.{Some, None}
+use Rattle.compare.specs.FirstPair.{first_pair, Lies}
 use Rattle.compare.specs.Table.{leaf_of}
-use Rattle.compare.specs.Comparison.{given_of, disagreement, first_disagreement, input_of, first_input, second_input}
+use Rattle.compare.specs.Comparison.{given_of, disagreement, first_disagreement, input_of, clash_of}
 use Rattle.compare.specs.Table.{Sized, TableOf, cell, table_disagreement, row_size, table_size}
-use Rattle.compare.proofs.FirstPairLaws.{pair-lies, pair_same}
-use Rattle.compare.proofs.Filling.{opening-fits}
+use Rattle.compare.proofs.FirstPairLaws.{pair_same}
+use Rattle.compare.proofs.FillingLaws.{opening-fits}
 
 -- a part of a part
 part-inside : (size from most : ℕ) (bytes : List ℕ) → from + size ≤ most → most ≤ length bytes
@@ -124,27 +124,18 @@ module _ (edition : ℕ) (statement : List ℕ) (n : ℕ) (leaves openings first
       (sym (input-children r n (leaf_of leaves i) (given_of n openings i) l h))
 
   -- what is answered when the table shows no pair, and when it shows one
-  abbrev pub Answers : Pair → List ℕ → List ℕ → Type 0
-  Answers pair first second =
-      (pair ≡ first_disagreement edition statement n leaves openings)
-      × ((first ≡ first_input edition statement n leaves openings (first_disagreement edition statement n leaves openings))
-      × (second ≡ second_input edition statement n leaves openings (first_disagreement edition statement n leaves openings)))
+  pub clash-none : None ≡ first_pair (table_disagreement n leaves table) n (length leaves)
+      → None ≡ clash_of edition statement n leaves openings (first_disagreement edition statement n leaves openings)
+  clash-none e = let none : first_disagreement edition statement n leaves openings ≡ None = sym pair-known ∙ sym e in rw none
 
-  pub agree-answers : first_pair (table_disagreement n leaves table) n (length leaves) ≡ Agree → Answers Agree (zeros 105) (zeros 105)
-  agree-answers p =
-      let e : first_disagreement edition statement n leaves openings ≡ Agree = sym pair-known ∙ p in
-      (sym e, (rw e, rw e))
-
-  pub disagree-answers : (i j l : ℕ) (first second : List ℕ) → first_pair (table_disagreement n leaves table) n (length leaves) ≡ Disagree i j l
-      → first ≡ document_input edition n statement (way_node n (leaf_of leaves i) l) (in_labels (cell n table i l))
-      → second ≡ document_input edition n statement (way_node n (leaf_of leaves j) l) (in_labels (cell n table j l))
-      → Answers (Disagree i j l) first second
-  disagree-answers i j l first second p f g =
-      let e : first_disagreement edition statement n leaves openings ≡ Disagree i j l = sym pair-known ∙ p in
-      let lies = pair-lies (table_disagreement n leaves table) i j l n (length leaves) p in (
-        sym e,
-        (
-          rw e (f ∙ input-known i l lies.first (omega arith) lies.level),
-          rw e (g ∙ input-known j l (omega arith) lies.second lies.level),
-        ),
-      )
+  pub clash-some :
+      (p : Pair) (first second : List ℕ) → Some p ≡ first_pair (table_disagreement n leaves table) n (length leaves) → Lies n (length leaves) p
+      → first ≡ document_input edition n statement (way_node n (leaf_of leaves p.first) p.level) (in_labels (cell n table p.first p.level))
+      → second ≡ document_input edition n statement (way_node n (leaf_of leaves p.second) p.level) (in_labels (cell n table p.second p.level))
+      → Some (record { pair = p; first = first; second = second })
+      ≡ clash_of edition statement n leaves openings (first_disagreement edition statement n leaves openings)
+  clash-some p first second e lies f g =
+      let some : first_disagreement edition statement n leaves openings ≡ Some p = sym pair-known ∙ sym e in
+      let one = f ∙ input-known p.first p.level lies.first (omega (arith, lies.order, lies.second)) lies.level in
+      let two = g ∙ input-known p.second p.level (omega (arith, lies.first, lies.order)) lies.second lies.level in
+      rw some (λ i. Some (record { pair = p; first = one i; second = two i }))

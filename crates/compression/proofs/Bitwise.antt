@@ -63,9 +63,9 @@ module _ (f g : ℕ → ℕ → ℕ → ℕ) (p : Bitwise f) (q : Bitwise g)
 
 -- ---- Maj
 
-pub maj-shared : (x y z : ℕ) → x < 2 ^ 32 → y < 2 ^ 32 → z < 2 ^ 32
+pub maj_shared : (x y z : ℕ) → x < 2 ^ 32 → y < 2 ^ 32 → z < 2 ^ 32
     → bit_xor y (bit_and (bit_xor x y) (bit_xor y z)) ≡ maj x y z
-maj-shared =
+maj_shared =
     agree (λ x y z. bit_xor y (bit_and (bit_xor x y) (bit_xor y z))) maj
     (xored _ _ second (anded _ _ (xored _ _ first second) (xored _ _ second third)))
     (xored _ _ (xored _ _ (anded _ _ first second) (anded _ _ first third)) (anded _ _ second third))
@@ -101,8 +101,8 @@ complement-and (suc k) x z a b =
     (and_mod (2 ^ suc k - 1 - x) z 1 ∙ rw low (complement-bit (x % 2) (z % 2) (omega arith) (omega arith))
     ∙ sym ((xored _ _ third (anded _ _ first third)).low x 0 z))
 
-pub ch-shared : (x y z : ℕ) → x < 2 ^ 32 → y < 2 ^ 32 → z < 2 ^ 32 → bit_xor z (bit_and x (bit_xor y z)) ≡ ch x y z
-ch-shared x y z a b c =
+pub ch_shared : (x y z : ℕ) → x < 2 ^ 32 → y < 2 ^ 32 → z < 2 ^ 32 → bit_xor z (bit_and x (bit_xor y z)) ≡ ch x y z
+ch_shared x y z a b c =
     agree (λ x y z. bit_xor z (bit_and x (bit_xor y z))) (λ x y z. bit_xor (bit_and x y) (bit_xor z (bit_and x z)))
     (xored _ _ third (anded _ _ first (xored _ _ second third)))
     (xored _ _ (anded _ _ first second) (xored _ _ third (anded _ _ first third)))
@@ -120,7 +120,7 @@ sum-right x y = omega arith
 sum-five : (a b c d e : ℕ) → sum (sum (sum (sum a b) c) d) e ≡ (a + b + c + d + e) % 2 ^ 32
 sum-five a b c d e = rw (sum_left (a + b) c, sum_left (a + b + c) d, sum_left (a + b + c + d) e)
 
-pub t1-early : (h s c k w : ℕ) → sum (sum (sum h (sum k w)) c) s ≡ sum (sum (sum (sum h s) c) k) w
-t1-early h s c k w =
+pub t1_early : (h s c k w : ℕ) → sum (sum (sum h (sum k w)) c) s ≡ sum (sum (sum (sum h s) c) k) w
+t1_early h s c k w =
     rw (sum-right h (k + w), sum_left (h + (k + w)) c, sum_left (h + (k + w) + c) s)
     (ap (λ (n : ℕ). n % 2 ^ 32) (omega arith) ∙ sym (sum-five h s c k w))

@@ -1,4 +1,4 @@
 pub mod Words
 pub mod Constants
 pub mod Compression
-pub mod Block
+pub mod Sixteens

@@ -1,16 +1,17 @@
 // The compression of SHA-256 (FIPS 180-4, 6.2.2): eight new hash words from the eight old ones and the sixteen of a block. No byte occurs here.
 #![tactic(auto)]
 
-mod bits; // bits.rt: the operations on words of sections 3.2 and 4.1.2
-mod block; // block.rt: the sixteen words of a block, and the message schedule
-mod rounds; // rounds.rt: rounds, and the compression of a block
+mod bits; // bits.rt: the operations on words of section 4.1.2
+mod rounds; // rounds.rt: sixteen rounds at a time, and the message schedule
 
-pub use block::Block;
-pub use rounds::compress;
+ghost use Rattle.std.specs.Prelude.{◌≡◌};
 
-// The eight hash words, or the working variables a to h.
+use bits::{big0, big1, choose, majority};
+use rounds::{sixteen, turn_and_extend};
+
+// The eight hash words, or the working variables a to h. They are fields and no array, so that a round reads as FIPS 180-4 writes it.
 #[repr(C)]
-#[derive(Clone, Copy)]
+#[derive(Clone, Copy, Debug, PartialEq, Eq)]
 pub struct Words {
     pub a: u32,
     pub b: u32,
@@ -33,3 +34,60 @@ pub const INITIAL: Words = Words {
     g: 0x1f83d9ab,
     h: 0x5be0cd19,
 };
+
+impl Words {
+    ghost use Rattle.compression.specs.Compression.{round, added, compressed};
+
+    // Step 3: one round, with K_t and W_t.
+    #[tactic(auto, using(crate::proofs::Bitwise::t1_early), unfolding(crate::specs::Compression::round))]
+    pub(crate) fn turn(self, k: u32, w: u32) -> Words
+        ensures { result ≡ round k w self }
+    {
+        // The sum of k and w does not wait for the round before.
+        let t1 = self
+            .h
+            .wrapping_add(k.wrapping_add(w))
+            .wrapping_add(choose(self.e, self.f, self.g))
+            .wrapping_add(big1(self.e));
+        let t2 = big0(self.a).wrapping_add(majority(self.a, self.b, self.c));
+        Words {
+            a: t1.wrapping_add(t2),
+            b: self.a,
+            c: self.b,
+            d: self.c,
+            e: self.d.wrapping_add(t1),
+            f: self.e,
+            g: self.f,
+            h: self.g,
+        }
+    }
+
+    // Step 4: word by word.
+    fn plus(self, other: Words) -> Words
+        ensures { result ≡ added self other }
+    {
+        Words {
+            a: self.a.wrapping_add(other.a),
+            b: self.b.wrapping_add(other.b),
+            c: self.c.wrapping_add(other.c),
+            d: self.d.wrapping_add(other.d),
+            e: self.e.wrapping_add(other.e),
+            f: self.f.wrapping_add(other.f),
+            g: self.g.wrapping_add(other.g),
+            h: self.h.wrapping_add(other.h),
+        }
+    }
+
+    // The hash words after one more block. `turn_and_extend` is called in one place only, so that the compiler puts it there: the
+    // working variables then stay in registers.
+    pub fn compress(self, block: [u32; 16]) -> Words
+        ensures { result ≡ compressed self block }
+    {
+        let mut v = self;
+        let mut w = block;
+        for i in 0..3 {
+            (v, w) = turn_and_extend(16 * i, w, v);
+        }
+        sixteen(48, w, v).plus(self)
+    }
+}

@@ -5,46 +5,18 @@ use native.Mathlib.Numerals.{add-one}
 use native.Mathlib.Omega.{arith}
 use mathlib.Core.Bool.{Bool, true, false, not, true≢false}
 use mathlib.Core.List.{List, [], ◌∷◌, ◌++◌, append_assoc}
-use lib.Dec.{leb}
-use lib.ListN.{length, get_or, take, drop, set, length-append, take-append-drop, drop_of_length-le}
+use lib.ListN.{length, get_or, take, drop, length-append, take-append-drop, drop_of_length-le}
 use lib.Seq.{drop-cons, drop-drop, take_at, drop_at, take_all, length-take-le}
-use borrow.Author.Tests.{lt-leb, le-leb, ne_eqb, le-ltb, lt-ltb, ltb-false}
+use borrow.Author.Tests.{le-ltb, ltb-false}
 use Rattle.base.specs.Choice.{pick, both, every}
 use Rattle.base.specs.Bytes.{written}
 use Rattle.base.proofs.ChoiceLaws.{both_first, both-second, both_false}
 use Rattle.base.proofs.WrittenLaws.{written_none}
 use Rattle.decimal.specs.Numbers.{max_numbers, is_digit, readable, fits, numbers_from}
-use Rattle.decimal.specs.Steps.{goes_on, next_value, Step, Wrote, all_fit, ended}
-use Rattle.decimal.proofs.Laying.{one_byte}
+use Rattle.decimal.specs.Steps.{goes_on, next_value, Wrote, all_fit, ended}
 
--- each exit of a step
 never : {A : Type 0} → false ≡ true → A
 never h = absurd (true≢false (sym h))
-
-pub blank_step : (b v : ℕ) → b ≡ 32 → Step b v true false 0
-blank_step b v e = record { right = rw e; kind = λ _. rw e; after = λ _. rw e }
-
-pub feed-step : (b v : ℕ) → b ≡ 10 → Step b v true false 0
-feed-step b v e = record { right = rw e; kind = λ _. rw e; after = λ _. rw e }
-
-pub low_step : (b v : ℕ) → (b ≡ 32 → ⊥) → (b ≡ 10 → ⊥) → b < 48 → Step b v false false 0
-low_step b v p q h = record { right = rw (lt-leb 48 b h, ne_eqb b 32 p, ne_eqb b 10 q); kind = λ k. never k; after = λ k. never k }
-
-pub high-step : (b v : ℕ) → (b ≡ 32 → ⊥) → (b ≡ 10 → ⊥) → 57 < b → Step b v false false 0
-high-step b v p q h =
-    record { right = rw (lt-leb b 57 h, both_false (leb 48 b), ne_eqb b 32 p, ne_eqb b 10 q); kind = λ k. never k; after = λ k. never k }
-
-pub over-step : (b v : ℕ) → 48 ≤ b → b ≤ 57 → 2 ^ 64 ≤ 10 * v + (b - 48) → Step b v false true 0
-over-step b v p q h =
-    record { right = rw (le-leb 48 b p, le-leb b 57 q, le-ltb (10 * v + (b - 48)) (2 ^ 64) h); kind = λ k. never k; after = λ k. never k }
-
-pub digit-step : (b v : ℕ) → 48 ≤ b → b ≤ 57 → 10 * v + (b - 48) < 2 ^ 64 → Step b v true true (10 * v + (b - 48))
-digit-step b v p q h =
-    record {
-      right = rw (le-leb 48 b p, le-leb b 57 q, lt-ltb (10 * v + (b - 48)) (2 ^ 64) h);
-      kind = λ k. rw (le-leb 48 b p, le-leb b 57 q);
-      after = λ k. rw (le-leb 48 b p, le-leb b 57 q);
-    }
 
 -- a value that fits tells nothing of whether a number is open
 open-same : (v : ℕ) (bs : List ℕ) → fits v ≡ true → every fits (numbers_from true v bs) ≡ every fits (numbers_from false v bs)
@@ -208,18 +180,5 @@ ended-short w d v = go (both w (not d))
     go true = omega arith
     go false = omega arith
 
-pub kept-none : (w d : Bool) (v count : ℕ) (list : List ℕ) → both w (not d) ≡ false → Wrote list count (ended w d v) list count
-kept-none w d v count list e = rw e (record { out = sym (written_none list count); next = omega arith })
-
-pub kept-one : (list : List ℕ) (count v : ℕ) (w d : Bool) → count < length list → both w (not d) ≡ true
-    → Wrote list count (ended w d v) (set list count v) (count + 1)
-kept-one list count v w d h e = rw e (one_byte list count v h)
-
-pub none_open : (w d : Bool) → w ≡ false → both w (not d) ≡ false
-none_open w d e = rw e
-
-pub goes_on_lem : (w d : Bool) → d ≡ true → both w (not d) ≡ false
-goes_on_lem w d e = rw e (both_false w)
-
-pub ends-here : (w d : Bool) → w ≡ true → d ≡ false → both w (not d) ≡ true
-ends-here w d e f = rw (e, f)
+pub none_kept : (list : List ℕ) (count : ℕ) → Wrote list count [] list count
+none_kept list count = record { out = sym (written_none list count); next = omega arith }

@@ -11,11 +11,6 @@ goes_on b value = both (readable b) (pick (is_digit b) (fits (10 * value + (b - 
 abbrev pub next_value : ℕ → ℕ → ℕ
 next_value b value = pick (is_digit b) (10 * value + (b - 48)) 0
 
-pub record Step (b value : ℕ) (good digit : Bool) (next : ℕ) : Type 0 where
-  pub right : good ≡ goes_on b value
-  pub kind : good ≡ true → digit ≡ is_digit b
-  pub after : good ≡ true → next ≡ next_value b value
-
 -- each byte can be read, and each number fits
 unfoldable pub all_fit : Bool → ℕ → List ℕ → Bool
 all_fit within value bytes = both (every readable bytes) (every fits (numbers_from within value bytes))

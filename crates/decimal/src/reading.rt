@@ -1,88 +1,69 @@
 // The numbers of an input.
-ghost use Rattle.std.specs.Prelude.{◌≡◌, true, false, ◌<◌, length, take};
+ghost use Rattle.std.specs.Prelude.{◌≡◌, true, false, ◌<◌, length, take, is_some, is_ok, unwrap_or, IfOk};
 ghost use Rattle.base.specs.Bytes.{zeros, written};
-ghost use Rattle.decimal.specs.Numbers.{max_numbers, numbers};
-ghost use Rattle.decimal.specs.Steps.{Step, Wrote, all_fit, ended};
+ghost use Rattle.decimal.specs.Numbers.{max_numbers, numbers, is_digit};
+ghost use Rattle.decimal.specs.Steps.{goes_on, next_value, Wrote, all_fit, ended};
 
-use base::{MAX_LEAVES, wide};
-
-// What a byte does to the number before it: it can be read, it is a digit, the value after it. The last two are decided where
-// it can be read, and nobody reads them elsewhere.
-#[derive(Clone, Copy)]
-struct Stepped {
-    good: bool,
-    digit: bool,
-    value: u64,
-}
+use base::MAX_LEAVES;
 
 // A depth and one leaf more than any plan takes.
 pub const MAX_NUMBERS: usize = MAX_LEAVES + 2;
 
-// The first numbers of an input.
+// The first numbers of an input. An array and a count and no `Vec`: memory is fixed, there is no heap.
 #[derive(Clone, Copy)]
 pub struct Numbers {
     pub list: [u64; MAX_NUMBERS],
     pub count: usize,
 }
 
-fn after_byte(good: bool, digit: bool, value: u64) -> Stepped
-    ensures { result ≡ record { good = good; digit = digit; value = value } }
-{
-    Stepped { good, digit, value }
-}
+// A byte that is no digit and parts no numbers, or a number that is too large.
+#[derive(Clone, Copy)]
+struct Unreadable;
 
-fn step(byte: u64, value: u64) -> Stepped
-    ensures { Step byte value result.good result.digit result.value }
+// The number under way after a byte, from the one before it: none after a byte that parts numbers. An error where the byte
+// cannot be read, or the number is too large.
+fn step(byte: u8, number: Option<u64>) -> Result<Option<u64>, Unreadable>
+    ensures readable { is_ok result ≡ goes_on byte (unwrap_or number 0) }
+    ensures next { IfOk result (λ n. (is_some n ≡ is_digit byte) × (unwrap_or n 0 ≡ next_value byte (unwrap_or number 0))) }
 {
-    if byte == 32 {
-        return after_byte(true, false, 0);
+    match byte {
+        b' ' | b'\n' => Ok(None),
+        b'0'..=b'9' => {
+            let tens = number.unwrap_or(0).checked_mul(10).ok_or(Unreadable)?;
+            let value = tens.checked_add(u64::from(byte - b'0')).ok_or(Unreadable)?;
+            Ok(Some(value))
+        }
+        _ => Err(Unreadable),
     }
-    if byte == 10 {
-        return after_byte(true, false, 0);
-    }
-    if byte < 48 {
-        return after_byte(false, false, 0);
-    }
-    if 57 < byte {
-        return after_byte(false, false, 0);
-    }
-    let digit = byte - 48;
-    if (18446744073709551615 - digit) / 10 < value {
-        return after_byte(false, true, 0);
-    }
-    after_byte(true, true, 10 * value + digit)
 }
 
 // Whether each byte can be read and each number fits.
 pub fn is_readable(input: &[u8]) -> bool
     ensures { result ≡ all_fit false 0 input.now }
 {
-    let mut value: u64 = 0;
-    let mut i: usize = 0;
-    while i < input.len() {
-        let s = step(wide(input[i]), value);
-        if !s.good {
+    let mut number = None;
+    for &byte in input {
+        let Ok(next) = step(byte, number) else {
             return false;
-        }
-        value = s.value;
-        i += 1;
+        };
+        number = next;
     }
     true
 }
 
-// Keeps a number that ends here.
-fn push(list: &mut [u64], count: usize, value: u64, within: bool, digit: bool) -> usize
+// Keeps a number that ends where the next byte goes on with none.
+#[tactic(auto, using(crate::proofs::Laying::one_byte, crate::proofs::ReadLaws::none_kept))]
+fn push(list: &mut [u64], count: usize, number: Option<u64>, next: Option<u64>) -> usize
     requires { count < length list.old }
-    ensures { Wrote list.old count (ended within digit value) list.new result }
+    ensures { Wrote list.old count (ended (is_some number) (is_some next) (unwrap_or number 0)) list.new result }
 {
-    if !within {
-        return count;
+    match (number, next) {
+        (Some(value), None) => {
+            list[count] = value;
+            count + 1
+        }
+        _ => count,
     }
-    if digit {
-        return count;
-    }
-    list[count] = value;
-    count + 1
 }
 
 // The first numbers of an input that can be read, and zeros after them.
@@ -91,21 +72,17 @@ pub fn read_numbers(input: &[u8]) -> Numbers
     ensures { (result.list ≡ written (zeros max_numbers) 0 (take max_numbers (numbers input.now)))
         × (result.count ≡ length (take max_numbers (numbers input.now))) }
 {
-    let mut list = [0u64; MAX_NUMBERS];
-    let mut count: usize = 0;
-    let mut value: u64 = 0;
-    let mut within = false;
-    let mut i: usize = 0;
-    while i < input.len() {
-        let s = step(wide(input[i]), value);
-        count = push(&mut list, count, value, within, s.digit);
+    let mut list = [0; MAX_NUMBERS];
+    let mut count = 0;
+    let mut number = None;
+    for &byte in input {
+        let next = step(byte, number).unwrap();
+        count = push(&mut list, count, number, next);
         if MAX_NUMBERS <= count {
             return Numbers { list, count };
         }
-        within = s.digit;
-        value = s.value;
-        i += 1;
+        number = next;
     }
-    count = push(&mut list, count, value, within, false);
+    count = push(&mut list, count, number, None);
     Numbers { list, count }
 }

@@ -6,27 +6,38 @@ ghost use Rattle.decimal.specs.Steps.{Wrote};
 
 use base::put;
 
-// The digits of a number, from a place on; zeros before it.
+// The digits of a number, from a place on; zeros before it. An array and a place and no `String`: memory is fixed, there is no heap.
 #[derive(Clone, Copy)]
 pub struct Spelled {
     pub text: [u8; 20],
     pub start: usize,
 }
 
+impl Spelled {
+    // The digits alone.
+    pub fn digits(&self) -> &[u8]
+        requires { self.now.start ≤ length self.now.text }
+        ensures { result.now ≡ drop self.now.start self.now.text }
+    {
+        &self.text[self.start..]
+    }
+}
+
 // A number in decimal.
+// Not a `for` over the places from the last: the loop ends with the digits, and the place that it came to is answered.
 pub fn spell(x: u64) -> Spelled
     ensures { ((drop result.start result.text ≡ decimal x) × (take result.start result.text ≡ zeros result.start))
         × ((result.start < 20) × (length result.text ≡ 20)) }
 {
     let mut text = [0u8; 20];
-    let mut i: usize = 19;
+    let mut i = 19;
     let mut rest = x;
     while 10 <= rest {
-        text[i] = (48 + rest % 10) as u8;
+        text[i] = b'0' + (rest % 10) as u8;
         rest /= 10;
         i -= 1;
     }
-    text[i] = (48 + rest) as u8;
+    text[i] = b'0' + rest as u8;
     Spelled { text, start: i }
 }
 
@@ -36,19 +47,19 @@ pub fn put_field(out: &mut [u8], at: usize, name: &[u8], x: u64) -> usize
     ensures { Wrote out.old at (field name.now x) out.new result }
 {
     put(out, at, name);
-    let digits = spell(x);
-    let text = digits.text;
-    let start = digits.start;
+    let spelt = spell(x);
+    let digits = spelt.digits();
     let middle = at + name.len();
-    put(out, middle, &text[start..]);
-    middle + (20 - start)
+    put(out, middle, digits);
+    middle + digits.len()
 }
 
 // A line feed.
+#[tactic(auto, using(crate::proofs::Laying::one_byte))]
 pub fn end_line(out: &mut [u8], at: usize) -> usize
     requires { at < length out.old }
     ensures { Wrote out.old at (10 ∷ []) out.new result }
 {
-    out[at] = 10;
+    out[at] = b'\n';
     at + 1
 }

@@ -1,5 +1,5 @@
 -- Demand 1, sentence by sentence. A call is spoken of by the definitions that its contract cites.
-use Rattle.std.specs.Prelude.{◌≡◌, ◌⊎◌, ℕ, ◌+◌, ◌-◌, ◌*◌, ◌^◌, ◌≤◌, ◌<◌, min, List, ◌++◌, length, get_or, drop}
+use Rattle.std.specs.Prelude.{◌≡◌, ◌⊎◌, ℕ, ◌+◌, ◌-◌, ◌*◌, ◌^◌, ◌≤◌, ◌<◌, min, List, ◌++◌, length, get_or, drop, None}
 use Rattle.base.specs.Bytes.{zeros}
 use Rattle.sha256.specs.declared.Hash.{Hash}
 use Rattle.sha256.specs.Portions.{update_row, update_state, finish_row, finish_digest, finish_state, digest_row, digest_answer}
@@ -38,7 +38,6 @@ use Rattle.chain_theory.specs.Ways.{chain}
 use Rattle.chain_theory.specs.Counts.{leaves_opened}
 use Rattle.decimal.specs.Numbers.{numbers}
 use Rattle.planning.specs.Output.{refused_text, head_text, nodes_text, printed}
-use Rattle.compare.specs.declared.Pair.TheVariants.{Agree}
 use Rattle.compare.specs.Comparison.{compare_row, compared}
 use Rattle.draw.specs.Drawing.{DrawingAnswer, not_drawn, drawn_chain, drawn_clash, drawing_of, drawn_list, first_drawn, second_drawn}
 use Rattle.demands.specs.Rows.{IsFirst, hashing, starting_run, continuing_run, starting_opening, continuing_opening, a_challenge, writing_head}
@@ -211,7 +210,7 @@ pub record PlanningProgram (input : List ℕ) : Type 0 where
 -- comparing lends nothing to write to
 pub record Comparing (edition : ℕ) (statement : List ℕ) (n : ℕ) (leaves openings : List ℕ) : Type 0 where
   pub answer : IsFirst (comparing edition n leaves (length openings)) (compare_row edition n leaves (length openings))
-  pub refused : 1 ≤ compare_row edition n leaves (length openings) → compared edition statement n leaves openings ≡ Agree
+  pub refused : 1 ≤ compare_row edition n leaves (length openings) → compared edition statement n leaves openings ≡ None
 
 pub record WritingNumber (out : List ℕ) (at x : ℕ) : Type 0 where
   pub answer : IsFirst (writing_number out at x) (put_row out at x)

@@ -15,9 +15,9 @@ pub use named_files::{
     create, exists, make_folder, open_append, open_overwrite, open_read, open_update, remove,
     rename,
 };
-pub use process::{Process, are_same, process_at};
+pub use process::{Process, process_at};
 pub use same_file::names;
-pub use small_file::{behind, number_at, read_small};
+pub use small_file::{number_in, read_small};
 pub use standard_streams::occupy;
-pub use stream::{Stream, error_number, is_terminal, write_all};
-pub use whole_input::{follows, read_once, read_whole};
+pub use stream::{Stream, is_terminal, read, write_all};
+pub use whole_input::{Input, follows, read_whole};

@@ -7,8 +7,7 @@ use std::rt::Files;
 // Opens /dev/null for reading in place of each that is closed, since the next file that is opened would get its number, and
 // what is said there would be written into that file. A write to /dev/null as opened here fails. Answers whether none is closed any more.
 pub fn occupy<R: Files<File = File>>(rt: &R) -> bool {
-    let mut turns: u64 = 4;
-    while 0 < turns {
+    for _ in 0..4 {
         let Ok(null) = open_read(rt, b"/dev/null") else {
             return false;
         };
@@ -16,7 +15,6 @@ pub fn occupy<R: Files<File = File>>(rt: &R) -> bool {
             return true;
         }
         null.into_raw_fd();
-        turns -= 1;
     }
     false
 }

@@ -27,8 +27,7 @@ pub fn read(from: Stream<'_>, place: &mut [u8]) -> io::Result<usize>
 {
     match from {
         Stream::Input(mut input) => input.read(place),
-        Stream::Output(_) => Err(not_open_for_it()),
-        Stream::Error(_) => Err(not_open_for_it()),
+        Stream::Output(_) | Stream::Error(_) => Err(not_open_for_it()),
         Stream::File(mut file) => file.read(place),
     }
 }
@@ -51,9 +50,4 @@ pub fn is_terminal(stream: Stream<'_>) -> bool {
         Stream::Error(err) => err.is_terminal(),
         Stream::File(file) => file.is_terminal(),
     }
-}
-
-// The system's number of an error; 0 where it is none of the system's.
-pub fn error_number(error: io::Error) -> i32 {
-    error.raw_os_error().unwrap_or(0)
 }

@@ -2,74 +2,49 @@
 ghost use Rattle.std.specs.Prelude.{◌<◌, ◌≡◌, length};
 ghost use Rattle.descriptors.specs.Counts.{IsPrefixLen};
 
-use crate::stream::{Stream, error_number, read};
+use crate::stream::{Stream, read};
 use std::io;
 
-// How many bytes a read gave, and whether it failed; if so, the number of the error.
-#[derive(Clone, Copy)]
-pub struct Given {
-    pub size: usize,
-    pub failed: bool,
-    pub error: i32,
-}
-
-// How many bytes came, how many of them by the last read, and whether that one failed; if so, the number of the error.
+// How many bytes came, how many of them by the last read, and why that one failed if it did.
 #[derive(Clone, Copy)]
 pub struct Input {
     pub size: usize,
     pub last: usize,
-    pub failed: bool,
-    pub error: i32,
-}
-
-// One read.
-pub fn read_once(from: Stream<'_>, place: &mut [u8]) -> Given
-    ensures { IsPrefixLen result.size place.new }
-{
-    match read(from, place) {
-        Ok(size) => Given {
-            size,
-            failed: false,
-            error: 0,
-        },
-        Err(error) => Given {
-            size: 0,
-            failed: true,
-            error: error_number(error),
-        },
-    }
+    pub failure: Option<io::Error>,
 }
 
 // Reads until the place is full or a read gives nothing.
 pub fn read_whole(from: Stream<'_>, place: &mut [u8]) -> Input
-    ensures { IsPrefixLen result.size place.new × (result.size < length place.new → result.last ≡ 0) }
+    ensures prefix { IsPrefixLen result.size place.new }
+    ensures ended { result.size < length place.new → result.last ≡ 0 }
 {
     let mut size: usize = 0;
     let mut last: usize = 0;
     while size < place.len() {
-        let given = read_once(from, &mut place[size..]);
-        last = given.size;
+        last = match read(from, &mut place[size..]) {
+            Ok(given) => given,
+            Err(why) => {
+                return Input {
+                    size,
+                    last: 0,
+                    failure: Some(why),
+                };
+            }
+        };
         if last == 0 {
-            return Input {
-                size,
-                last,
-                failed: given.failed,
-                error: given.error,
-            };
+            break;
         }
         size += last;
     }
     Input {
         size,
         last,
-        failed: false,
-        error: 0,
+        failure: None,
     }
 }
 
 // Whether more bytes follow.
 pub fn follows(from: Stream<'_>) -> io::Result<bool> {
     let mut one = [0u8; 1];
-    let size = read(from, &mut one)?;
-    Ok(size != 0)
+    Ok(read(from, &mut one)? != 0)
 }

@@ -6,28 +6,15 @@ use native.Mathlib.Omega.{arith}
 use mathlib.Core.Bool.{true}
 use mathlib.Core.List.{List, [], ◌∷◌, ◌++◌, append-nil}
 use borrow.Author.Tests.{lt-ltb}
-use lib.ListN.{length, take, drop, set}
-use lib.Seq.{take-suc-set, append_snoc, drop-set-lt, drop-drop}
+use lib.ListN.{length, take, set}
+use lib.Seq.{take-suc-set, append_snoc}
 use Rattle.base.specs.Choice.{every}
-use Rattle.base.specs.Limits.{max_depth, max_challenges, IsEdition, IsDepth}
-use Rattle.base.specs.Bytes.{zeros}
-use Rattle.base.proofs.Zeros.{drop-zeros}
+use Rattle.base.specs.Limits.{max_depth}
 use Rattle.chain_theory.specs.Planning.{is_leaf}
 use Rattle.chain_theory.proofs.Lists.{every-both}
-use Rattle.file_head.specs.declared.HeadNumbers.{HeadNumbers}
-use Rattle.file_head.specs.Challenge.{challenge_leaf, challenged}
-use Rattle.file_head.specs.Head.{HeadAnswer, head_answer, head_of, head_edition}
-use Rattle.file_head.proofs.RowLaws.{challenge-done}
+use Rattle.file_head.specs.Challenge.{challenge_leaf}
 use Rattle.file_head.proofs.Leaves.{challenge_leaf-small}
-use Rattle.draw.specs.Drawing.{leaves_from, numbers_end, proof_edition}
-
-pub end_known : (head told : HeadNumbers) (read : HeadAnswer) → head_answer head ≡ read → head ≡ told → numbers_end (head_answer told) ≡ numbers_end read
-end_known head told read e f = ap numbers_end (rw f at e)
-
-pub edition-known : (head told : HeadNumbers) (bytes : List ℕ) → head_answer head ≡ head_of bytes → head ≡ told
-    → head_edition (head_answer told) ≡ proof_edition bytes
-unfolding proof_edition
-edition-known head told bytes e f = ap head_edition (rw f at e)
+use Rattle.draw.specs.Drawing.{leaves_from}
 
 module _ (edition n : ℕ) (statement root : List ℕ) where
   pub length-leaves : (i left : ℕ) → length (leaves_from edition n statement root i left) ≡ left
@@ -43,42 +30,26 @@ module _ (edition n : ℕ) (statement root : List ℕ) where
       (lt-ltb (challenge_leaf edition n statement root i) (2 ^ n) (challenge_leaf-small edition n statement root i (omega arith)))
       (leaves-inside small (i + 1) left)
 
-  -- the loop that writes them
+  -- leaves written one after another, of which the rest are still to come
   module _ (count : ℕ) where
     pub leaves_none : leaves_from edition n statement root 1 (count - 0) ≡ leaves_from edition n statement root 1 count
     leaves_none = let all : count - 0 ≡ count = omega arith in rw all
 
     pub leaves-more :
-        (leaves : List ℕ) (i leaf : ℕ) → IsEdition edition → IsDepth n → count ≤ max_challenges → length leaves ≡ max_challenges → i < count
-        → leaf ≡ challenged edition n statement root (i + 1)
+        (leaves : List ℕ) (i leaf : ℕ) → i < count → i < length leaves → leaf ≡ challenge_leaf edition n statement root (i + 1)
         → take i leaves ++ leaves_from edition n statement root (i + 1) (count - i) ≡ leaves_from edition n statement root 1 count
         → take (i + 1) (set leaves i leaf) ++ leaves_from edition n statement root (i + 1 + 1) (count - (i + 1))
         ≡ leaves_from edition n statement root 1 count
-    unfolding leaves_from challenged
-    leaves-more leaves i leaf exists depth few wide h e before =
+    unfolding leaves_from
+    leaves-more leaves i leaf h k here before =
         let more : count - i ≡ suc (count - (i + 1)) = omega arith in
-        let here : leaf ≡ challenge_leaf edition n statement root (i + 1) =
-        rw (challenge-done edition n (i + 1) exists depth (omega arith, omega arith)) at e in
-        let first : take (i + 1) (set leaves i leaf) ≡ take i leaves ++ (leaf ∷ []) = rw (add-one i) (take-suc-set leaves i leaf (omega arith)) in
+        let first : take (i + 1) (set leaves i leaf) ≡ take i leaves ++ (leaf ∷ []) = rw (add-one i) (take-suc-set leaves i leaf k) in
         rw (first, append_snoc, here) (rw more at before)
 
-    pub leaves_all : (leaves : List ℕ) (i : ℕ) → i ≤ count → count ≤ i
+    pub leaves_all : (leaves : List ℕ) (i : ℕ) → i ≡ count
         → take i leaves ++ leaves_from edition n statement root (i + 1) (count - i) ≡ leaves_from edition n statement root 1 count
         → take count leaves ≡ leaves_from edition n statement root 1 count
     unfolding leaves_from
-    leaves_all leaves i h k e =
+    leaves_all leaves i all e =
         let none : count - i ≡ 0 = omega arith in
-        let all : i ≡ count = omega arith in
         sym (append-nil (take count leaves)) ∙ (rw (none, all) at e)
-
--- the places behind them stay zero
-pub zeros-more :
-    (leaves : List ℕ) (i leaf : ℕ) → i < max_challenges → drop i leaves ≡ zeros (max_challenges - i)
-    → drop (i + 1) (set leaves i leaf) ≡ zeros (max_challenges - (i + 1))
-zeros-more leaves i leaf h before =
-    let e : max_challenges - i - 1 ≡ max_challenges - (i + 1) = omega arith in
-    drop-set-lt (i + 1) leaves i leaf (omega arith)
-    ∙ sym (drop-drop 1 i leaves)
-    ∙ ap (λ (l : List ℕ). drop 1 l) before
-    ∙ drop-zeros (max_challenges - i) 1 (omega arith)
-    ∙ ap zeros e

@@ -4,23 +4,13 @@
 mod leaves; // leaves.rt: the leaves opened
 mod whole; // whole.rt: the chain or the clash
 
-use base::Refusal;
-pub use leaves::{challenge_leaves, edition_of, numbers_end};
+use compare::Clash;
+pub use leaves::opened_leaves;
 pub use whole::draw;
 
-// Refused, with the opening's number; a chain, with its count of nodes; or a clash: the first pair i < j, from 1, that disagrees,
-// and the smallest level.
-#[derive(Clone, Copy)]
+// A chain, with its count of nodes, or the first pair of openings that disagrees, with both inputs.
+#[derive(Clone, Copy, Debug, PartialEq, Eq)]
 pub enum Drawing {
-    NotDrawn(Refusal, u8),
     Chain(u64),
-    Clash(u64, u64, u64),
-}
-
-// The inputs are all zero but for a clash.
-#[derive(Clone, Copy)]
-pub struct Drawn {
-    pub drawing: Drawing,
-    pub first: [u8; 105],
-    pub second: [u8; 105],
+    Clash(Clash),
 }

@@ -18,7 +18,8 @@ use Rattle.check_theory.specs.IsProof.{IsProof}
 use Rattle.base.specs.Row.{outside}
 use Rattle.base.proofs.Ranges.{in-range, within}
 use Rattle.compare.specs.declared.Pair.{Pair}
-use Rattle.compare.specs.declared.Pair.TheVariants.{Agree, Disagree}
+use Rattle.std.specs.Prelude.{Option, Some, None}
+use Rattle.compare.specs.FirstPair.{disagree_at_level}
 use Rattle.draw.specs.Drawing.{proof_edition, not_drawn, drawn_chain, drawn_clash, leaves_of, pair_of, drawn_from, drawn_if, drawing_of, drawn_list}
 use Rattle.draw_theory.specs.Demand3.{NoneDisagree, SomeDisagree, drawn_nodes, AsPlanned}
 use Rattle.draw_theory.proofs.Openings.{leaves-length, agree-none, disagree-first, first_some, some-none, all-inside}
@@ -41,46 +42,50 @@ module _ (list count : ℕ) where
   no-clash true i j l d = let no : ◌≡◌ {A = ℕ} 0 1 = cc in omega arith
   no-clash false i j l d = let no : ◌≡◌ {A = ℕ} 0 1 = cc in omega arith
 
-  from-chain : (c : ℕ) (q : Pair) (x : ℕ) → drawn_if c (drawn_from q count list) ≡ drawn_chain x → (c ≡ 0) × (q ≡ Agree) × (count ≤ list) × (x ≡ count)
+  from-chain : (c : ℕ) (q : Option Pair) (x : ℕ) → drawn_if c (drawn_from q count list) ≡ drawn_chain x → (c ≡ 0) × (q ≡ None) × (count ≤ list) × (x ≡ count)
   from-chain (suc c) q x d = absurd (let no : ◌≡◌ {A = ℕ} 0 1 = cc in omega arith)
-  from-chain zero (Disagree i j l) x d = absurd (let no : ◌≡◌ {A = ℕ} 0 1 = cc in omega arith)
-  from-chain zero Agree x d = let found = chain-from (ltb list count) refl x d in (refl, refl, found.0, found.1)
+  from-chain zero (Some pair) x d = absurd (let no : ◌≡◌ {A = ℕ} 0 1 = cc in omega arith)
+  from-chain zero None x d = let found = chain-from (ltb list count) refl x d in (refl, refl, found.0, found.1)
 
-  from-clash : (c : ℕ) (q : Pair) (i j l : ℕ) → drawn_if c (drawn_from q count list) ≡ drawn_clash i j l → (c ≡ 0) × (q ≡ Disagree i j l)
+  from-clash : (c : ℕ) (q : Option Pair) (i j l : ℕ) → drawn_if c (drawn_from q count list) ≡ drawn_clash i j l → (c ≡ 0) × (q ≡ disagree_at_level i j l)
   from-clash (suc c) q i j l d = absurd (let no : ◌≡◌ {A = ℕ} 0 1 = cc in omega arith)
-  from-clash zero (Disagree a b k) i j l d = (refl, cc)
-  from-clash zero Agree i j l d = absurd (no-clash (ltb list count) i j l d)
+  from-clash zero (Some pair) i j l d =
+      let first : pair.first ≡ i = cc in
+      let second : pair.second ≡ j = cc in
+      let level : pair.level ≡ l = cc in
+      (refl, λ k. disagree_at_level (first k) (second k) (level k))
+  from-clash zero None i j l d = absurd (no-clash (ltb list count) i j l d)
 
   from-refusal :
-      (c : ℕ) (q : Pair) (code : ℕ) → drawn_if c (drawn_from q count list) ≡ not_drawn code →
-      ((c ≡ code) × (1 ≤ code)) ⊎ ((c ≡ 0) × (q ≡ Agree) × (list < count) × (code ≡ found_in 0 16))
+      (c : ℕ) (q : Option Pair) (code : ℕ) → drawn_if c (drawn_from q count list) ≡ not_drawn code →
+      ((c ≡ code) × (1 ≤ code)) ⊎ ((c ≡ 0) × (q ≡ None) × (list < count) × (code ≡ found_in 0 16))
   from-refusal (suc c) q code d = let same : suc c ≡ code = cc in inl (same, omega arith)
-  from-refusal zero (Disagree i j l) code d = absurd (let no : ◌≡◌ {A = ℕ} 0 1 = cc in omega arith)
-  from-refusal zero Agree code d = let found = short-from (ltb list count) refl code d in inr (refl, refl, found.0, found.1)
+  from-refusal zero (Some pair) code d = absurd (let no : ◌≡◌ {A = ℕ} 0 1 = cc in omega arith)
+  from-refusal zero None code d = let found = short-from (ltb list count) refl code d in inr (refl, refl, found.0, found.1)
 
 module _ (bytes statement : List ℕ) (n t : ℕ) where
   -- ---- the pair
-  pub none-agree : NoneDisagree bytes statement n t → pair_of bytes statement n t ≡ Agree
+  pub none-agree : NoneDisagree bytes statement n t → pair_of bytes statement n t ≡ None
   none-agree none = go (pair_of bytes statement n t) refl
     where
-      go : (q : Pair) → pair_of bytes statement n t ≡ q → pair_of bytes statement n t ≡ Agree
-      go Agree e = e
-      go (Disagree i j l) e =
-          absurd (some-none bytes statement n t (first_some bytes statement n t i j l (disagree-first bytes statement n t i j l e)) none)
+      go : (q : Option Pair) → pair_of bytes statement n t ≡ q → pair_of bytes statement n t ≡ None
+      go None e = e
+      go (Some pair) e =
+          absurd (some-none bytes statement n t (first_some bytes statement n t pair.first pair.second pair.level (disagree-first bytes statement n t pair.first pair.second pair.level e)) none)
 
-  pub some_pair : SomeDisagree bytes statement n t → (i : ℕ) × (j : ℕ) × (l : ℕ) × (pair_of bytes statement n t ≡ Disagree i j l)
+  pub some_pair : SomeDisagree bytes statement n t → (i : ℕ) × (j : ℕ) × (l : ℕ) × (pair_of bytes statement n t ≡ disagree_at_level i j l)
   some_pair s = go (pair_of bytes statement n t) refl
     where
-      go : (q : Pair) → pair_of bytes statement n t ≡ q → (i : ℕ) × (j : ℕ) × (l : ℕ) × (pair_of bytes statement n t ≡ Disagree i j l)
-      go Agree e = absurd (some-none bytes statement n t s (agree-none bytes statement n t e))
-      go (Disagree i j l) e = (i, j, l, e)
+      go : (q : Option Pair) → pair_of bytes statement n t ≡ q → (i : ℕ) × (j : ℕ) × (l : ℕ) × (pair_of bytes statement n t ≡ disagree_at_level i j l)
+      go None e = absurd (some-none bytes statement n t s (agree-none bytes statement n t e))
+      go (Some pair) e = (pair.first, pair.second, pair.level, e)
 
   -- ---- the answers
   module _ (list : ℕ) where
     pub chain-given :
         (count : ℕ) → drawing_of bytes statement n t list ≡ drawn_chain count →
         (file_check bytes statement n t ≡ 0)
-        × (pair_of bytes statement n t ≡ Agree)
+        × (pair_of bytes statement n t ≡ None)
         × (length (drawn_nodes bytes statement n t) ≤ list)
         × (count ≡ length (drawn_nodes bytes statement n t))
     unfolding drawing_of
@@ -89,21 +94,21 @@ module _ (bytes statement : List ℕ) (n t : ℕ) where
         count d
 
     pub given-chain :
-        file_check bytes statement n t ≡ 0 → pair_of bytes statement n t ≡ Agree → length (drawn_nodes bytes statement n t) ≤ list →
+        file_check bytes statement n t ≡ 0 → pair_of bytes statement n t ≡ None → length (drawn_nodes bytes statement n t) ≤ list →
         drawing_of bytes statement n t list ≡ drawn_chain (length (drawn_nodes bytes statement n t))
     unfolding drawing_of
     given-chain a b fits = rw (a, b, le-ltb list (length (drawn_nodes bytes statement n t)) fits)
 
     pub clash-given :
         (i j l : ℕ) → drawing_of bytes statement n t list ≡ drawn_clash i j l →
-        (file_check bytes statement n t ≡ 0) × (pair_of bytes statement n t ≡ Disagree i j l)
+        (file_check bytes statement n t ≡ 0) × (pair_of bytes statement n t ≡ disagree_at_level i j l)
     unfolding drawing_of
     clash-given i j l d =
         from-clash list (length (drawn_nodes bytes statement n t)) (file_check bytes statement n t) (pair_of bytes statement n t) i j
         l d
 
     pub given-clash :
-        (i j l : ℕ) → file_check bytes statement n t ≡ 0 → pair_of bytes statement n t ≡ Disagree i j l →
+        (i j l : ℕ) → file_check bytes statement n t ≡ 0 → pair_of bytes statement n t ≡ disagree_at_level i j l →
         drawing_of bytes statement n t list ≡ drawn_clash i j l
     unfolding drawing_of
     given-clash i j l a b = rw (a, b)
@@ -112,7 +117,7 @@ module _ (bytes statement : List ℕ) (n t : ℕ) where
         (code : ℕ) → drawing_of bytes statement n t list ≡ not_drawn code →
         ((file_check bytes statement n t ≡ code) × (1 ≤ code))
         ⊎ ((file_check bytes statement n t ≡ 0)
-        × (pair_of bytes statement n t ≡ Agree)
+        × (pair_of bytes statement n t ≡ None)
         × (list < length (drawn_nodes bytes statement n t))
         × (code ≡ found_in 0 16))
     unfolding drawing_of
@@ -125,7 +130,7 @@ module _ (bytes statement : List ℕ) (n t : ℕ) where
     given-refusal code a some = rw (a, some-refused code some)
 
     pub given-short :
-        file_check bytes statement n t ≡ 0 → pair_of bytes statement n t ≡ Agree → list < length (drawn_nodes bytes statement n t) →
+        file_check bytes statement n t ≡ 0 → pair_of bytes statement n t ≡ None → list < length (drawn_nodes bytes statement n t) →
         drawing_of bytes statement n t list ≡ not_drawn (found_in 0 16)
     unfolding drawing_of
     given-short a b short = rw (a, b, lt-ltb list (length (drawn_nodes bytes statement n t)) short)
@@ -142,7 +147,7 @@ module _ (bytes statement : List ℕ) (n t : ℕ) where
     unfolding plan_row
     row_of list = simp (within 1 max_depth n p.depth, few-leaves, all-inside bytes statement n t p)
 
-    module _ (a : file_check bytes statement n t ≡ 0) (b : pair_of bytes statement n t ≡ Agree) (list : List ℕ) where
+    module _ (a : file_check bytes statement n t ≡ 0) (b : pair_of bytes statement n t ≡ None) (list : List ℕ) where
       planned-short : length list < length (drawn_nodes bytes statement n t) → AsPlanned bytes statement n t list
       unfolding drawn_list planned_list planned_count
       planned-short short =

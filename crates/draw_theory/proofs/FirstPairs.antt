@@ -1,5 +1,5 @@
 -- The search for the first pair: it finds none just when no pair disagrees at any of n levels, else the first and smallest.
-use mathlib.Core.Path.{◌≡◌, refl}
+use mathlib.Core.Path.{◌≡◌, refl, ap}
 use mathlib.Core.Logic.{⊎_elim}
 use Prim.Native.Nat.{ℕ, zero, suc, ◌+◌, ◌≤◌, ◌<◌}
 use native.Mathlib.Omega.{arith}
@@ -7,8 +7,8 @@ use mathlib.Core.Bool.{Bool, true, false}
 use Rattle.base.specs.Choice.{pick}
 use Rattle.base.proofs.ChoiceLaws.{lt-or-le}
 use Rattle.compare.specs.declared.Pair.{Pair}
-use Rattle.compare.specs.declared.Pair.TheVariants.{Agree, Disagree}
-use Rattle.compare.specs.FirstPair.{levels_from, or_else, seconds_from, firsts_from, first_pair}
+use Rattle.std.specs.Prelude.{Option, None}
+use Rattle.compare.specs.FirstPair.{disagree_at_level, levels_from, or_else, seconds_from, firsts_from, first_pair}
 
 module _ (disagree : ℕ → ℕ → ℕ → Bool) where
   -- ---- levels
@@ -16,24 +16,24 @@ module _ (disagree : ℕ → ℕ → ℕ → Bool) where
   abbrev NoneBetween : ℕ → ℕ → ℕ → ℕ → Type 0
   NoneBetween i j from to = (k : ℕ) → from ≤ k → k < to → disagree i j k ≡ false
 
-  data Levels (i j l left : ℕ) : Pair → Type 0 where
-    no_level : NoneBetween i j l (l + left) → Levels i j l left Agree
-    at_level : (k : ℕ) → k < l + left → disagree i j k ≡ true → NoneBetween i j l k → Levels i j l left (Disagree i j k)
+  data Levels (i j l left : ℕ) : Option Pair → Type 0 where
+    no_level : NoneBetween i j l (l + left) → Levels i j l left None
+    at_level : (k : ℕ) → k < l + left → disagree i j k ≡ true → NoneBetween i j l k → Levels i j l left (disagree_at_level i j k)
 
   between_more : (i j l to : ℕ) → disagree i j l ≡ false → NoneBetween i j (l + 1) to → NoneBetween i j l to
   between_more i j l to e rest k low high =
       ⊎_elim (λ after. rest k (omega arith) high) (λ here. let same : k ≡ l = omega arith in rw same e) (lt-or-le l k)
 
-  levels-later : (i j l left : ℕ) {p : Pair} → disagree i j l ≡ false → Levels i j (l + 1) left p → Levels i j l (suc left) p
+  levels-later : (i j l left : ℕ) {p : Option Pair} → disagree i j l ≡ false → Levels i j (l + 1) left p → Levels i j l (suc left) p
   levels-later i j l left e (no_level rest) = no_level (λ k low high. between_more i j l (l + 1 + left) e rest k low (omega arith))
   levels-later i j l left e (at_level k high d before) = at_level k (omega arith) d (between_more i j l k e before)
 
-  levels-here : (i j l left : ℕ) → disagree i j l ≡ true → Levels i j l (suc left) (Disagree i j l)
+  levels-here : (i j l left : ℕ) → disagree i j l ≡ true → Levels i j l (suc left) (disagree_at_level i j l)
   levels-here i j l left d = at_level l (omega arith) d (λ k low high. absurd (omega arith))
 
   levels-step :
-      (i j l left : ℕ) (b : Bool) → disagree i j l ≡ b → (p : Pair) → Levels i j (l + 1) left p
-      → Levels i j l (suc left) (pick b (Disagree i j l) p)
+      (i j l left : ℕ) (b : Bool) → disagree i j l ≡ b → (p : Option Pair) → Levels i j (l + 1) left p
+      → Levels i j l (suc left) (pick b (disagree_at_level i j l) p)
   levels-step i j l left true d p rest = levels-here i j l left d
   levels-step i j l left false d p rest = levels-later i j l left d rest
 
@@ -48,23 +48,23 @@ module _ (disagree : ℕ → ℕ → ℕ → Bool) where
     abbrev Agreeing : ℕ → ℕ → Type 0
     Agreeing i j = (k : ℕ) → k < n → disagree i j k ≡ false
 
-    data Seconds (i j left : ℕ) : Pair → Type 0 where
-      no_second : ((b : ℕ) → j ≤ b → b < j + left → Agreeing i b) → Seconds i j left Agree
+    data Seconds (i j left : ℕ) : Option Pair → Type 0 where
+      no_second : ((b : ℕ) → j ≤ b → b < j + left → Agreeing i b) → Seconds i j left None
       at_second :
           (b k : ℕ) → j ≤ b → b < j + left → k < n → disagree i b k ≡ true → NoneBetween i b 0 k → ((c : ℕ) → j ≤ c → c < b → Agreeing i c) →
-          Seconds i j left (Disagree i b k)
+          Seconds i j left (disagree_at_level i b k)
 
     seconds-more : (i j to : ℕ) → Agreeing i j → ((b : ℕ) → j + 1 ≤ b → b < to → Agreeing i b) → (b : ℕ) → j ≤ b → b < to → Agreeing i b
     seconds-more i j to e rest b low high =
         ⊎_elim (λ after. rest b (omega arith) high) (λ here. let same : b ≡ j = omega arith in rw same e) (lt-or-le j b)
 
-    seconds-later : (i j left : ℕ) {p : Pair} → Agreeing i j → Seconds i (j + 1) left p → Seconds i j (suc left) p
+    seconds-later : (i j left : ℕ) {p : Option Pair} → Agreeing i j → Seconds i (j + 1) left p → Seconds i j (suc left) p
     seconds-later i j left e (no_second rest) = no_second (λ b low high. seconds-more i j (j + 1 + left) e rest b low (omega arith))
     seconds-later i j left e (at_second b k low high small d before rest) =
         at_second b k (omega arith) (omega arith) small d before (seconds-more i j b e rest)
 
     seconds-step :
-        (i j left : ℕ) {p : Pair} (q : Pair) → Levels i j 0 n p → Seconds i (j + 1) left q → Seconds i j (suc left) (or_else p q)
+        (i j left : ℕ) {p : Option Pair} (q : Option Pair) → Levels i j 0 n p → Seconds i (j + 1) left q → Seconds i j (suc left) (or_else p q)
     seconds-step i j left q (no_level agree) rest = seconds-later i j left (λ k small. agree k (omega arith) (omega arith)) rest
     seconds-step i j left q (at_level k high d before) rest =
         at_second j k (omega arith) (omega arith) (omega arith) d before (λ c low high. absurd (omega arith))
@@ -75,13 +75,13 @@ module _ (disagree : ℕ → ℕ → ℕ → Bool) where
     seconds i j (suc left) = seconds-step i j left (seconds_from disagree n i (j + 1) left) (levels i j 0 n) (seconds i (j + 1) left)
 
     -- ---- the first of a pair
-    data Firsts (i left : ℕ) : Pair → Type 0 where
-      no_first : ((a b : ℕ) → i ≤ a → a < b → b < i + left → Agreeing a b) → Firsts i left Agree
+    data Firsts (i left : ℕ) : Option Pair → Type 0 where
+      no_first : ((a b : ℕ) → i ≤ a → a < b → b < i + left → Agreeing a b) → Firsts i left None
       at_first :
           (a b k : ℕ) → i ≤ a → a < b → b < i + left → k < n → disagree a b k ≡ true → NoneBetween a b 0 k →
           ((c : ℕ) → a < c → c < b → Agreeing a c) →
           ((x c : ℕ) → i ≤ x → x < a → x < c → c < i + left → Agreeing x c) →
-          Firsts i left (Disagree a b k)
+          Firsts i left (disagree_at_level a b k)
 
     firsts_more :
         (i to end : ℕ) → ((b : ℕ) → i + 1 ≤ b → b < end → Agreeing i b) →
@@ -92,7 +92,7 @@ module _ (disagree : ℕ → ℕ → ℕ → Bool) where
         omega arith in rw same (here b (omega arith) high)) (lt-or-le i a)
 
     firsts-later :
-        (i left : ℕ) {p : Pair} → ((b : ℕ) → i + 1 ≤ b → b < i + 1 + left → Agreeing i b) → Firsts (i + 1) left p → Firsts i (suc left) p
+        (i left : ℕ) {p : Option Pair} → ((b : ℕ) → i + 1 ≤ b → b < i + 1 + left → Agreeing i b) → Firsts (i + 1) left p → Firsts i (suc left) p
     firsts-later i left here (no_first rest) =
         no_first
         (λ a b low order high.
@@ -101,7 +101,7 @@ module _ (disagree : ℕ → ℕ → ℕ → Bool) where
         at_first a b k (omega arith) order (omega arith) small d before later
         (λ x c low' under order' high'. firsts_more i a (i + 1 + left) here rest x c low' under order' (omega arith))
 
-    firsts-step : (i left : ℕ) {p : Pair} (q : Pair) → Seconds i (i + 1) left p → Firsts (i + 1) left q → Firsts i (suc left) (or_else p q)
+    firsts-step : (i left : ℕ) {p : Option Pair} (q : Option Pair) → Seconds i (i + 1) left p → Firsts (i + 1) left q → Firsts i (suc left) (or_else p q)
     firsts-step i left q (no_second here) rest = firsts-later i left here rest
     firsts-step i left q (at_second b k low high small d before earlier) rest =
         at_first i b k (omega arith) (omega arith) (omega arith) small d before
@@ -124,15 +124,16 @@ module _ (disagree : ℕ → ℕ → ℕ → Bool) where
       pub then_by_j : (b k : ℕ) → i < b → b < j → k < n → disagree i b k ≡ false
       pub first_by_i : (a b k : ℕ) → 1 ≤ a → a < i → a < b → b ≤ t → k < n → disagree a b k ≡ false
 
-    none_found : (t : ℕ) {p : Pair} → Firsts 1 t p → p ≡ Agree → (i j l : ℕ) → 1 ≤ i → i < j → j ≤ t → l < n → disagree i j l ≡ false
+    none_found : (t : ℕ) {p : Option Pair} → Firsts 1 t p → p ≡ None → (i j l : ℕ) → 1 ≤ i → i < j → j ≤ t → l < n → disagree i j l ≡ false
     none_found t (no_first f) e i j l low order high small = f i j low order (omega arith) l small
     none_found t (at_first a b k low order high small d before later rest) e i j l low' order' high' small' =
         absurd (let no : ◌≡◌ {A = ℕ} 0 1 = cc in omega arith)
 
-    found_first : (t i j l : ℕ) {p : Pair} → Firsts 1 t p → p ≡ Disagree i j l → First t i j l
+    found_first : (t i j l : ℕ) {p : Option Pair} → Firsts 1 t p → p ≡ disagree_at_level i j l → First t i j l
     found_first t i j l (no_first f) e = absurd (let no : ◌≡◌ {A = ℕ} 0 1 = cc in omega arith)
     found_first t i j l (at_first a b k low order high small d before later rest) e =
-        same_first a b k (cc) (cc) (cc)
+        let pairs : ◌≡◌ {A = Pair} (record { first = a; second = b; level = k }) (record { first = i; second = j; level = l }) = cc in
+        same_first a b k (ap (λ (p : Pair). p.first) pairs) (ap (λ (p : Pair). p.second) pairs) (ap (λ (p : Pair). p.level) pairs)
         (record {
           positive = low;
           ordered = order;
@@ -147,10 +148,10 @@ module _ (disagree : ℕ → ℕ → ℕ → Bool) where
         same_first : (a b k : ℕ) → a ≡ i → b ≡ j → k ≡ l → First t a b k → First t i j l
         same_first a b k p q r first = rw (p, q, r) at first
 
-    pub pair-agrees : (t : ℕ) → first_pair disagree n t ≡ Agree → (i j l : ℕ) → 1 ≤ i → i < j → j ≤ t → l < n → disagree i j l ≡ false
+    pub pair-agrees : (t : ℕ) → first_pair disagree n t ≡ None → (i j l : ℕ) → 1 ≤ i → i < j → j ≤ t → l < n → disagree i j l ≡ false
     unfolding first_pair
     pair-agrees t e = none_found t (firsts 1 t) e
 
-    pub pair-first : (t i j l : ℕ) → first_pair disagree n t ≡ Disagree i j l → First t i j l
+    pub pair-first : (t i j l : ℕ) → first_pair disagree n t ≡ disagree_at_level i j l → First t i j l
     unfolding first_pair
     pair-first t i j l e = found_first t i j l (firsts 1 t) e

@@ -27,7 +27,8 @@ use Rattle.file_head.specs.Head.{head_of}
 use Rattle.check_theory.specs.IsProof.{IsProof}
 use Rattle.file_head.proofs.Leaves.{challenge_leaf-small}
 use Rattle.check_theory.proofs.Completeness.{file-head, file-root, file-sized, file-right}
-use Rattle.compare.specs.declared.Pair.TheVariants.{Agree, Disagree}
+use Rattle.std.specs.Prelude.{None}
+use Rattle.compare.specs.FirstPair.{disagree_at_level}
 use Rattle.compare.specs.Table.{leaf_of}
 use Rattle.compare.specs.Comparison.{given_of, disagreement, first_disagreement}
 use Rattle.draw.specs.Drawing.{proof_edition, leaves_from, numbers_end, leaves_of, openings_of, pair_of}
@@ -126,7 +127,7 @@ module _ (bytes statement : List ℕ) (n t : ℕ) where
   all-levels : (i j l : ℕ) → (l < n → disagreeing bytes statement n i j l ≡ false) → disagreeing bytes statement n i j l ≡ false
   all-levels i j l inner = ⊎_elim inner (beyond i j l) (lt-or-le l n)
 
-  pub agree-none : pair_of bytes statement n t ≡ Agree → NoneDisagree bytes statement n t
+  pub agree-none : pair_of bytes statement n t ≡ None → NoneDisagree bytes statement n t
   unfolding pair_of first_disagreement
   agree-none e i j l positive ordered small =
       all-levels i j l
@@ -135,7 +136,7 @@ module _ (bytes statement : List ℕ) (n t : ℕ) where
       ∙ pair-agrees (disagreement (stamp_rule (proof_edition bytes) n statement) n (leaves_of bytes statement n t) (openings_of bytes)) n t
       (rw leaves-length at e) i j l positive ordered small inner)
 
-  pub disagree-first : (i j l : ℕ) → pair_of bytes statement n t ≡ Disagree i j l → FirstToDisagree bytes statement n t i j l
+  pub disagree-first : (i j l : ℕ) → pair_of bytes statement n t ≡ disagree_at_level i j l → FirstToDisagree bytes statement n t i j l
   unfolding pair_of first_disagreement
   disagree-first i j l e =
       let f =

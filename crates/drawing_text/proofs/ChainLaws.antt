@@ -6,26 +6,20 @@ use mathlib.Core.Bool.{Bool, true, false}
 use mathlib.Core.List.{List}
 use lib.Dec.{ltb}
 use lib.ListN.{length, get_or, take, length-map}
-use lib.Seq.{take_all, length-take-le}
 use borrow.Author.Tests.{ltb-false}
 use Rattle.base.specs.Choice.{pick}
 use Rattle.base.specs.Bytes.{written}
 use Rattle.base.proofs.WrittenLaws.{written-here}
-use Rattle.base.specs.declared.refusal.Refusal.{Refusal}
-use Rattle.base.specs.Number.{number_of}
+use Rattle.base.specs.declared.refusal.Rejection.{Rejection}
 use Rattle.proof_file.specs.FileCheck.{found_in, file_check}
 use Rattle.chain_theory.specs.Ways.{chain, chain_codes, code}
 use Rattle.chain.specs.PlanRow.{plan_row}
 use Rattle.chain.proofs.Rows.{list-check}
 use Rattle.planning.specs.Output.{places}
-use Rattle.decimal.specs.Steps.{Wrote}
-use Rattle.drawing_text.specs.declared.Found.{Found}
-use Rattle.drawing_text.specs.Verdict.{refusal_text, clash_lines}
-use Rattle.drawing_text.specs.Text.{chain_text, ChainIn}
+use Rattle.drawing_text.specs.Text.{ChainIn}
 use Rattle.compare.specs.declared.Pair.{Pair}
-use Rattle.compare.specs.declared.Pair.TheVariants.{Agree, Disagree}
+use Rattle.std.proofs.Common.{Option, Some, None, Result}
 use Rattle.draw.specs.declared.Drawing.{Drawing}
-use Rattle.draw.specs.declared.Drawing.TheVariants.{NotDrawn, Chain, Clash}
 use Rattle.draw.specs.Drawing.{DrawingAnswer, drawing_answer, not_drawn, drawn_chain, drawn_clash, drawn_if, drawn_from, leaves_of, pair_of, drawing_of, drawn_list}
 use Rattle.draw.proofs.AcceptedFile.{leaves-done}
 
@@ -44,9 +38,9 @@ check-passed zero d c e = (refl, e)
 check-passed (suc code) d c e = absurd (not-refused (suc code) c e)
 
 -- no pair disagrees, and the list is long enough
-pair-passed : (p : Pair) (count list c : ℕ) → drawn_from p count list ≡ drawn_chain c → (ltb list count ≡ false) × (count ≡ c)
-pair-passed (Disagree i j l) count list c e = absurd (not-clash i j l c e)
-pair-passed Agree count list c e = go (ltb list count) e
+pair-passed : (p : Option Pair) (count list c : ℕ) → drawn_from p count list ≡ drawn_chain c → (ltb list count ≡ false) × (count ≡ c)
+pair-passed (Some pair) count list c e = absurd (not-clash pair.first pair.second pair.level c e)
+pair-passed None count list c e = go (ltb list count) e
   where
     go : (t : Bool) → pick t (not_drawn (found_in 0 16)) (drawn_chain count) ≡ drawn_chain c → (t ≡ false) × (count ≡ c)
     go true e = absurd (not-refused (found_in 0 16) c e)
@@ -99,7 +93,7 @@ module _ (bytes statement : List ℕ) (n t : ℕ) (list after : List ℕ) (c : �
       (written-here list (chain_codes n (leaves_of bytes statement n t)) 0 (omega (arith, size, codes-fit)) c size)
 
 -- what drawing into 6,855 places leaves there
-pub chain-in : (bytes statement : List ℕ) (n t : ℕ) (drawing : Drawing) (list after : List ℕ) → length list ≡ places
+pub chain-in : (bytes statement : List ℕ) (n t : ℕ) (drawing : Result Drawing Rejection) (list after : List ℕ) → length list ≡ places
     → drawing_answer drawing ≡ drawing_of bytes statement n t (length list) → after ≡ drawn_list bytes statement n t list → length after ≡ length list
     → ChainIn drawing after bytes statement n t
 chain-in bytes statement n t drawing list after l d a k = λ nodes e.
@@ -108,29 +102,3 @@ chain-in bytes statement n t drawing list after l d a k = λ nodes e.
       omega (arith, codes-fit bytes statement n t list after nodes is a),
       codes-drawn bytes statement n t list after nodes is a,
     )
-
--- what is laid out in each case
-pub line-whole : (text out after : List ℕ) (used : ℕ) → length text ≡ 8192 → 8192 < used → after ≡ written out 0 text
-    → Wrote out 0 (take used text) after 8192
-line-whole text out after used l h e =
-    let whole : take used text ≡ text = take_all used text (omega arith) in
-    rw whole (record { out = e; next = omega arith })
-
-pub line_first : (text out after : List ℕ) (used : ℕ) → length text ≡ 8192 → used ≤ 8192 → after ≡ written out 0 (take used text)
-    → Wrote out 0 (take used text) after used
-line_first text out after used l h e = record { out = e; next = omega (arith, length-take-le used text (omega arith)) }
-
-module _ (drawing : Drawing) (n t : ℕ) (found : Found) (size : ℕ) (plan first second out after : List ℕ) (end : ℕ) where
-  pub refused-wrote : (line : List ℕ) (why : Refusal) (opening number : ℕ) (told : Found) → drawing ≡ NotDrawn why opening
-      → number ≡ number_of why → told ≡ found → line ≡ refusal_text number opening size told n t → Wrote out 0 line after end
-      → Wrote out 0 (chain_text drawing n t found size plan first second) after end
-  refused-wrote line why opening number told e k f l w = rw (e, ← k, ← f, ← l) w
-
-  pub chain-wrote :
-      (nodes : ℕ) → drawing ≡ Chain nodes → Wrote out 0 plan after end
-      → Wrote out 0 (chain_text drawing n t found size plan first second) after end
-  chain-wrote nodes e w = rw e w
-
-  pub clash-wrote : (line : List ℕ) (i j l : ℕ) → drawing ≡ Clash i j l → line ≡ clash_lines i j l first second → Wrote out 0 line after end
-      → Wrote out 0 (chain_text drawing n t found size plan first second) after end
-  clash-wrote line i j l e f w = rw (e, ← f) w

@@ -1,12 +1,12 @@
 -- What `info` prints: one law for each return.
 use mathlib.Core.Path.{◌≡◌, refl, ap, ◌∙◌}
-use Prim.Native.Nat.{ℕ, ◌+◌, ◌≤◌, ◌<◌}
+use Prim.Native.Nat.{ℕ, ◌+◌, ◌≤◌}
 use native.Mathlib.Omega.{arith}
 use mathlib.Core.Bool.{Bool, true, false}
 use mathlib.Core.List.{List, [], ◌++◌}
 use lib.Dec.{eqb}
 use lib.ListN.{length, length-append}
-use borrow.Author.Tests.{lt-ltb, le-ltb, eq-eqb, ne_eqb, eqb-true}
+use borrow.Author.Tests.{eq-eqb, ne_eqb, eqb-true}
 use Rattle.base.specs.Choice.{pick}
 use Rattle.base.specs.Row.{is_done}
 use Rattle.base.proofs.Parts.{part_length}
@@ -16,34 +16,9 @@ use Rattle.file_head.specs.Head.{HeadAnswer, numbers, not_read, head_of, length_
 use Rattle.lines.specs.Line.{added}
 use Rattle.lines.specs.Texts.{fact_text, bytes_text, rejected_text}
 use Rattle.drawing_text.specs.Plain.{plain_text}
-use Rattle.drawing_text.specs.Info.{size_row, shape_from, shape_refusal, numbers_text, labels_text, rest_text, known_from, known_text, end_text, info_text}
-use Rattle.drawing_text.specs.Status.{info_status}
+use Rattle.drawing_text.specs.Info.{shape_refusal, numbers_text, labels_text, rest_text, known_from, known_text, end_text, info_text}
 use Rattle.drawing_text.proofs.TwoLines.{two}
 use Rattle.drawing_text.proofs.TellingLaws.{plain-short, fact-short, bytes-short, rejected-short}
-
--- the size
-module _ (size whole : ℕ) where
-  pub size-short : size < whole → 10 ≡ size_row size whole
-  size-short h = rw (lt-ltb size whole h)
-
-  pub size-long : whole ≤ size → whole < size → 13 ≡ size_row size whole
-  size-long h k = rw (le-ltb size whole h, lt-ltb whole size k)
-
-  pub size-right : whole ≤ size → size ≤ whole → 0 ≡ size_row size whole
-  size-right h k = rw (le-ltb size whole h, le-ltb whole size k)
-
-pub shape-told : (bytes : List ℕ) (head : HeadAnswer) → head ≡ head_of bytes → shape_from bytes head ≡ shape_refusal bytes
-unfolding shape_refusal
-shape-told bytes head e = ap (shape_from bytes) e
-
--- the status
-pub status-told : (bytes : List ℕ) (number : ℕ) → number ≡ shape_refusal bytes → number ≡ 0 → 0 ≡ info_status bytes
-unfolding info_status
-status-told bytes number e z = let none : shape_refusal bytes ≡ 0 = omega arith in rw none
-
-pub status-refused : (bytes : List ℕ) (number : ℕ) → number ≡ shape_refusal bytes → (number ≡ 0 → ⊥) → 1 ≡ info_status bytes
-unfolding info_status
-status-refused bytes number e d = rw (some-refused (shape_refusal bytes) (omega arith))
 
 -- the numbers
 

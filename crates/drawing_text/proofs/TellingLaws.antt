@@ -10,7 +10,7 @@ use lib.ListN.{length, length-append}
 use borrow.Author.Tests.{leb-true, eq-eqb, ne_eqb}
 use Rattle.base.specs.Choice.{pick, both}
 use Rattle.base.proofs.ChoiceLaws.{both_first, both-second}
-use Rattle.base.specs.declared.refusal.Refusal.{Refusal}
+use Rattle.base.specs.declared.refusal.Rejection.{Rejection}
 use Rattle.base.specs.Number.{number_of}
 use Rattle.decimal.specs.Ascii.{ascii}
 use Rattle.decimal.specs.Text.{field}
@@ -19,42 +19,16 @@ use Rattle.lines.specs.Line.{added, hex_of}
 use Rattle.lines.specs.Texts.{fact_text, bytes_text, three_text, accepted_text, rejected_text, clash_text}
 use Rattle.lines.proofs.LineLaws.{length-hex}
 use Rattle.draw.specs.declared.Drawing.{Drawing}
-use Rattle.draw.specs.declared.Drawing.TheVariants.{NotDrawn, Chain, Clash}
+use Rattle.draw.specs.declared.Drawing.TheVariants.{Chain}
+use Rattle.draw.specs.declared.Drawing.TheVariants as drawings
+use Rattle.compare.specs.declared.Clash.{Clash}
+use Rattle.std.proofs.Common.{Result, Ok, Err}
 use Rattle.drawing_text.specs.Plain.{plain_table, words_for, plain_text}
 use Rattle.drawing_text.specs.declared.Found.{Found}
 use Rattle.drawing_text.specs.Differ.{differ_text}
 use Rattle.drawing_text.specs.Verdict.{why_text, refusal_text, clash_lines, edition_text, wanted_text, no_chain_text, judged_text, verdict_text}
 use Rattle.drawing_text.proofs.TwoLines.{two}
 use Rattle.drawing_text.proofs.DifferLaws.{differ-short}
-
--- the words for a number
-pub words-known : (number k : ℕ) (line : List ℕ) → number ≡ k → line ≡ words_for k plain_table → line ≡ words_for number plain_table
-words-known number k line e l = rw e l
-
-pub words-other :
-    (number : ℕ) (line : List ℕ) → (number ≡ 1 → ⊥) → (number ≡ 8 → ⊥) → (number ≡ 10 → ⊥) → (number ≡ 11 → ⊥) → (number ≡ 12 → ⊥)
-    → (number ≡ 13 → ⊥) → (number ≡ 14 → ⊥) → (number ≡ 15 → ⊥)
-    → line ≡ ascii "the proof is refused\n" → line ≡ words_for number plain_table
-words-other number line a b c d e f g h l =
-    rw (
-      ne_eqb number 1 a,
-      ne_eqb number 8 b,
-      ne_eqb number 10 c,
-      ne_eqb number 11 d,
-      ne_eqb number 12 e,
-      ne_eqb number 13 f,
-      ne_eqb number 14 g,
-      ne_eqb number 15 h,
-    )
-    l
-
-pub plain-empty : (number size : ℕ) (line : List ℕ) → size ≡ 0 → line ≡ ascii "the proof file is empty\n" → line ≡ plain_text number size
-unfolding plain_text
-plain-empty number size line e l = rw (eq-eqb size 0 e) l
-
-pub plain-words : (number size : ℕ) (line : List ℕ) → (size ≡ 0 → ⊥) → line ≡ words_for number plain_table → line ≡ plain_text number size
-unfolding plain_text
-plain-words number size line e l = rw (ne_eqb size 0 e) l
 
 short_table : List (ℕ × String) → Bool
 short_table [] = true
@@ -166,29 +140,16 @@ wanted-short n t = go (eqb n 0)
           fact-short (ascii "challenges ") t,
         )
 
-edition-short : (drawing : Drawing) (edition : ℕ) → length (edition_text drawing edition) ≤ 100
-edition-short (NotDrawn why opening) edition = omega arith
-edition-short (Chain nodes) edition = omega (arith, fact-short (ascii "edition ") edition)
-edition-short (Clash i j l) edition = omega (arith, fact-short (ascii "edition ") edition)
+edition-short : (drawing : Result Drawing Rejection) (edition : ℕ) → length (edition_text drawing edition) ≤ 100
+edition-short (Err why) edition = omega arith
+edition-short (Ok drawing) edition = omega (arith, fact-short (ascii "edition ") edition)
 
-pub judged-short : (drawing : Drawing) (n t : ℕ) (found : Found) (size : ℕ) → length (judged_text drawing n t found size) ≤ 400
-judged-short (NotDrawn why opening) n t found size = refusal-short (number_of why) opening size found n t
-judged-short (Chain nodes) n t found size = omega (arith, accepted-short n t nodes)
-judged-short (Clash i j l) n t found size = omega (arith, no-chain-short n t)
+pub judged-short : (drawing : Result Drawing Rejection) (n t : ℕ) (found : Found) (size : ℕ) → length (judged_text drawing n t found size) ≤ 400
+judged-short (Err why) n t found size = refusal-short (number_of why.refusal) why.opening size found n t
+judged-short (Ok (Chain nodes)) n t found size = omega (arith, accepted-short n t nodes)
+judged-short (Ok (drawings.Clash clash)) n t found size = omega (arith, no-chain-short n t)
 
 -- each function's lines
-pub why-differs :
-    (number size : ℕ) (found : Found) (n t : ℕ) (line : List ℕ) → number ≡ 9 → line ≡ differ_text found n t
-    → line ≡ why_text number size found n t
-unfolding why_text
-why-differs number size found n t line e l = rw (eq-eqb number 9 e) l
-
-pub why-plain :
-    (number size : ℕ) (found : Found) (n t : ℕ) (line : List ℕ) → (number ≡ 9 → ⊥) → line ≡ plain_text number size
-    → line ≡ why_text number size found n t
-unfolding why_text
-why-plain number size found n t line d l = rw (ne_eqb number 9 d) l
-
 pub refusal-told :
     {all one two' : List ℕ} (number opening size : ℕ) (found : Found) (n t : ℕ) → all ≡ added one two'
     → one ≡ why_text number size found n t → two' ≡ rejected_text number opening → all ≡ refusal_text number opening size found n t
@@ -207,15 +168,16 @@ wanted-told n t h e p q =
     rw (ne_eqb n 0 h)
     (two e p q (omega (arith, fact-short (ascii "depth ") n)) (omega (arith, fact-short (ascii "challenges ") t)))
 
-pub clash-told : {all both' pair one two' : List ℕ} (i j l : ℕ) (first second : List ℕ) → length first ≡ 105 → length second ≡ 105
-    → both' ≡ added pair one → all ≡ added both' two' → pair ≡ clash_text i j l → one ≡ bytes_text (ascii "first ") first
-    → two' ≡ bytes_text (ascii "second ") second → all ≡ clash_lines i j l first second
+pub clash-told : {all both' pair one two' : List ℕ} (clash : Clash) → length clash.first ≡ 105 → length clash.second ≡ 105
+    → both' ≡ added pair one → all ≡ added both' two' → pair ≡ clash_text clash.pair.first clash.pair.second clash.pair.level
+    → one ≡ bytes_text (ascii "first ") clash.first → two' ≡ bytes_text (ascii "second ") clash.second → all ≡ clash_lines clash
 unfolding clash_lines
-clash-told i j l first second f s e g p q r =
-    let short = bytes-short (ascii "first ") first in
-    two g (two e p q (omega (arith, clash-short i j l)) (omega (arith, short))) r
-    (omega (arith, clash-short i j l, short, length-append (clash_text i j l) (bytes_text (ascii "first ") first)))
-    (omega (arith, bytes-short (ascii "second ") second))
+clash-told clash f s e g p q r =
+    let told = clash-short clash.pair.first clash.pair.second clash.pair.level in
+    let short = bytes-short (ascii "first ") clash.first in
+    two g (two e p q (omega (arith, told)) (omega (arith, short))) r
+    (omega (arith, told, short, length-append (clash_text clash.pair.first clash.pair.second clash.pair.level) (bytes_text (ascii "first ") clash.first)))
+    (omega (arith, bytes-short (ascii "second ") clash.second))
 
 pub no-chain-told : {all one two' : List ℕ} (n t : ℕ) → all ≡ added one two'
     → one ≡ ascii "two openings clash, so there is no chain; 'mastdock chain' shows both inputs\n" → two' ≡ accepted_text n t 0
@@ -223,29 +185,7 @@ pub no-chain-told : {all one two' : List ℕ} (n t : ℕ) → all ≡ added one 
 unfolding no_chain_text
 no-chain-told n t e p q = two e p q (omega arith) (omega (arith, accepted-short n t 0))
 
-module _ (drawing : Drawing) (edition : ℕ) (line : List ℕ) where
-  pub edition-none : (why : Refusal) (opening : ℕ) → drawing ≡ NotDrawn why opening → line ≡ [] → line ≡ edition_text drawing edition
-  edition-none why opening e l = rw e l
-
-  pub edition-chain : (nodes : ℕ) → drawing ≡ Chain nodes → line ≡ fact_text (ascii "edition ") edition → line ≡ edition_text drawing edition
-  edition-chain nodes e l = rw e l
-
-  pub edition-clash : (i j l : ℕ) → drawing ≡ Clash i j l → line ≡ fact_text (ascii "edition ") edition → line ≡ edition_text drawing edition
-  edition-clash i j l e f = rw e f
-
-module _ (drawing : Drawing) (n t : ℕ) (found : Found) (size : ℕ) where
-  pub judged-refused : (why : Refusal) (opening number : ℕ) (line : List ℕ) → drawing ≡ NotDrawn why opening
-      → number ≡ number_of why → line ≡ refusal_text number opening size found n t → line ≡ judged_text drawing n t found size
-  judged-refused why opening number line e k l = rw (e, ← k) l
-
-  pub judged-chain : (nodes : ℕ) (line : List ℕ) → drawing ≡ Chain nodes → line ≡ accepted_text n t nodes
-      → line ≡ judged_text drawing n t found size
-  judged-chain nodes line e l = rw e l
-
-  pub judged-clash : (i j l : ℕ) (line : List ℕ) → drawing ≡ Clash i j l → line ≡ no_chain_text n t
-      → line ≡ judged_text drawing n t found size
-  judged-clash i j l line e f = rw e f
-
+module _ (drawing : Result Drawing Rejection) (n t : ℕ) (found : Found) (size : ℕ) where
   pub verdict-told : {all front one two' three : List ℕ} → front ≡ added one two' → all ≡ added front three
       → one ≡ edition_text drawing found.edition → two' ≡ wanted_text n t → three ≡ judged_text drawing n t found size
       → all ≡ verdict_text drawing n t found size

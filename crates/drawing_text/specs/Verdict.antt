@@ -1,11 +1,14 @@
 -- What is told of a proof, in bytes.
-use Rattle.std.specs.Prelude.{ℕ, List, [], ◌++◌, eqb}
+use Rattle.std.specs.Prelude.{ℕ, List, [], ◌++◌, Result, Ok, Err, eqb}
 use Rattle.base.specs.Choice.{pick}
 use Rattle.base.specs.Number.{number_of}
 use Rattle.decimal.specs.Ascii.{ascii}
 use Rattle.lines.specs.Texts.{fact_text, bytes_text, accepted_text, rejected_text, clash_text}
+use Rattle.base.specs.declared.refusal.Rejection.{Rejection}
+use Rattle.compare.specs.declared.Clash.{Clash}
 use Rattle.draw.specs.declared.Drawing.{Drawing}
-use Rattle.draw.specs.declared.Drawing.TheVariants.{NotDrawn, Chain, Clash}
+use Rattle.draw.specs.declared.Drawing.TheVariants.{Chain}
+use Rattle.draw.specs.declared.Drawing.TheVariants as answers
 use Rattle.drawing_text.specs.declared.Found.{Found}
 use Rattle.drawing_text.specs.Plain.{plain_text}
 use Rattle.drawing_text.specs.Differ.{differ_text}
@@ -19,14 +22,16 @@ unfoldable pub refusal_text : ℕ → ℕ → ℕ → Found → ℕ → ℕ → 
 refusal_text number opening size found n t = why_text number size found n t ++ rejected_text number opening
 
 -- a clash: the pair and the level, and both inputs in hexadecimal
-unfoldable pub clash_lines : ℕ → ℕ → ℕ → List ℕ → List ℕ → List ℕ
-clash_lines i j l first second = clash_text i j l ++ bytes_text (ascii "first ") first ++ bytes_text (ascii "second ") second
+unfoldable pub clash_lines : Clash → List ℕ
+clash_lines clash =
+    clash_text clash.pair.first clash.pair.second clash.pair.level
+    ++ bytes_text (ascii "first ") clash.first
+    ++ bytes_text (ascii "second ") clash.second
 
 -- the edition by which a file was accepted; nothing of one that is refused
-abbrev pub edition_text : Drawing → ℕ → List ℕ
-edition_text (NotDrawn why opening) edition = []
-edition_text (Chain nodes) edition = fact_text (ascii "edition ") edition
-edition_text (Clash i j l) edition = fact_text (ascii "edition ") edition
+abbrev pub edition_text : Result Drawing Rejection → ℕ → List ℕ
+edition_text (Err why) edition = []
+edition_text (Ok drawing) edition = fact_text (ascii "edition ") edition
 
 -- depth and count wanted; nothing for depth 0, which stands for a head that cannot be read
 unfoldable pub wanted_text : ℕ → ℕ → List ℕ
@@ -37,11 +42,11 @@ unfoldable pub no_chain_text : ℕ → ℕ → List ℕ
 no_chain_text n t =
     ascii "two openings clash, so there is no chain; 'mastdock chain' shows both inputs\n" ++ accepted_text n t 0
 
-abbrev pub judged_text : Drawing → ℕ → ℕ → Found → ℕ → List ℕ
-judged_text (NotDrawn why opening) n t found size = refusal_text (number_of why) opening size found n t
-judged_text (Chain nodes) n t found size = accepted_text n t nodes
-judged_text (Clash i j l) n t found size = no_chain_text n t
+abbrev pub judged_text : Result Drawing Rejection → ℕ → ℕ → Found → ℕ → List ℕ
+judged_text (Err why) n t found size = refusal_text (number_of why.refusal) why.opening size found n t
+judged_text (Ok (Chain nodes)) n t found size = accepted_text n t nodes
+judged_text (Ok (answers.Clash clash)) n t found size = no_chain_text n t
 
 -- all that `verify` prints of a drawing, by the depth and count wanted, what the file's head says and the file's size
-unfoldable pub verdict_text : Drawing → ℕ → ℕ → Found → ℕ → List ℕ
+unfoldable pub verdict_text : Result Drawing Rejection → ℕ → ℕ → Found → ℕ → List ℕ
 verdict_text drawing n t found size = edition_text drawing found.edition ++ wanted_text n t ++ judged_text drawing n t found size

@@ -5,13 +5,14 @@ ghost use Rattle.drawing_text.specs.Differ.{report_text, other_text, depth_text,
 
 use crate::Found;
 use crate::sentences::sentence;
-use lines::{Line, add, add_line, add_number, empty};
+use lines::Line;
 
+#[tactic(auto, unfolding(crate::specs::Differ::report_text))]
 fn report_line(same: bool) -> Line
     ensures { line_of result ≡ report_text same }
 {
     if same {
-        return empty();
+        return Line::new();
     }
     sentence(b"the proof is not of this report\n")
 }
@@ -22,19 +23,19 @@ fn other(a: &[u8], x: u64, b: &[u8], y: u64) -> Line
     ensures { line_of result ≡ other_text a.now x b.now y }
 {
     if x == y {
-        return empty();
+        return Line::new();
     }
-    let own = add_number(add(empty(), a), x);
-    let wanted = add_number(add(own, b), y);
-    add(wanted, b"\n")
+    Line::new().add_field(a, x).add_field(b, y).add(b"\n")
 }
 
+#[tactic(auto, unfolding(crate::specs::Differ::depth_text))]
 fn depth_line(own: u64, wanted: u64) -> Line
     ensures { line_of result ≡ depth_text own wanted }
 {
     other(b"the proof's depth is ", own, b", not ", wanted)
 }
 
+#[tactic(auto, unfolding(crate::specs::Differ::count_text))]
 fn count_line(own: u64, wanted: u64) -> Line
     ensures { line_of result ≡ count_text own wanted }
 {
@@ -48,5 +49,5 @@ pub fn differ(found: Found, depth: u64, count: u64) -> Line
     let report = report_line(found.same_report);
     let depths = depth_line(found.depth, depth);
     let counts = count_line(found.count, count);
-    add_line(add_line(report, depths), counts)
+    report.add_line(&depths).add_line(&counts)
 }

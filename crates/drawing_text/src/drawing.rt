@@ -10,8 +10,9 @@ ghost use Rattle.drawing_text.specs.Text.{chain_text, ChainIn};
 
 use crate::heads::found_in;
 use crate::telling::{clash_lines, refused};
-use base::put;
-use draw::{Drawing, Drawn};
+use base::{MAX_LEAVES, Rejection, put};
+use draw::{Drawing, opened_leaves};
+use file_head::read_head;
 use lines::Line;
 
 // Lays out the chain that was drawn of a file, and answers how many bytes that takes.
@@ -27,27 +28,20 @@ pub fn put_chain(
         × (codes.now ≡ chain_codes depth (leaves_of file.now statement depth count)) × (max_output ≤ length out.old) }
     ensures { Wrote out.old 0 (plan_text depth (leaves_of file.now statement depth count)) out.new result }
 {
-    let edition = draw::edition_of(file);
-    let at = draw::numbers_end(file);
-    let root = base::label_at(file, at + 32);
-    let leaves = draw::challenge_leaves(edition, depth, statement, root, count);
-    let t = count as usize;
-    planning::put_plan(depth, &leaves[..t], codes, out)
+    let head = read_head(file).unwrap();
+    let mut room = [0u64; MAX_LEAVES];
+    let leaves = opened_leaves(file, &head, statement, &mut room);
+    planning::put_plan(depth, leaves, codes, out)
 }
 
 // Lays a line out from the first byte on.
-fn put_line(line: Line, out: &mut [u8]) -> usize
+fn put_line(line: &Line, out: &mut [u8]) -> usize
     requires { 8192 ≤ length out.old }
-    ensures { Wrote out.old 0 (line_of line) out.new result }
+    ensures { Wrote out.old 0 (line_of line.now) out.new result }
 {
-    let text = line.text;
-    let length = line.length;
-    if 8192 < length {
-        put(out, 0, &text);
-        return 8192;
-    }
-    put(out, 0, &text[..length]);
-    length
+    let text = line.as_bytes();
+    put(out, 0, text);
+    text.len()
 }
 
 // Lays out all that `chain` prints of a drawing of a file, and answers how many bytes that takes.
@@ -56,34 +50,24 @@ pub fn put_drawing(
     statement: [u8; 32],
     depth: u64,
     count: u64,
-    drawn: Drawn,
+    drawing: &Result<Drawing, Rejection>,
     list: &[u64],
     out: &mut [u8],
 ) -> usize
-    requires { ChainIn drawn.drawing list.now file.now statement depth count × (max_output ≤ length out.old) }
+    requires { ChainIn drawing.now list.now file.now statement depth count × (max_output ≤ length out.old) }
     ensures { Wrote out.old 0
-        (chain_text drawn.drawing depth count (found_of file.now statement) (length file.now)
-        (plan_text depth (leaves_of file.now statement depth count)) drawn.first drawn.second) out.new result }
+        (chain_text drawing.now depth count (found_of file.now statement) (length file.now)
+        (plan_text depth (leaves_of file.now statement depth count))) out.new result }
 {
-    let drawing = drawn.drawing;
     match drawing {
-        Drawing::NotDrawn(why, opening) => {
-            let found = found_in(file, statement);
-            let number = base::number(why);
-            let size = file.len();
-            put_line(
-                refused(number, opening as u64, size, found, depth, count),
-                out,
-            )
-        }
-        Drawing::Chain(nodes) => {
-            let used = nodes as usize;
+        Ok(Drawing::Chain(nodes)) => {
+            let used = *nodes as usize;
             put_chain(file, statement, depth, count, &list[..used], out)
         }
-        Drawing::Clash(i, j, level) => {
-            let first = drawn.first;
-            let second = drawn.second;
-            put_line(clash_lines(i, j, level, first, second), out)
+        Ok(Drawing::Clash(clash)) => put_line(&clash_lines(clash), out),
+        Err(rejection) => {
+            let found = found_in(file, statement);
+            put_line(&refused(*rejection, file.len(), found, depth, count), out)
         }
     }
 }

@@ -1,47 +1,43 @@
 // What `info` prints: all that a file's head and size say.
 ghost use Rattle.std.specs.Prelude.{◌≡◌, ◌+◌, ◌≤◌, length};
-ghost use Rattle.base.specs.Limits.{max_depth, max_challenges};
+ghost use Rattle.base.specs.Number.{outcome_number};
 ghost use Rattle.file_head.specs.Head.{numbers};
 ghost use Rattle.lines.specs.Line.{line_of};
 ghost use Rattle.drawing_text.specs.Info.{size_row, shape_refusal, numbers_text, labels_text, rest_text, known_from, known_text, end_text, info_text};
 
 use crate::sentences::plain;
-use base::label_at;
-use file_head::{HeadNumbers, file_length, read_head};
-use lines::{Line, add_line, empty, fact, fact_bytes, rejected};
+use base::{Refusal, label_at, number};
+use file_head::{Head, read_head};
+use lines::{Line, fact, fact_bytes, rejected};
 
-// 10 or 13, by a file's size and the size that its numbers ask for.
-fn size_refusal(size: usize, whole: usize) -> u64
-    ensures { result ≡ size_row size whole }
+// Refuses a size that is not the one that the file's numbers ask for.
+fn check_size(size: usize, whole: usize) -> Result<(), Refusal>
+    ensures { outcome_number result ≡ size_row size whole }
 {
     if size < whole {
-        return 10;
+        return Err(Refusal::BytesEnd);
     }
     if whole < size {
-        return 13;
+        return Err(Refusal::BytesLeft);
     }
-    0
+    Ok(())
 }
 
-// The refusal by head and size, whatever is wanted; 0 where there is none.
-pub fn shape_refusal(file: &[u8]) -> u64
-    ensures { result ≡ shape_refusal file.now }
+// The refusal by head and size, whatever is wanted.
+#[tactic(auto, unfolding(crate::specs::Info::shape_refusal))]
+pub fn check_shape(file: &[u8]) -> Result<(), Refusal>
+    ensures { outcome_number result ≡ shape_refusal file.now }
 {
-    let head = read_head(file);
-    match head {
-        HeadNumbers::NotRead(why) => base::number(why),
-        HeadNumbers::Numbers(_, n, t, next) => {
-            let at = next.at;
-            size_refusal(file.len(), file_length(n, t, at))
-        }
-    }
+    let head = read_head(file)?;
+    check_size(file.len(), head.file_length())
 }
 
 fn numbers_lines(edition: u64, n: u64, t: u64) -> Line
     ensures { line_of result ≡ numbers_text edition n t }
 {
-    let first = add_line(fact(b"edition ", edition), fact(b"depth ", n));
-    add_line(first, fact(b"challenges ", t))
+    fact(b"edition ", edition)
+        .add_line(&fact(b"depth ", n))
+        .add_line(&fact(b"challenges ", t))
 }
 
 // Statement and root.
@@ -51,10 +47,7 @@ fn labels_lines(file: &[u8], at: usize) -> Line
 {
     let statement = label_at(file, at);
     let root = label_at(file, at + 32);
-    add_line(
-        fact_bytes(b"statement ", &statement),
-        fact_bytes(b"root ", &root),
-    )
+    fact_bytes(b"statement ", &statement).add_line(&fact_bytes(b"root ", &root))
 }
 
 // Statement and root where the size is what the numbers ask for, and the size.
@@ -64,47 +57,43 @@ fn rest_lines(file: &[u8], whole: usize, at: usize) -> Line
 {
     let size = fact(b"size ", file.len() as u64);
     if file.len() == whole {
-        return add_line(labels_lines(file, at), size);
+        return labels_lines(file, at).add_line(&size);
     }
     size
 }
 
 // What a head that can be read says.
-fn known_lines(file: &[u8], edition: u64, n: u64, t: u64, at: usize) -> Line
-    requires { (n ≤ max_depth) × (t ≤ max_challenges) × (at ≤ 6) }
-    ensures { line_of result ≡ known_from file.now (numbers edition n t at) }
+fn known_lines(file: &[u8], head: &Head) -> Line
+    ensures { line_of result ≡ known_from file.now (numbers head.now.edition head.now.depth head.now.count head.now.end) }
 {
-    let whole = file_length(n, t, at);
-    add_line(numbers_lines(edition, n, t), rest_lines(file, whole, at))
+    let whole = head.file_length();
+    numbers_lines(head.edition, head.depth, head.count).add_line(&rest_lines(file, whole, head.end))
 }
 
+#[tactic(auto, unfolding(crate::specs::Info::known_text))]
 fn known(file: &[u8]) -> Line
     ensures { line_of result ≡ known_text file.now }
 {
-    let head = read_head(file);
-    match head {
-        HeadNumbers::NotRead(_) => empty(),
-        HeadNumbers::Numbers(edition, n, t, next) => {
-            let at = next.at;
-            known_lines(file, edition, n, t, at)
-        }
+    match read_head(file) {
+        Ok(head) => known_lines(file, &head),
+        Err(_) => Line::new(),
     }
 }
 
 // A refusal in plain words and by its number; nothing where there is none.
-fn end_lines(number: u64, size: usize) -> Line
-    ensures { line_of result ≡ end_text number size }
+fn end_lines(shape: Result<(), Refusal>, size: usize) -> Line
+    ensures { line_of result ≡ end_text (outcome_number shape) size }
 {
-    if number == 0 {
-        return empty();
+    match shape {
+        Ok(()) => Line::new(),
+        Err(why) => plain(why, size).add_line(&rejected(number(why), 0)),
     }
-    add_line(plain(number, size), rejected(number, 0))
 }
 
 // All that `info` prints of a file.
 pub fn info(file: &[u8]) -> Line
     ensures { line_of result ≡ info_text file.now }
 {
-    let refusal = shape_refusal(file);
-    add_line(known(file), end_lines(refusal, file.len()))
+    let end = end_lines(check_shape(file), file.len());
+    known(file).add_line(&end)
 }

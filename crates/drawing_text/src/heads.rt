@@ -1,55 +1,44 @@
 // What a file's head says.
-ghost use Rattle.std.specs.Prelude.{◌≡◌, ◌≤◌};
-ghost use Rattle.file_head.specs.Head.{head_edition, head_depth, head_count, head_of, numbers};
-ghost use Rattle.drawing_text.specs.Heads.{report_in, of_report, at_least};
+ghost use Rattle.std.specs.Prelude.{◌≡◌};
+ghost use Rattle.file_head.specs.Head.{numbers};
+ghost use Rattle.drawing_text.specs.Heads.{report_in, found_of, at_least};
 
 use crate::Found;
 use base::same;
-use file_head::{HeadNumbers, read_head};
+use file_head::{Head, read_head};
 
 // Whether the statement that follows the numbers is this one.
-fn is_report(file: &[u8], statement: [u8; 32], edition: u64, n: u64, t: u64, at: usize) -> bool
-    requires { at ≤ 6 }
-    ensures { result ≡ report_in file.now statement (numbers edition n t at) }
+fn is_report(file: &[u8], statement: [u8; 32], head: &Head) -> bool
+    ensures { result ≡ report_in file.now statement (numbers head.now.edition head.now.depth head.now.count head.now.end) }
 {
-    let end = at + 32;
-    if file.len() < end {
-        return false;
-    }
-    same(&file[at..end], &statement)
+    let end = head.end + 32;
+    end <= file.len() && same(&file[head.end..end], &statement)
 }
 
 // Edition, depth and count of a head, and whether the file is of this statement.
+#[tactic(auto, unfolding(crate::specs::Heads::found_of, crate::specs::Heads::of_report))]
 pub fn found_in(file: &[u8], statement: [u8; 32]) -> Found
-    ensures edition_value { result.edition ≡ head_edition (head_of file.now) }
-    ensures depth_value { result.depth ≡ head_depth (head_of file.now) }
-    ensures count_value { result.count ≡ head_count (head_of file.now) }
-    ensures same_report_value { result.same_report ≡ of_report file.now statement }
+    ensures { result ≡ found_of file.now statement }
 {
-    let head = read_head(file);
-    match head {
-        HeadNumbers::NotRead(_) => Found {
+    match read_head(file) {
+        Ok(head) => Found {
+            edition: head.edition,
+            depth: head.depth,
+            count: head.count,
+            same_report: is_report(file, statement, &head),
+        },
+        Err(_) => Found {
             edition: 0,
             depth: 0,
             count: 0,
             same_report: false,
         },
-        HeadNumbers::Numbers(edition, depth, count, next) => {
-            let at = next.at;
-            let same_report = is_report(file, statement, edition, depth, count, at);
-            Found {
-                edition,
-                depth,
-                count,
-                same_report,
-            }
-        }
     }
 }
 
-// The larger of two numbers.
+// The larger of two numbers: at least so much is wanted.
 pub fn larger(x: u64, y: u64) -> u64
     ensures { result ≡ at_least x y }
 {
-    if x < y { y } else { x }
+    x.max(y)
 }

@@ -2,7 +2,8 @@
 ghost use Rattle.std.specs.Prelude.{◌≡◌};
 ghost use Rattle.drawing_text.specs.Status.{verdict_status, chain_status, info_status};
 
-use crate::facts::shape_refusal;
+use crate::facts::check_shape;
+use base::Rejection;
 use draw::Drawing;
 
 const DONE: u8 = 0;
@@ -10,34 +11,32 @@ const DONE: u8 = 0;
 const REFUSED: u8 = 1;
 
 // Of `verify`: a file whose openings clash is accepted.
-pub fn verdict_status(drawing: Drawing) -> u8
-    ensures { result ≡ verdict_status drawing }
+pub fn verdict_status(drawing: &Result<Drawing, Rejection>) -> u8
+    ensures { result ≡ verdict_status drawing.now }
 {
     match drawing {
-        Drawing::NotDrawn(_, _) => REFUSED,
-        Drawing::Chain(_) => DONE,
-        Drawing::Clash(_, _, _) => DONE,
+        Ok(_) => DONE,
+        Err(_) => REFUSED,
     }
 }
 
 // Of `chain`.
-pub fn chain_status(drawing: Drawing) -> u8
-    ensures { result ≡ chain_status drawing }
+pub fn chain_status(drawing: &Result<Drawing, Rejection>) -> u8
+    ensures { result ≡ chain_status drawing.now }
 {
     match drawing {
-        Drawing::NotDrawn(_, _) => REFUSED,
-        Drawing::Chain(_) => DONE,
-        Drawing::Clash(_, _, _) => REFUSED,
+        Ok(Drawing::Chain(_)) => DONE,
+        Ok(Drawing::Clash(_)) | Err(_) => REFUSED,
     }
 }
 
 // Of `info`.
+#[tactic(auto, unfolding(crate::specs::Status::info_status))]
 pub fn info_status(file: &[u8]) -> u8
     ensures { result ≡ info_status file.now }
 {
-    let refusal = shape_refusal(file);
-    if refusal == 0 {
-        return DONE;
+    match check_shape(file) {
+        Ok(()) => DONE,
+        Err(_) => REFUSED,
     }
-    REFUSED
 }

@@ -1,40 +1,44 @@
 // The lines that are told of a drawing.
 ghost use Rattle.std.specs.Prelude.{◌≡◌};
+ghost use Rattle.base.specs.Number.{number_of};
 ghost use Rattle.lines.specs.Line.{line_of};
 ghost use Rattle.drawing_text.specs.Verdict.{why_text, refusal_text, edition_text, wanted_text, no_chain_text, judged_text, verdict_text, clash_lines};
 
 use crate::Found;
 use crate::differing::differ;
 use crate::sentences::{plain, sentence};
+use base::{Refusal, Rejection, number};
+use compare::Clash;
 use draw::Drawing;
-use lines::{Line, accepted, add_line, clash, empty, fact, fact_bytes, rejected};
+use lines::{Line, accepted, clash, fact, fact_bytes, rejected};
 
-// Why a file of so many bytes is refused: for 9 what differs from the depth and count wanted, else in plain words.
-fn why_refused(number: u64, size: usize, found: Found, depth: u64, count: u64) -> Line
-    ensures { line_of result ≡ why_text number size found depth count }
+// Why a file of so many bytes is refused: what differs from the depth and count wanted, else in plain words.
+#[tactic(auto, unfolding(crate::specs::Verdict::why_text))]
+fn why_refused(why: Refusal, size: usize, found: Found, depth: u64, count: u64) -> Line
+    ensures { line_of result ≡ why_text (number_of why) size found depth count }
 {
-    if number == 9 {
-        return differ(found, depth, count);
+    match why {
+        Refusal::NotWanted => differ(found, depth, count),
+        _ => plain(why, size),
     }
-    plain(number, size)
 }
 
 // A refusal: why, then its line.
-pub fn refused(number: u64, opening: u64, size: usize, found: Found, depth: u64, count: u64) -> Line
-    ensures { line_of result ≡ refusal_text number opening size found depth count }
+pub fn refused(rejection: Rejection, size: usize, found: Found, depth: u64, count: u64) -> Line
+    ensures { line_of result ≡ refusal_text (number_of rejection.refusal) rejection.opening size found depth count }
 {
-    let why = why_refused(number, size, found, depth, count);
-    add_line(why, rejected(number, opening))
+    let refusal = number(rejection.refusal);
+    let opening = u64::from(rejection.opening);
+    why_refused(rejection.refusal, size, found, depth, count).add_line(&rejected(refusal, opening))
 }
 
 // The edition by which a file was accepted; nothing of one that is refused.
-fn edition_line(drawing: Drawing, edition: u64) -> Line
-    ensures { line_of result ≡ edition_text drawing edition }
+fn edition_line(drawing: &Result<Drawing, Rejection>, edition: u64) -> Line
+    ensures { line_of result ≡ edition_text drawing.now edition }
 {
     match drawing {
-        Drawing::NotDrawn(_, _) => empty(),
-        Drawing::Chain(_) => fact(b"edition ", edition),
-        Drawing::Clash(_, _, _) => fact(b"edition ", edition),
+        Ok(_) => fact(b"edition ", edition),
+        Err(_) => Line::new(),
     }
 }
 
@@ -43,48 +47,58 @@ fn wanted(depth: u64, count: u64) -> Line
     ensures { line_of result ≡ wanted_text depth count }
 {
     if depth == 0 {
-        return empty();
+        return Line::new();
     }
-    add_line(fact(b"depth ", depth), fact(b"challenges ", count))
+    fact(b"depth ", depth).add_line(&fact(b"challenges ", count))
 }
 
 // A clash: the pair and the level, and both inputs.
-pub fn clash_lines(i: u64, j: u64, level: u64, first: [u8; 105], second: [u8; 105]) -> Line
-    ensures { line_of result ≡ clash_lines i j level first second }
+pub fn clash_lines(found: &Clash) -> Line
+    ensures { line_of result ≡ clash_lines found.now }
 {
-    let pair = clash(i, j, level);
-    let one = add_line(pair, fact_bytes(b"first ", &first));
-    add_line(one, fact_bytes(b"second ", &second))
+    let pair = found.pair;
+    clash(pair.first, pair.second, pair.level)
+        .add_line(&fact_bytes(b"first ", &found.first))
+        .add_line(&fact_bytes(b"second ", &found.second))
 }
 
 // An accepted file whose openings clash.
 fn no_chain(depth: u64, count: u64) -> Line
     ensures { line_of result ≡ no_chain_text depth count }
 {
-    let told = sentence(
+    sentence(
         b"two openings clash, so there is no chain; 'mastdock chain' shows both inputs\n",
-    );
-    add_line(told, accepted(depth, count, 0))
+    ).add_line(&accepted(depth, count, 0))
 }
 
 // Refused or accepted.
-fn judged(drawing: Drawing, depth: u64, count: u64, found: Found, size: usize) -> Line
-    ensures { line_of result ≡ judged_text drawing depth count found size }
+fn judged(
+    drawing: &Result<Drawing, Rejection>,
+    depth: u64,
+    count: u64,
+    found: Found,
+    size: usize,
+) -> Line
+    ensures { line_of result ≡ judged_text drawing.now depth count found size }
 {
-    match drawing {
-        Drawing::NotDrawn(why, opening) => {
-            refused(base::number(why), opening as u64, size, found, depth, count)
-        }
-        Drawing::Chain(nodes) => accepted(depth, count, nodes),
-        Drawing::Clash(_, _, _) => no_chain(depth, count),
+    match *drawing {
+        Ok(Drawing::Chain(nodes)) => accepted(depth, count, nodes),
+        Ok(Drawing::Clash(_)) => no_chain(depth, count),
+        Err(rejection) => refused(rejection, size, found, depth, count),
     }
 }
 
 // All that `verify` prints of a drawing, by the depth and count wanted, what the file's head says and the file's size.
-pub fn verdict(drawing: Drawing, depth: u64, count: u64, found: Found, size: usize) -> Line
-    ensures { line_of result ≡ verdict_text drawing depth count found size }
+pub fn verdict(
+    drawing: &Result<Drawing, Rejection>,
+    depth: u64,
+    count: u64,
+    found: Found,
+    size: usize,
+) -> Line
+    ensures { line_of result ≡ verdict_text drawing.now depth count found size }
 {
-    let edition = edition_line(drawing, found.edition);
-    let asked = add_line(edition, wanted(depth, count));
-    add_line(asked, judged(drawing, depth, count, found, size))
+    edition_line(drawing, found.edition)
+        .add_line(&wanted(depth, count))
+        .add_line(&judged(drawing, depth, count, found, size))
 }

@@ -1,24 +1,27 @@
 -- Laws of a challenge: its hash input laid out, and the first bits of the hash as a number.
 use mathlib.Core.Path.{◌≡◌, refl, ap, ◌∙◌}
-use mathlib.Core.Bool.{true, false}
 use mathlib.Core.List.{List, [], ◌∷◌, ◌++◌, append_assoc, append-nil}
 use Prim.Native.Nat.{ℕ, zero, suc, ◌+◌, ◌-◌, ◌*◌, ◌/◌, ◌%◌, ◌^◌, ◌≤◌, ◌<◌}
-use native.Mathlib.Nat.{mul-le-mul_right, pow-le-pow_right}
-use native.Mathlib.Numerals.{add-one}
+use native.Mathlib.Nat.{mul-le-mul_right}
 use native.Mathlib.Omega.{arith}
 use borrow.Author.Tests.{lt-leb}
 use lib.ListN.{length, take, drop, get_or, length-append}
 use lib.Pow.{pow-add, shr-shr, high}
-use lib.Seq.{take_at, take-suc}
-use Rattle.base.specs.Limits.{max_hashed, max_depth, max_challenges}
+use lib.Seq.{take_at, take-suc, take_all}
+use Rattle.std.proofs.Common.{w64}
+use Rattle.std.specs.Int.{from_be_bytes}
+use Rattle.base.specs.Limits.{max_hashed, max_depth}
 use Rattle.base.specs.Bytes.{big_endian, zeros, written}
 use Rattle.base.proofs.BytesLaws.{length-big_endian}
 use Rattle.base.proofs.Zeros.{filled_more}
-use Rattle.base.specs.Row.{outside, no_edition}
+use Rattle.std.specs.Prelude.{Result, Ok, Err, IsOk}
+use Rattle.base.specs.declared.refusal.Refusal.{Refusal}
+use Rattle.base.specs.Number.{outcome_number}
+use Rattle.base.proofs.Bounds.{number-some}
 use Rattle.compression.specs.declared.Words.{Words}
 use Rattle.sha256.specs.Digest.{digest_of, digest}
-use Rattle.sha256.specs.Portions.{new_hash, digest_answer}
-use Rattle.file_head.specs.Challenge.{challenge_word, challenge_input, big_endian_value, challenge_leaf, challenge_row, challenged}
+use Rattle.sha256.specs.Portions.{new_hash, digest_row, digest_answer}
+use Rattle.file_head.specs.Challenge.{challenge_word, challenge_input, big_endian_value, challenge_leaf}
 
 -- ---- the hash
 
@@ -51,7 +54,16 @@ module _ (edition n : ℕ) (statement root : List ℕ) (i : ℕ) (number b1 b2 b
       (rw (length-big_endian 4 i) (omega arith)))
       ∙ append-nil (statement ++ challenge_word ++ root ++ big_endian 4 i)
 
+-- an answer of number 0 is done
+pub done-ok : {A : Type 0} (o : Result A Refusal) → outcome_number o ≡ 0 → IsOk o
+done-ok (Ok x) e = refl
+done-ok (Err r) e = absurd (omega (arith, number-some r))
+
 -- a message that is not too long is hashed
+pub short-row : (m : List ℕ) → length m ≤ max_hashed → digest_row m ≡ 0
+unfolding digest_row
+short-row m h = rw (lt-leb (max_hashed + 1) (new_hash.taken + length m) (omega arith))
+
 pub short-digest : (m : List ℕ) → length m ≤ max_hashed → digest_answer m ≡ digest m
 unfolding digest_answer
 short-digest m h = rw (lt-leb (max_hashed + 1) (new_hash.taken + length m) (omega arith))
@@ -134,39 +146,27 @@ leaf-bits edition n statement root i word hash h e w =
     (first-bits (digest (challenge_input edition n statement root i)) n
     (digest-split (challenge_input edition n statement root i)) (omega arith))
 
--- reading the number byte by byte
-pub byte_more : (bytes : List ℕ) (i value byte : ℕ) → i < length bytes → value ≡ big_endian_value (take i bytes) → byte ≡ get_or bytes i 0
-    → 256 * value + byte ≡ big_endian_value (take (i + 1) bytes)
+-- the number of eight bytes, one more byte after another
+value_more : (bytes : List ℕ) (i : ℕ) → i < length bytes
+    → big_endian_value (take (suc i) bytes) ≡ 256 * big_endian_value (take i bytes) + get_or bytes i 0
 unfolding big_endian_value
-byte_more bytes i value byte h v b =
-    rw (add-one i, take-suc bytes i 0 h, value-append (take i bytes) (get_or bytes i 0 ∷ []), v, b) (omega arith)
+value_more bytes i h = rw (take-suc bytes i 0 h, value-append (take i bytes) (get_or bytes i 0 ∷ [])) (omega arith)
 
-pub value-fits : (value i : ℕ) → value < 256 ^ i → i < 8 → value < 2 ^ 56
-value-fits value i v h = omega (arith, pow-le-pow_right {n = 256} (omega arith) {i = i} {j = 7} (omega arith))
-
-pub value-below : (value byte i : ℕ) → value < 256 ^ i → byte < 256 → 256 * value + byte < 256 ^ (i + 1)
-value-below value byte i v b = rw (add-one i) (omega arith)
-
--- ---- the row, one law for each return
-abbrev Answers : ℕ → ℕ → List ℕ → List ℕ → ℕ → ℕ → ℕ → Type 0
-Answers edition n statement root i number leaf = (number ≡ challenge_row edition n i) × (leaf ≡ challenged edition n statement root i)
-
-module _ (edition n : ℕ) (statement root : List ℕ) (i : ℕ) where
-  pub edition-refused : no_edition edition ≡ true → Answers edition n statement root i 12 0
-  unfolding challenge_row challenged
-  edition-refused e = (rw e, rw e)
-
-  module _ (e : no_edition edition ≡ false) where
-    pub depth-refused : outside 1 max_depth n ≡ true → Answers edition n statement root i 1 0
-    unfolding challenge_row challenged
-    depth-refused d = (rw (e, d), rw (e, d))
-
-    module _ (d : outside 1 max_depth n ≡ false) where
-      pub number-refused : outside 1 max_challenges i ≡ true → Answers edition n statement root i 8 0
-      unfolding challenge_row challenged
-      number-refused t = (rw (e, d, t), rw (e, d, t))
-
-      pub leaf-answered : (leaf : ℕ) → outside 1 max_challenges i ≡ false → leaf ≡ challenge_leaf edition n statement root i
-          → Answers edition n statement root i 0 leaf
-      unfolding challenge_row challenged
-      leaf-answered leaf t l = (rw (e, d, t), rw (e, d, t) l)
+pub word-value : (bytes : List ℕ) → length bytes ≡ 8 → from_be_bytes w64 bytes ≡ big_endian_value bytes
+unfolding big_endian_value
+word-value bytes n =
+    let more = λ (i : ℕ) (h : i < 8). value_more bytes i (omega arith) in
+    let all : take 8 bytes ≡ bytes = take_all 8 bytes (omega arith) in
+    let value : from_be_bytes w64 bytes ≡ big_endian_value (take 8 bytes) =
+    omega (
+      arith,
+      more 0 (omega arith),
+      more 1 (omega arith),
+      more 2 (omega arith),
+      more 3 (omega arith),
+      more 4 (omega arith),
+      more 5 (omega arith),
+      more 6 (omega arith),
+      more 7 (omega arith),
+    ) in
+    value ∙ ap big_endian_value all

@@ -5,13 +5,13 @@ use mathlib.Core.List.{List}
 use Prim.Native.Nat.{ℕ, ◌+◌, ◌-◌, ◌*◌, ◌≤◌, ◌<◌}
 use native.Mathlib.Nat.{mul-le-mul_right, add_comm}
 use native.Mathlib.Omega.{arith}
-use borrow.Author.Tests.{eq-eqb, ne_eqb, eqb-true, not-true}
+use borrow.Author.Tests.{eqb-true, not-true}
 use lib.Dec.{eqb}
 use lib.ListN.{length, take, drop, get_or}
 use Rattle.base.specs.Limits.{max_edition, max_depth, max_challenges, max_openings, IsEdition, IsDepth, IsCount}
 use Rattle.base.proofs.ChoiceLaws.{both_first, both-second}
 use Rattle.base.specs.Row.{outside, no_edition}
-use Rattle.groups.specs.Reading.{Answer, value, refused, read_at, checked}
+use Rattle.groups.specs.Reading.{Answer, value, read_at, checked}
 use Rattle.groups.proofs.Checked as groups
 use Rattle.groups.proofs.Checked.{Passed, checked_refused, checked-bad, checked-next, refused-some}
 use Rattle.groups.proofs.Sizes.{length-groups-le}
@@ -23,49 +23,17 @@ use Rattle.file_head.specs.HeadSteps.{count_from, depth_from}
 use Rattle.base.proofs.Parts.{part-size}
 use Rattle.base.proofs.Ranges.{range-of}
 
-module _ (bytes : List ℕ) (edition n at : ℕ) where
-  pub count-refused : (r : ℕ) → read_at bytes at 2 ≡ refused r → not_read r ≡ count_from bytes edition n at
-  unfolding count_from
-  count-refused r e = checked_refused not_read (read_at bytes at 2) _ _ _ r e
-
-  pub count-bad : (t end : ℕ) → read_at bytes at 2 ≡ value t end → outside 1 max_challenges t ≡ true → not_read 8 ≡ count_from bytes edition n at
-  unfolding count_from
-  count-bad t end e b = checked-bad not_read (read_at bytes at 2) (outside 1 max_challenges) _ _ t end e b
-
-  pub count-read : (t end : ℕ) → read_at bytes at 2 ≡ value t end → outside 1 max_challenges t ≡ false
-      → numbers edition n t end ≡ count_from bytes edition n at
-  unfolding count_from
-  count-read t end e b = checked-next not_read (read_at bytes at 2) (outside 1 max_challenges) 8 (λ t at. numbers edition n t at) t end e b
-
-module _ (bytes : List ℕ) (edition at : ℕ) where
-  pub depth-refused : (r : ℕ) → read_at bytes at 2 ≡ refused r → not_read r ≡ depth_from bytes edition at
-  unfolding depth_from
-  depth-refused r e = checked_refused not_read (read_at bytes at 2) _ _ _ r e
-
-  pub depth-bad : (n end : ℕ) → read_at bytes at 2 ≡ value n end → outside 1 max_depth n ≡ true → not_read 1 ≡ depth_from bytes edition at
-  unfolding depth_from
-  depth-bad n end e b = checked-bad not_read (read_at bytes at 2) (outside 1 max_depth) _ _ n end e b
-
-  pub depth-read : (n end : ℕ) → read_at bytes at 2 ≡ value n end → outside 1 max_depth n ≡ false
-      → count_from bytes edition n end ≡ depth_from bytes edition at
-  unfolding depth_from
-  depth-read n end e b = checked-next not_read (read_at bytes at 2) (outside 1 max_depth) 1 (count_from bytes edition) n end e b
-
 module _ (bytes : List ℕ) where
   by-steps : head_of bytes ≡ checked not_read (read_at bytes 0 2) no_edition 12 (depth_from bytes)
   unfolding head_of depth_from count_from
   by-steps = refl
 
-  pub edition-refused : (r : ℕ) → read_at bytes 0 2 ≡ refused r → not_read r ≡ head_of bytes
-  edition-refused r e = checked_refused not_read (read_at bytes 0 2) no_edition 12 (depth_from bytes) r e ∙ sym by-steps
-
-  pub edition-bad : (x end : ℕ) → read_at bytes 0 2 ≡ value x end → no_edition x ≡ true → not_read 12 ≡ head_of bytes
-  edition-bad x end e b =
-      checked-bad not_read (read_at bytes 0 2) no_edition 12 (depth_from bytes) x end e b ∙ sym by-steps
-
-  pub edition-read : (x end : ℕ) → read_at bytes 0 2 ≡ value x end → no_edition x ≡ false → depth_from bytes x end ≡ head_of bytes
-  edition-read x end e b =
-      checked-next not_read (read_at bytes 0 2) no_edition 12 (depth_from bytes) x end e b ∙ sym by-steps
+  -- each number read, and within its limits
+  pub head-read : {e n t end end' at : ℕ} → read_at bytes 0 2 ≡ value e end → no_edition e ≡ false
+      → read_at bytes end 2 ≡ value n end' → outside 1 max_depth n ≡ false → read_at bytes end' 2 ≡ value t at
+      → outside 1 max_challenges t ≡ false → numbers e n t at ≡ head_of bytes
+  unfolding head_of
+  head-read first exists second depth third count = rw (first, exists, second, depth, third, count)
 
 -- ---- the numbers of a head that was read
 not-numbers : (edition n t at r : ℕ) → not_read r ≡ numbers edition n t at → ⊥
@@ -139,16 +107,6 @@ opening-inside n t i low high = next (i - 1) (omega arith)
     next j h = omega (arith, mul-le-mul_right {m = j + 1} {n = t} (opening_size n) h)
 
 -- ---- parts
-module _ (bytes : List ℕ) (n t at i : ℕ) where
-  pub other_length : (length bytes ≡ length_from n t at → ⊥) → has_opening bytes n t at i ≡ false
-  other_length d = rw (ne_eqb (length bytes) (length_from n t at) d)
-
-  pub no-opening : length bytes ≡ length_from n t at → outside 1 t i ≡ true → has_opening bytes n t at i ≡ false
-  no-opening e o = rw (eq-eqb (length bytes) (length_from n t at) e, o)
-
-  pub an-opening : length bytes ≡ length_from n t at → outside 1 t i ≡ false → has_opening bytes n t at i ≡ true
-  an-opening e o = rw (eq-eqb (length bytes) (length_from n t at) e, o)
-
 -- an opening's part lies within the bytes
 pub part-inside : (bytes : List ℕ) (i : ℕ) (h : HeadAnswer) → part_start bytes i h + part_length bytes i h ≤ length bytes
 part-inside bytes i (not_read r) = omega arith

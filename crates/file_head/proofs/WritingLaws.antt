@@ -1,18 +1,16 @@
 -- Laws of writing the head: the numbers in their groups, part after part over the front of the output, and all of it by the row's answer.
 use mathlib.Core.Path.{◌≡◌}
-use mathlib.Core.Bool.{false}
 use mathlib.Core.List.{List, ◌++◌}
 use Prim.Native.Nat.{ℕ, ◌+◌, ◌/◌, ◌≤◌, ◌<◌}
 use native.Mathlib.Omega.{arith}
 use lib.ListN.{length, length-append}
 use Rattle.base.specs.Limits.{max_depth, max_challenges}
 use Rattle.base.specs.Bytes.{written}
-use Rattle.base.specs.Row.{is_done}
 use Rattle.base.proofs.WrittenLaws.{written-three}
 use Rattle.groups.specs.Groups.{groups, groups_of, max_groups}
 use Rattle.groups.proofs.Steps.{groups-last, groups-more}
 use Rattle.groups.proofs.Sizes.{groups-same}
-use Rattle.file_head.specs.Layout.{head_numbers, head, head_size, file_size, head_row, head_written}
+use Rattle.file_head.specs.Layout.{head_numbers, head, head_size, file_size}
 use Rattle.file_head.specs.Head.{length_from}
 
 -- ---- a number in at most two groups
@@ -70,13 +68,3 @@ pub head-put : (edition : ℕ) (statement root : List ℕ) (n t : ℕ) (out o1 o
 unfolding head
 head-put edition statement root n t out o1 o2 o3 at s a e1 e2 e3 =
     written-three out (head_numbers edition n t) statement root o1 o2 o3 at (at + 32) e1 e2 e3 a (rw s)
-
--- ---- what writing gives, by the row's answer
-module _ (edition : ℕ) (statement root : List ℕ) (n t : ℕ) (out : List ℕ) where
-  pub head-refused : is_done (head_row edition n t (length out)) ≡ false → out ≡ head_written edition statement root n t out
-  unfolding head_written
-  head-refused e = rw e
-
-  pub head-written : head_row edition n t (length out) ≡ 0 → written out 0 (head edition statement root n t) ≡ head_written edition statement root n t out
-  unfolding head_written
-  head-written e = rw e

@@ -1,14 +1,14 @@
 -- What reading gives back of any bytes: the head's numbers, and the openings as parts of the bytes.
-use Rattle.std.specs.Prelude.{ℕ, ◌+◌, ◌*◌, Bool, not, List, eqb, length, take, drop}
+use Rattle.std.specs.Prelude.{ℕ, ◌+◌, ◌*◌, Bool, not, List, eqb, length, take, drop, Result, Ok, Err}
 use Rattle.base.specs.Choice.{pick, both}
 use Rattle.base.specs.Limits.{max_depth, max_challenges}
+use Rattle.base.specs.declared.refusal.Refusal.{Refusal}
 use Rattle.base.specs.Number.{number_of}
 use Rattle.base.specs.Row.{outside, no_edition}
 use Rattle.groups.specs.Groups.{number_groups}
 use Rattle.groups.specs.Reading.{read_at, checked}
 use Rattle.tree.specs.Openings.{opening_size}
-use Rattle.file_head.specs.declared.HeadNumbers.{HeadNumbers}
-use Rattle.file_head.specs.declared.HeadNumbers.TheVariants.{Numbers, NotRead}
+use Rattle.file_head.specs.declared.sizes.Head.{Head}
 use Rattle.file_head.specs.Layout.{opening_from}
 
 -- what reading a head answers: edition, depth, count and the place after its numbers, or document 01's number of the refusal
@@ -16,9 +16,9 @@ pub data HeadAnswer : Type 0 where
   numbers : ℕ → ℕ → ℕ → ℕ → HeadAnswer
   not_read : ℕ → HeadAnswer
 
-abbrev pub head_answer : HeadNumbers → HeadAnswer
-head_answer (Numbers e n t c) = numbers e n t c.at
-head_answer (NotRead r) = not_read (number_of r)
+abbrev pub head_answer : Result Head Refusal → HeadAnswer
+head_answer (Ok h) = numbers h.edition h.depth h.count h.end
+head_answer (Err r) = not_read (number_of r)
 
 -- a head's refusal, 0 if it is read, and its edition, depth and count, each 0 if it is refused
 abbrev pub head_refusal : HeadAnswer → ℕ

@@ -2,20 +2,13 @@
 #![tactic(auto)]
 
 mod challenges; // challenges.rt: the leaves that are opened
-mod head; // head.rt: the head's numbers read
-mod sizes; // sizes.rt: sizes of a file and its parts
+mod lengths; // lengths.rt: sizes and places by a file's numbers
+mod reading; // reading.rt: the head read
+mod sizes; // sizes.rt: the head's numbers, and the sizes and places that they give
 mod writing; // writing.rt: the head written
 
-use base::Refusal;
-pub use challenges::{Challenged, challenge, challenge_leaf};
-use groups::Cursor;
-pub use head::read_head;
-pub use sizes::{file_length, opening_start};
+pub use challenges::{challenge, challenge_leaf};
+pub use lengths::{file_length, opening_start};
+pub use reading::read_head;
+pub use sizes::Head;
 pub use writing::{file_size, may_write, write_head};
-
-// What reading the head's numbers gives: edition, depth, count and the place after them, or the refusal.
-#[derive(Clone, Copy)]
-pub enum HeadNumbers {
-    Numbers(u64, u64, u64, Cursor),
-    NotRead(Refusal),
-}

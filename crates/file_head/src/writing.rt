@@ -5,18 +5,16 @@ ghost use Rattle.base.specs.Bytes.{written};
 ghost use Rattle.base.specs.Number.{outcome_number};
 ghost use Rattle.file_head.specs.Layout.{head_numbers, head, head_size, file_size, head_row, head_written};
 
-use crate::sizes::file_length;
-use base::{MAX_CHALLENGES, MAX_DEPTH, MAX_EDITION, Outcome, Refusal, beyond, put};
+use crate::challenges::check_numbers;
+use base::{Refusal, put};
 
 // The length of the whole file: edition and depth take a byte each, the count one or two.
 pub fn file_size(n: u64, t: u64) -> usize
     requires { (n ≤ max_depth) × (t ≤ max_challenges) }
     ensures { result ≡ file_size n t }
 {
-    if t < 128 {
-        return file_length(n, t, 3);
-    }
-    file_length(n, t, 4)
+    let numbers = if t < 128 { 3 } else { 4 };
+    numbers + 64 + t as usize * (32 * (n + 1) as usize)
 }
 
 // Writes the three numbers over the front of `out`. Where they end.
@@ -41,25 +39,19 @@ fn put_head(edition: u64, statement: [u8; 32], root: [u8; 32], n: u64, t: u64, o
 }
 
 // The row, for an output of so many bytes.
-pub fn may_write(edition: u64, depth: u64, count: u64, out: usize) -> Outcome
+#[tactic(auto, unfolding(crate::specs::Layout::head_row, crate::specs::Challenge::challenge_row))]
+pub fn may_write(edition: u64, depth: u64, count: u64, out: usize) -> Result<(), Refusal>
     ensures { outcome_number result ≡ head_row edition depth count out }
 {
-    if beyond(MAX_EDITION, edition) {
-        return Outcome::Refused(Refusal::Edition);
-    }
-    if beyond(MAX_DEPTH, depth) {
-        return Outcome::Refused(Refusal::Depth);
-    }
-    if beyond(MAX_CHALLENGES, count) {
-        return Outcome::Refused(Refusal::Count);
-    }
+    check_numbers(edition, depth, count)?;
     if out < file_size(depth, count) {
-        return Outcome::Refused(Refusal::ShortOutput);
+        return Err(Refusal::ShortOutput);
     }
-    Outcome::Done
+    Ok(())
 }
 
-// Writes the head of a file of t openings at depth n.
+// Writes the head of a file of t openings at depth n. Refused, it leaves `out` as it was.
+#[tactic(auto, unfolding(crate::specs::Layout::head_row, crate::specs::Layout::head_written))]
 pub fn write_head(
     edition: u64,
     statement: [u8; 32],
@@ -67,16 +59,11 @@ pub fn write_head(
     depth: u64,
     count: u64,
     out: &mut [u8],
-) -> Outcome
+) -> Result<(), Refusal>
     ensures result_value { outcome_number result ≡ head_row edition depth count (length out.old) }
     ensures out_after { out.new ≡ head_written edition statement root depth count out.old }
 {
-    let checked = may_write(edition, depth, count, out.len());
-    match checked {
-        Outcome::Refused(why) => Outcome::Refused(why),
-        Outcome::Done => {
-            put_head(edition, statement, root, depth, count, out);
-            Outcome::Done
-        }
-    }
+    may_write(edition, depth, count, out.len())?;
+    put_head(edition, statement, root, depth, count, out);
+    Ok(())
 }

@@ -1,13 +1,14 @@
 // The vectors of an edition's chains: each file written from its report and drawn, with a list just long enough, one that is longer and
 // one that is short, and the same chain planned.
-use base::{number, outcome_number};
+use crate::compared::{clash_words, no_inputs};
+use base::{Rejection, number, outcome_number};
 use chain::plan;
 use draw::{Drawing, draw};
 use proof_file::check_file_code;
+use std::alloc::Global;
+use std::io;
 use std::io::Stdout;
-use vector_helpers::{
-    challenged, column, digest_column, hash, most, named, named_hex, places_digest, write_file,
-};
+use vector_helpers::{Hex, Stamping, challenged, decoded, field, hash, places_digest};
 
 // Room for the longest file, and a byte more.
 fn file_space() -> [u8; 83269] {
@@ -19,167 +20,124 @@ fn list_space() -> [u64; 1108] {
     [9u64; 1108]
 }
 
-fn places_line(to: Stdout, list: &[u64]) {
-    named_hex(to, b" ", &places_digest(list));
-    vector_helpers::end(to);
+fn places_line(to: Stdout, list: &[u64]) -> io::Result<()> {
+    println!(to; " {}", Hex(&places_digest(list)))
 }
 
-fn drawing_line(to: Stdout, drawing: Drawing) {
-    match drawing {
-        Drawing::NotDrawn(why, opening) => {
-            named(to, b" refused ", number(why));
-            column(to, opening as u64);
+// What was drawn, and the digests of both inputs; those of zeros where there are none.
+fn drawing_words(to: Stdout, answer: Result<Drawing, Rejection>) -> io::Result<()> {
+    match answer {
+        Ok(Drawing::Clash(clash)) => clash_words(to, &clash),
+        Ok(Drawing::Chain(count)) => {
+            print!(to; " chain {count}")?;
+            no_inputs(to)
         }
-        Drawing::Chain(count) => {
-            named(to, b" chain ", count);
+        Err(rejection) => {
+            print!(to;
+                " refused {} {}",
+                number(rejection.refusal),
+                rejection.opening
+            )?;
+            no_inputs(to)
         }
-        Drawing::Clash(i, j, level) => {
-            named(to, b" clash ", i);
-            column(to, j);
-            column(to, level);
+    }
+}
+
+// What a file is to prove: a statement, with a depth and a number of challenges.
+#[derive(Clone, Copy)]
+struct Wanted {
+    statement: [u8; 32],
+    depth: u64,
+    count: u64,
+}
+
+impl Wanted {
+    // Draws to so many places: the answer, the inputs' digests, and the list afterwards.
+    fn drawn(self, to: Stdout, name: &str, file: &[u8], places: usize) -> io::Result<()> {
+        let mut space = list_space();
+        let Some(list) = space.get_mut(..places) else {
+            return Ok(());
+        };
+        print!(to; "{name}")?;
+        drawing_words(to, draw(file, self.statement, self.depth, self.count, list))?;
+        places_line(to, list)
+    }
+
+    // The file, and what is drawn from it to lists that are long enough, and to shorter ones; then from fewer challenges, and from a file with a
+    // byte changed, which is refused and leaves the list untouched.
+    fn lines(self, to: Stdout, file: &mut [u8], places: usize) -> io::Result<()> {
+        let code = check_file_code(file, self.statement, self.depth, self.count);
+        println!(to; "file {} {} {code}", file.len(), Hex(&hash(file)))?;
+        self.drawn(to, "just enough", file, places)?;
+        self.drawn(to, "more", file, 1108)?;
+        if let Some(short) = places.checked_sub(1) {
+            self.drawn(to, "one short", file, short)?;
         }
+        self.drawn(to, "none", file, 0)?;
+        Wanted { count: 1, ..self }.drawn(to, "not wanted", file, 1108)?;
+        if let Some(byte) = file.get_mut(5000) {
+            *byte ^= 16;
+            self.drawn(to, "changed", file, 1108)?;
+        }
+        Ok(())
     }
 }
 
-// Draws to a list: the answer, the inputs' digests, and the list afterwards.
-fn drawn(
-    to: Stdout,
-    name: &[u8],
-    file: &[u8],
-    statement: [u8; 32],
-    depth: u64,
-    count: u64,
-    list: &mut [u64],
-) {
-    vector_helpers::text(to, name);
-    let drawn = draw(file, statement, depth, count, list);
-    let drawing = drawn.drawing;
-    drawing_line(to, drawing);
-    let first = drawn.first;
-    let second = drawn.second;
-    digest_column(to, &first);
-    digest_column(to, &second);
-    places_line(to, list);
+// Plans the chain of leaves to so many places.
+fn planned(to: Stdout, depth: u64, leaves: &[u64], places: usize) -> io::Result<()> {
+    let mut space = list_space();
+    let Some(list) = space.get_mut(..places) else {
+        return Ok(());
+    };
+    let planned = plan(depth, leaves, list);
+    print!(to;
+        "planned {} {}",
+        outcome_number(planned),
+        planned.unwrap_or(0)
+    )?;
+    places_line(to, list)
 }
 
-// Draws to so many places.
-fn drawn_at(
-    to: Stdout,
-    name: &[u8],
-    file: &[u8],
-    statement: [u8; 32],
-    depth: u64,
-    count: u64,
-    places: usize,
-) {
-    let mut list = list_space();
-    if places <= 1108 {
-        drawn(to, name, file, statement, depth, count, &mut list[..places]);
+// One memory level: the file and the byte behind it, what is drawn from it, and the plan of its leaves.
+fn level(to: Stdout, of: Stamping, count: u64, size: usize, places: usize) -> io::Result<()> {
+    let mut space = file_space();
+    let root = of.write_file(count, &mut space);
+    if let Some(behind) = space.get(size) {
+        println!(to; "vector {} {behind}", of.edition)?;
+        let wanted = Wanted {
+            statement: of.statement,
+            depth: of.depth,
+            count,
+        };
+        wanted.lines(to, &mut space[..size], places)?;
+    }
+    let leaves = challenged(of.edition, of.depth, of.statement, root);
+    match leaves.get(..count as usize) {
+        Some(leaves) => planned(to, of.depth, leaves, places),
+        None => Ok(()),
     }
 }
 
-// Plans the chain of so many leaves to so many places.
-fn planned(to: Stdout, depth: u64, leaves: &[u64], list: &mut [u64]) {
-    vector_helpers::text(to, b"planned");
-    let p = plan(depth, leaves, list);
-    let outcome = p.outcome;
-    column(to, outcome_number(outcome));
-    column(to, p.count);
-    places_line(to, list);
-}
-
-fn planned_at(to: Stdout, depth: u64, leaves: [u64; 200], count: usize, places: usize) {
-    let mut list = list_space();
-    if 200 < count {
-        return;
+pub fn drawn_and_planned(to: Stdout, alloc: Global, edition: u64, line: &str) -> io::Result<()> {
+    let report = decoded(alloc, field(line, 0))?;
+    let statement = hash(&report);
+    let depth = vector_helpers::number(line, 1);
+    let count = vector_helpers::number(line, 2);
+    let size = vector_helpers::number(line, 3) as usize;
+    let places = vector_helpers::number(line, 5) as usize;
+    for memory in [depth.min(12), 8] {
+        level(
+            to,
+            Stamping {
+                edition,
+                statement,
+                depth,
+                memory,
+            },
+            count,
+            size,
+            places,
+        )?;
     }
-    if places <= 1108 {
-        planned(to, depth, &leaves[..count], &mut list[..places]);
-    }
-}
-
-// A file with a byte changed is refused, and the list is untouched.
-fn changed(to: Stdout, file: &mut [u8], statement: [u8; 32], depth: u64, count: u64, at: usize) {
-    if at < file.len() {
-        file[at] = file[at] ^ 16;
-        drawn_at(to, b"changed", file, statement, depth, count, 1108);
-    }
-}
-
-// The file's length, digest and answer.
-fn file_line(to: Stdout, file: &[u8], statement: [u8; 32], depth: u64, count: u64) {
-    named(to, b"file ", file.len() as u64);
-    digest_column(to, file);
-    column(to, check_file_code(file, statement, depth, count));
-    vector_helpers::end(to);
-}
-
-// What is drawn to lists that are long enough, and to shorter ones.
-fn drawings(to: Stdout, file: &[u8], statement: [u8; 32], depth: u64, count: u64, places: usize) {
-    drawn_at(to, b"just enough", file, statement, depth, count, places);
-    drawn_at(to, b"more", file, statement, depth, count, 1108);
-    if 0 < places {
-        drawn_at(to, b"one short", file, statement, depth, count, places - 1);
-    }
-    drawn_at(to, b"none", file, statement, depth, count, 0);
-}
-
-// The file, and what is drawn from it; then from fewer challenges, and from a changed file.
-fn file_lines(
-    to: Stdout,
-    file: &mut [u8],
-    statement: [u8; 32],
-    depth: u64,
-    count: u64,
-    places: usize,
-) {
-    file_line(to, file, statement, depth, count);
-    drawings(to, file, statement, depth, count, places);
-    drawn_at(to, b"not wanted", file, statement, depth, 1, 1108);
-    changed(to, file, statement, depth, count, 5000);
-}
-
-// One memory level.
-fn level(
-    to: Stdout,
-    edition: u64,
-    statement: [u8; 32],
-    depth: u64,
-    memory: u64,
-    count: u64,
-    size: usize,
-    places: usize,
-) {
-    let mut file = file_space();
-    let root = write_file(edition, statement, depth, memory, count, &mut file);
-    if size < 83269 {
-        column(to, base::wide(file[size]));
-        vector_helpers::end(to);
-        file_lines(to, &mut file[..size], statement, depth, count, places);
-    }
-    let leaves = challenged(edition, depth, statement, root);
-    planned_at(to, depth, leaves, count as usize, places);
-}
-
-pub fn drawn_and_planned(to: Stdout, edition: u64, line: &[u8]) {
-    let mut report = [0u8; 64];
-    let length = vector_helpers::decode(vector_helpers::field(line, 0), &mut report);
-    let statement = hash(&report[..length]);
-    let depth = vector_helpers::decimal(vector_helpers::field(line, 1));
-    let count = vector_helpers::decimal(vector_helpers::field(line, 2));
-    let size = vector_helpers::decimal(vector_helpers::field(line, 3)) as usize;
-    let places = vector_helpers::decimal(vector_helpers::field(line, 5)) as usize;
-    named(to, b"vector ", edition);
-    level(
-        to,
-        edition,
-        statement,
-        depth,
-        most(depth),
-        count,
-        size,
-        places,
-    );
-    named(to, b"vector ", edition);
-    level(to, edition, statement, depth, 8, count, size, places);
+    Ok(())
 }

@@ -1,104 +1,93 @@
 // The shared files written again from their reports, at several memory levels and budgets, and checked; and their openings read as
 // parts.
-use crate::checks::answer;
+ghost use Rattle.std.specs.Prelude.{◌≤◌, length};
+
 use crate::parts::every_part;
 use base::{label_at, outcome_number};
+use proof_file::check_file_code;
+use std::alloc::Global;
+use std::io;
 use std::io::Stdout;
-use vector_helpers::{column, digest_column, finished, hash, named};
+use vector_helpers::{Hex, NO_WORK, Stamping, decoded, field, hash, number};
 use writing::Writing;
 
 // Calls with one budget until no label is left, at most 1,000 calls; prints how many made labels, how many they made, and their blocks.
-fn write_on(to: Stdout, writing: Writing, budget: u64, store: &[u8], file: &mut [u8]) {
-    let mut state = writing;
-    let mut labels: u64 = 0;
-    let mut blocks: u64 = 0;
-    let mut calls: u64 = 0;
-    while calls < 1000 {
-        let step = state.advance(budget, store, file);
-        let next = step.writing;
-        state = next;
-        if step.labels == 0 {
-            column(to, calls);
-            column(to, labels);
-            column(to, blocks);
-            return;
+fn write_on(
+    to: Stdout,
+    writing: &mut Writing,
+    budget: u64,
+    store: &[u8],
+    file: &mut [u8],
+) -> io::Result<()> {
+    let mut all = NO_WORK;
+    for calls in 0..1000 {
+        let work = writing.advance(budget, store, file).unwrap_or(NO_WORK);
+        if work.labels == 0 {
+            return print!(to; " {calls} {} {}", all.labels, all.blocks);
         }
-        labels = (labels + step.labels % 1000000) % 1000000000;
-        blocks = (blocks + step.blocks % 1000000) % 1000000000;
-        calls += 1;
+        all.labels = all.labels.wrapping_add(work.labels);
+        all.blocks = all.blocks.wrapping_add(work.blocks);
     }
+    Ok(())
 }
 
 // Writes a file over bytes that held something else, from a store; the digest of all bytes, and the check's answer.
 fn write(
     to: Stdout,
-    edition: u64,
-    statement: [u8; 32],
-    depth: u64,
-    memory: u64,
+    of: Stamping,
     count: u64,
     budget: u64,
     size: usize,
-    store: &[u8; 4064],
-) {
+    store: &[u8],
+) -> io::Result<()>
+    requires { 32 ≤ length store.now }
+{
     let mut file = [90u8; 1024];
     let root = label_at(store, 0);
-    let start = Writing::start(
-        edition, statement, root, depth, memory, count, store, &mut file,
-    );
-    let outcome = start.outcome;
-    named(to, b" start ", outcome_number(outcome));
-    let writing = start.writing;
-    write_on(to, writing, budget, store, &mut file);
-    digest_column(to, &file);
-    answer(to, &file, size, statement, depth, count);
+    let start = Writing::start(of.tree(), root, of.memory, count, store, &mut file);
+    print!(to; " start {}", outcome_number(start))?;
+    match start {
+        Ok(mut writing) => write_on(to, &mut writing, budget, store, &mut file)?,
+        Err(_) => print!(to; " 0 0 0")?,
+    }
+    print!(to; " {}", Hex(&hash(&file)))?;
+    let Some(whole) = file.get(..size) else {
+        return Ok(());
+    };
+    print!(to;
+        " {}",
+        check_file_code(whole, of.statement, of.depth, count)
+    )
 }
 
-fn level(
-    to: Stdout,
-    edition: u64,
-    statement: [u8; 32],
-    depth: u64,
-    memory: u64,
-    count: u64,
-    size: usize,
-) {
-    let store = finished(edition, statement, depth, memory);
-    named(to, b"file ", edition);
-    column(to, depth);
-    column(to, count);
-    column(to, memory);
-    write(
-        to, edition, statement, depth, memory, count, 1, size, &store,
-    );
-    write(
-        to, edition, statement, depth, memory, count, 7, size, &store,
-    );
-    write(
-        to,
-        edition,
-        statement,
-        depth,
-        memory,
-        count,
-        18446744073709551615,
-        size,
-        &store,
-    );
-    vector_helpers::end(to);
+fn level(to: Stdout, of: Stamping, count: u64, size: usize) -> io::Result<()> {
+    let store = of.finished();
+    print!(to; "file {} {} {count} {}", of.edition, of.depth, of.memory)?;
+    for budget in [1, 7, u64::MAX] {
+        write(to, of, count, budget, size, &store)?;
+    }
+    println!(to; "")
 }
 
 // At the smallest memory level, a middle one and the greatest.
-pub fn written(to: Stdout, edition: u64, line: &[u8]) {
-    let mut report = [0u8; 64];
-    let length = vector_helpers::decode(vector_helpers::field(line, 0), &mut report);
-    let statement = hash(&report[..length]);
-    let depth = vector_helpers::decimal(vector_helpers::field(line, 1));
-    let count = vector_helpers::decimal(vector_helpers::field(line, 2));
-    let mut file = [0u8; 1024];
-    let size = vector_helpers::decode(vector_helpers::field(line, 3), &mut file);
-    level(to, edition, statement, depth, 0, count, size);
-    level(to, edition, statement, depth, depth / 2, count, size);
-    level(to, edition, statement, depth, depth, count, size);
-    every_part(to, &file[..size], count);
+pub fn written(to: Stdout, alloc: Global, edition: u64, line: &str) -> io::Result<()> {
+    let report = decoded(alloc, field(line, 0))?;
+    let statement = hash(&report);
+    let depth = number(line, 1);
+    let count = number(line, 2);
+    let file = decoded(alloc, field(line, 3))?;
+    for memory in [0, depth / 2, depth] {
+        level(
+            to,
+            Stamping {
+                edition,
+                statement,
+                depth,
+                memory,
+            },
+            count,
+            file.len(),
+        )?;
+    }
+    every_part(to, &file, count)
 }

@@ -1,31 +1,33 @@
--- Bytes that are all zero, from the first on; and files that a killed run left.
-use mathlib.Core.Path.{◌≡◌, sym, ap, ◌∙◌}
+-- Bytes that are all zero, and bytes that begin as others do, by std's words.
+use mathlib.Core.Path.{◌≡◌, refl, sym, ◌∙◌}
 use mathlib.Core.Bool.{Bool, true, false}
-use mathlib.Core.List.{List, ◌∷◌}
-use Prim.Native.Nat.{ℕ, ◌+◌, ◌≤◌, ◌<◌}
-use native.Mathlib.Numerals.{add-one}
-use lib.ListN.{length, get_or, take, drop, drop_of_length-le}
-use lib.Seq.{drop-cons, take_all}
-use borrow.Author.Tests.{eq-eqb, ne_eqb}
-use Rattle.base.specs.Choice.{every}
+use mathlib.Core.List.{List, [], ◌∷◌}
+use Prim.Native.Nat.{ℕ}
+use lib.Dec.{eqb}
+use lib.Pointwise.{pointwise}
+use Rattle.std.specs.List.{list_all}
+use Rattle.std.specs.Prelude.{◌&&◌}
+use Rattle.base.specs.Choice.{both, every}
 use Rattle.base.specs.Lists.{same_bytes}
+use Rattle.base.proofs.ListsLaws.{tells-bytes, test-same, test-false, test-differ, same_by-pointwise}
 use Rattle.files.specs.LeftOver.{is_blank, left_over}
+use lib.ListN.{length, take}
 
-module _ (bytes : List ℕ) (i : ℕ) where
-  here : i < length bytes → drop i bytes ≡ get_or bytes i 0 ∷ drop (i + 1) bytes
-  here h = rw (add-one i) (drop-cons bytes i 0 h)
+pub every-list_all : (test : ℕ → Bool) (xs : List ℕ) → list_all test xs ≡ every test xs
+unfolding every
+every-list_all test [] = refl
+every-list_all test (x ∷ xs) = and (test x) (every-list_all test xs)
+  where
+    and : {p q : Bool} (t : Bool) → p ≡ q → (t && p) ≡ both t q
+    and true e = e
+    and false e = refl
 
-  pub blank-on : i < length bytes → get_or bytes i 0 ≡ 0 → is_blank (drop i bytes) ≡ is_blank (drop (i + 1) bytes)
-  unfolding every
-  blank-on h e = rw (here h, eq-eqb (get_or bytes i 0) 0 e)
-
-  pub blank-not : i < length bytes → (get_or bytes i 0 ≡ 0 → ⊥) → is_blank (drop i bytes) ≡ false
-  unfolding every
-  blank-not h e = rw (here h, ne_eqb (get_or bytes i 0) 0 e)
-
-  pub blank-end : length bytes ≤ i → is_blank (drop i bytes) ≡ true
-  unfolding every
-  blank-end h = rw (drop_of_length-le bytes h)
+same-turned : (xs ys : List ℕ) → same_bytes xs ys ≡ same_bytes ys xs
+same-turned xs ys = go (same_bytes xs ys) refl
+  where
+    go : (t : Bool) → same_bytes xs ys ≡ t → same_bytes xs ys ≡ same_bytes ys xs
+    go true e = e ∙ sym (test-same tells-bytes ys xs (sym (tells-bytes.equal xs ys e)))
+    go false e = e ∙ sym (test-differ tells-bytes ys xs (λ (h : ys ≡ xs). test-false tells-bytes xs ys e (sym h)))
 
 -- ---- what a killed run left, by what is known of the bytes
 module _ (bytes head : List ℕ) (blank : Bool) (is : blank ≡ is_blank bytes) where
@@ -33,9 +35,7 @@ module _ (bytes head : List ℕ) (blank : Bool) (is : blank ≡ is_blank bytes) 
   unfolding left_over
   left-blank e = rw (← is, e)
 
-  pub left-front : (r : Bool) → blank ≡ false → r ≡ same_bytes (take (length head) bytes) head → r ≡ left_over bytes head
+  pub left-front : (r : Bool) → blank ≡ false → r ≡ pointwise eqb head (take (length head) bytes) → r ≡ left_over bytes head
   unfolding left_over
-  left-front r e f = rw (← is, e) f
-
-  pub left-short : (r : Bool) → blank ≡ false → length bytes ≤ length head → r ≡ same_bytes bytes head → r ≡ left_over bytes head
-  left-short r e few f = left-front r e (f ∙ ap (λ (l : List ℕ). same_bytes l head) (sym (take_all (length head) bytes few)))
+  left-front r e f =
+      rw (← is, e) (f ∙ same_by-pointwise eqb head (take (length head) bytes) ∙ same-turned head (take (length head) bytes))

@@ -1,2 +1,4 @@
 pub mod FolderLaws
+pub mod HashLaws
 pub mod LeftLaws
+pub mod NameLaws

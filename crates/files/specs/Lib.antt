@@ -1,3 +1,3 @@
-pub mod Reads
 pub mod Folder
 pub mod LeftOver
+pub mod Names

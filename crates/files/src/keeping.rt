@@ -1,22 +1,19 @@
 // A proof written over its room, synced, read back, and renamed only when it is whole.
+use crate::Name;
 use crate::folder::sync_folder;
-use crate::names::named;
-use crate::part::{are_same, empty_file, is_free, write_synced};
-use descriptors::{Stream, create, error_number, follows, open_read, read_whole, rename};
-use lines::{complain, complain_of};
+use crate::part::{empty_file, is_free, write_synced};
+use descriptors::{Stream, create, follows, open_read, read_whole, rename};
+use lines::{complain, or_complain};
 use std::fs::File;
+use std::io;
 use std::io::{Seek, SeekFrom};
 use std::rt::Files;
 
 // Whether an open file has these bytes and no more.
 fn holds_bytes(file: &File, bytes: &[u8]) -> bool {
     let mut place = empty_file();
-    let input = read_whole(Stream::File(file), &mut place);
-    let Ok(false) = follows(Stream::File(file)) else {
-        return false;
-    };
-    let size = input.size;
-    are_same(&place[..size], bytes)
+    let size = read_whole(Stream::File(file), &mut place).size;
+    matches!(follows(Stream::File(file)), Ok(false)) && &place[..size] == bytes
 }
 
 // Whether the file of that name has these bytes and no more.
@@ -64,54 +61,27 @@ fn fill_part<R: Files<File = File>>(
 ) -> bool {
     let mut at_start = &file;
     let _ = at_start.seek(SeekFrom::Start(0));
-    match write_synced(&file, bytes) {
-        Ok(()) => is_as_written(rt, &file, part, bytes, err),
-        Err(why) => {
-            complain_of(err, part, error_number(why));
-            false
-        }
-    }
+    or_complain(write_synced(&file, bytes), err, part).is_some()
+        && is_as_written(rt, &file, part, bytes, err)
 }
 
 // Writes the proof under a third name, since the temporary file has it not.
-fn keep_aside<R: Files<File = File>>(rt: &R, name: &[u8], bytes: &[u8], err: Stream<'_>) -> bool {
-    match create(rt, name) {
-        Err(why) => {
-            complain_of(err, name, error_number(why));
-            false
-        }
-        Ok(file) => match write_synced(&file, bytes) {
-            Ok(()) => true,
-            Err(why) => {
-                complain_of(err, name, error_number(why));
-                false
-            }
-        },
-    }
+fn write_aside<R: Files<File = File>>(rt: &R, name: &[u8], bytes: &[u8]) -> io::Result<()> {
+    let file = create(rt, name)?;
+    write_synced(&file, bytes)
 }
 
 fn say_where(name: &[u8], err: Stream<'_>) {
     complain(err, name, b"the finished proof is here")
 }
 
-fn keep_kept<R: Files<File = File>>(rt: &R, name: &[u8], bytes: &[u8], err: Stream<'_>) {
-    if keep_aside(rt, name, bytes, err) {
-        say_where(name, err);
-    }
-}
-
 // Gives the file its name, unless that is taken by now; it stays under its temporary name otherwise.
 fn give_name<R: Files<File = File>>(rt: &R, part: &[u8], proof: &[u8], err: Stream<'_>) -> bool {
-    if !is_free(rt, proof, err) {
+    if !is_free(rt, proof, err) || or_complain(rename(rt, part, proof), err, proof).is_none() {
         say_where(part, err);
         return false;
     }
-    if let Err(why) = rename(rt, part, proof) {
-        complain_of(err, proof, error_number(why));
-        say_where(part, err);
-        return false;
-    }
-    if !sync_folder(rt, proof) {
+    if sync_folder(rt, proof).is_err() {
         complain(
             err,
             proof,
@@ -119,24 +89,6 @@ fn give_name<R: Files<File = File>>(rt: &R, part: &[u8], proof: &[u8], err: Stre
         );
     }
     true
-}
-
-fn keep<R: Files<File = File>>(
-    rt: &R,
-    file: File,
-    part: &[u8],
-    proof: &[u8],
-    bytes: &[u8],
-    err: Stream<'_>,
-) -> bool {
-    if fill_part(rt, file, part, bytes, err) {
-        return give_name(rt, part, proof, err);
-    }
-    let kept = named(proof, b".kept");
-    let text = kept.text;
-    let length = kept.length;
-    keep_kept(rt, &text[..length], bytes, err);
-    false
 }
 
 // Writes the proof over its room, syncs it, renames it and syncs the folder. Answers whether the proof stands under its name;
@@ -148,8 +100,13 @@ pub fn keep_proof<R: Files<File = File>>(
     bytes: &[u8],
     err: Stream<'_>,
 ) -> bool {
-    let part = named(proof, b".part");
-    let text = part.text;
-    let length = part.length;
-    keep(rt, file, &text[..length], proof, bytes, err)
+    let part = Name::beside(proof, b".part");
+    if fill_part(rt, file, part.path(), bytes, err) {
+        return give_name(rt, part.path(), proof, err);
+    }
+    let kept = Name::beside(proof, b".kept");
+    if or_complain(write_aside(rt, kept.path(), bytes), err, kept.path()).is_some() {
+        say_where(kept.path(), err);
+    }
+    false
 }

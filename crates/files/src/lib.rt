@@ -2,6 +2,8 @@
 // be done is told by one line on a stream.
 #![tactic(auto)]
 
+ghost use Rattle.std.specs.Prelude.{◌≤◌};
+
 mod folder; // folder.rt: the folder of a file, synced
 mod keeping; // keeping.rt: the proof written, read back and renamed
 mod lock; // lock.rt: PROOF.lock, so that one run at a time works on a proof
@@ -12,8 +14,19 @@ mod report; // report.rt: the report's statement, hashed in portions
 mod saved; // saved.rt: PROOF.run, the checkpoint
 
 pub use keeping::keep_proof;
-pub use lock::{Holding, hold, release};
+pub use lock::{NotHeld, hold, release};
 pub use part::{empty_file, is_free, make_part};
-pub use proof::{Loaded, load_proof};
+pub use proof::load_proof;
 pub use report::{Stated, is_apart, state_report};
-pub use saved::{There, load_run, may_save, remove_run, save, save_opening, say_of_run};
+pub use saved::{load_run, may_save, remove_run, save, save_opening, say_of_run};
+
+// The most bytes of a path.
+const MAX_PATH: usize = 4095;
+
+// A path: the first `length` bytes of its text. It is no Vec: a proof is kept also where memory has run out.
+#[derive(Clone, Copy)]
+struct Name {
+    text: [u8; MAX_PATH],
+    length: usize,
+    ghost in_room: { length ≤ 4095 },
+}

@@ -1,163 +1,86 @@
 // The report's statement, hashed in portions.
-ghost use Rattle.std.specs.Prelude.{◌≡◌, true, false, not, eqb, take};
-ghost use Rattle.base.specs.Bytes.{zeros};
-ghost use Rattle.base.specs.Choice.{both};
+ghost use Rattle.std.specs.Prelude.{◌≡◌, take, IfOk, OnErr};
 ghost use Rattle.base.specs.Number.{outcome_number};
-ghost use Rattle.sha256.specs.Portions.{update_row, update_state, finish_digest};
-ghost use Rattle.files.specs.Reads.{is_done};
+ghost use Rattle.sha256.specs.Portions.{update_row, update_state, finish_row, finish_digest};
 
-use crate::names::named;
-use crate::part::are_same;
-use base::Outcome;
-use descriptors::{Stream, error_number, open_read, read_once};
-use lines::{complain, complain_of};
+use crate::Name;
+use base::Refusal;
+use descriptors::{Stream, open_read, read};
+use lines::{complain, or_complain};
 use sha256::Hash;
 use std::fs::File;
 use std::io;
 use std::rt::Files;
 
-// Whether the report could be read, how many bytes it has, and its statement.
-#[derive(Clone, Copy)]
+// How many bytes a report has, and its statement.
+#[derive(Clone, Copy, Debug, PartialEq, Eq)]
 pub struct Stated {
-    pub good: bool,
     pub size: u64,
     pub statement: [u8; 32],
 }
 
-// How many bytes a read gave, whether it failed and by which error, and the hash with them.
+// The hash of all that was read, and how many bytes the last read gave.
 #[derive(Clone, Copy)]
-pub struct Portion {
-    pub size: usize,
-    pub failed: bool,
-    pub error: i32,
-    pub outcome: Outcome,
-    pub hash: Hash,
+struct Taken {
+    last: usize,
+    hash: Hash,
 }
 
-// Whether all was hashed, how many bytes the last read gave, the number of its error, and the hash.
-#[derive(Clone, Copy)]
-pub struct Hashed {
-    pub good: bool,
-    pub last: usize,
-    pub error: i32,
-    pub hash: Hash,
+// What a report is told by that has more bytes than can be hashed, or than so many reads give.
+fn too_large() -> io::Error {
+    io::Error::from(io::ErrorKind::FileTooLarge)
 }
 
-// Reads once and hashes what came.
-fn take_portion(from: Stream<'_>, hash: Hash, space: &mut [u8]) -> Portion
-    ensures outcome_value { outcome_number result.outcome ≡ update_row hash (take result.size space.new) }
-    ensures hash_value { result.hash ≡ update_state hash (take result.size space.new) }
+// Reads once, hashes what came, and answers how many bytes that was.
+fn take_portion(from: Stream<'_>, hash: &mut Hash, space: &mut [u8]) -> io::Result<usize>
+    ensures hashed { IfOk result (λ size. (update_row hash.old (take size space.new) ≡ 0) × (hash.new ≡ update_state hash.old (take size space.new))) }
+    ensures failed { OnErr result (hash.new ≡ hash.old) }
 {
-    let given = read_once(from, space);
-    let size = given.size;
-    let updated = hash.update(&space[..size]);
-    let outcome = updated.outcome;
-    let next = updated.hash;
-    Portion {
-        size,
-        failed: given.failed,
-        error: given.error,
-        outcome,
-        hash: next,
+    let size = read(from, space)?;
+    match hash.update(&space[..size]) {
+        Ok(()) => Ok(size),
+        Err(_) => Err(too_large()),
     }
 }
 
-// Whether a portion came and was hashed, so that more may come.
-fn goes_on(size: usize, outcome: Outcome) -> bool
-    ensures { result ≡ both (not (eqb size 0)) (is_done outcome) }
-{
-    if size == 0 {
-        return false;
-    }
-    match outcome {
-        Outcome::Refused(_) => false,
-        Outcome::Done => true,
-    }
-}
-
-// All is hashed if the last read gave nothing and did not fail.
-fn is_all(size: usize, failed: bool) -> bool
-    ensures { result ≡ both (eqb size 0) (not failed) }
-{
-    if size != 0 {
-        return false;
-    }
-    !failed
-}
-
-// Hashes until a read gives nothing, in at most 2^64 − 1 portions; good only if that read found the end.
-fn take_all(from: Stream<'_>) -> Hashed
-    ensures { result.good ≡ true → result.last ≡ 0 }
+// Hashes until a read gives nothing, in at most 2^64 − 1 portions.
+fn take_all(from: Stream<'_>) -> io::Result<Taken>
+    ensures { IfOk result (λ taken. taken.last ≡ 0) }
 {
     let mut space = [0u8; 65536];
     let mut hash = Hash::new();
-    let mut turns = u64::MAX;
-    while 0 < turns {
-        let portion = take_portion(from, hash, &mut space);
-        let next = portion.hash;
-        let last = portion.size;
-        hash = next;
-        let outcome = portion.outcome;
-        if !goes_on(last, outcome) {
-            let good = is_all(last, portion.failed);
-            let error = portion.error;
-            return Hashed {
-                good,
-                last,
-                error,
-                hash,
-            };
+    for _ in 0..u64::MAX {
+        let last = take_portion(from, &mut hash, &mut space)?;
+        if last == 0 {
+            return Ok(Taken { last, hash });
         }
-        turns -= 1;
     }
-    Hashed {
-        good: false,
-        last: 0,
-        error: 0,
-        hash,
-    }
-}
-
-fn not_stated() -> Stated
-    ensures { (result.good ≡ false) × (result.size ≡ 0) × (result.statement ≡ zeros 32) }
-{
-    let statement = [0u8; 32];
-    Stated {
-        good: false,
-        size: 0,
-        statement,
-    }
-}
-
-// Whether the report is standard input.
-fn is_input(path: &[u8]) -> bool {
-    are_same(path, b"-")
+    Err(too_large())
 }
 
 // The statement of all that was taken.
-fn state(hash: Hash) -> Stated
-    ensures { (result.good ≡ true) × (result.size ≡ hash.taken) × (result.statement ≡ finish_digest hash) }
+fn statement_of(hash: &Hash) -> Result<Stated, Refusal>
+    ensures outcome_value { outcome_number result ≡ finish_row hash.now }
+    ensures stated { IfOk result (λ s. (s.size ≡ hash.now.taken) × (s.statement ≡ finish_digest hash.now)) }
 {
-    let finished = hash.finish();
-    let statement = finished.digest;
-    Stated {
-        good: true,
+    let statement = hash.finish()?.digest;
+    Ok(Stated {
         size: hash.taken,
         statement,
-    }
+    })
+}
+
+fn state(from: Stream<'_>) -> io::Result<Stated> {
+    let taken = take_all(from)?;
+    statement_of(&taken.hash).map_err(|_| too_large())
 }
 
 // A report open for reading; none is opened for `-`, which is standard input.
 fn open_report<R: Files<File = File>>(rt: &R, path: &[u8]) -> io::Result<Option<File>> {
-    if is_input(path) {
+    if path == b"-".as_slice() {
         return Ok(None);
     }
     Ok(Some(open_read(rt, path)?))
-}
-
-// Closes a report; standard input stays as it is.
-fn close_report(opened: Option<File>) {
-    drop(opened);
 }
 
 // The stream that a report is read from.
@@ -168,28 +91,12 @@ fn stream_of<'a>(opened: &'a Option<File>, input: Stream<'a>) -> Stream<'a> {
     }
 }
 
-// Whether an open file is one of those that a seal writes beside its proof.
-fn is_beside<R: Files<File = File>>(rt: &R, open: Stream<'_>, proof: &[u8], ending: &[u8]) -> bool {
-    let name = named(proof, ending);
-    let text = name.text;
-    let length = name.length;
-    descriptors::names(rt, open, &text[..length])
-}
+// The endings of the files that a seal writes beside its proof.
+const ENDINGS: [&[u8]; 5] = [b".part", b".run", b".new", b".lock", b".kept"];
 
+// Whether an open file is one of those that a seal writes beside its proof.
 fn is_own<R: Files<File = File>>(rt: &R, open: Stream<'_>, proof: &[u8]) -> bool {
-    if is_beside(rt, open, proof, b".part") {
-        return true;
-    }
-    if is_beside(rt, open, proof, b".run") {
-        return true;
-    }
-    if is_beside(rt, open, proof, b".new") {
-        return true;
-    }
-    if is_beside(rt, open, proof, b".lock") {
-        return true;
-    }
-    is_beside(rt, open, proof, b".kept")
+    ENDINGS.iter().any(|ending| descriptors::names(rt, open, Name::beside(proof, ending).path()))
 }
 
 // Whether the report is no file that a seal of this proof writes; by whatever name it is reached. `input` is standard input.
@@ -200,47 +107,27 @@ pub fn is_apart<R: Files<File = File>>(
     input: Stream<'_>,
     err: Stream<'_>,
 ) -> bool {
-    match open_report(rt, path) {
-        Err(why) => {
-            complain_of(err, path, error_number(why));
-            false
-        }
-        Ok(opened) => {
-            let own = is_own(rt, stream_of(&opened, input), proof);
-            close_report(opened);
-            if own {
-                complain(
-                    err,
-                    path,
-                    b"the report is a file that sealing this proof writes; give the proof another name",
-                );
-            }
-            !own
-        }
+    let Some(opened) = or_complain(open_report(rt, path), err, path) else {
+        return false;
+    };
+    let own = is_own(rt, stream_of(&opened, input), proof);
+    if own {
+        complain(
+            err,
+            path,
+            b"the report is a file that sealing this proof writes; give the proof another name",
+        );
     }
+    !own
 }
 
-// The statement of a report, hashed in portions. `input` is standard input.
+// The statement of a report, hashed in portions, or none, and a line that tells why. `input` is standard input.
 pub fn state_report<R: Files<File = File>>(
     rt: &R,
     path: &[u8],
     input: Stream<'_>,
     err: Stream<'_>,
-) -> Stated {
-    match open_report(rt, path) {
-        Err(why) => {
-            complain_of(err, path, error_number(why));
-            not_stated()
-        }
-        Ok(opened) => {
-            let hashed = take_all(stream_of(&opened, input));
-            close_report(opened);
-            if !hashed.good {
-                complain_of(err, path, hashed.error);
-                return not_stated();
-            }
-            let hash = hashed.hash;
-            state(hash)
-        }
-    }
+) -> Option<Stated> {
+    let opened = or_complain(open_report(rt, path), err, path)?;
+    or_complain(state(stream_of(&opened, input)), err, path)
 }

@@ -1,82 +1,64 @@
 // PROOF.run: the checkpoint. A new one is written as PROOF.new, synced and renamed, so that a whole one is there at every moment.
+ghost use Rattle.std.specs.Prelude.{IfOk, IfSome};
+ghost use Rattle.descriptors.specs.Counts.{IsPrefixLen};
+
+use crate::Name;
 use crate::folder::sync_folder;
-use crate::names::{named, remove};
-use crate::part::{is_blank, is_left_over, look};
+use crate::names::remove;
+use crate::part::{is_blank, is_left_over};
 use descriptors::{
-    Stream, error_number, open_append, open_overwrite, open_read, read_once, read_whole, rename,
-    write_all,
+    Stream, exists, open_append, open_overwrite, open_read, read, read_whole, rename, write_all,
 };
-use lines::{Line, complain, complain_line, complain_of};
+use lines::{Line, complain, complain_line, complain_of, or_complain};
 use std::fs::File;
 use std::io;
 use std::rt::Files;
 
-// What is there of a checkpoint: none, its bytes, or something that cannot be read.
-#[derive(Clone, Copy)]
-pub enum There {
-    Nothing,
-    Bytes(usize),
-    Unread,
-}
-
 // Whether the rest of an open file has no byte but zeros, in at most so many reads as any checkpoint takes.
 fn rest_is_blank(open: Stream<'_>) -> bool {
-    let mut turns: u64 = 1000000;
-    while 0 < turns {
+    for _ in 0..1000000 {
         let mut place = [0u8; 4096];
-        let given = read_once(open, &mut place);
-        let size = given.size;
-        if size == 0 {
-            return !given.failed;
+        match read(open, &mut place) {
+            Ok(0) => return true,
+            Ok(size) if is_blank(&place[..size]) => {}
+            _ => return false,
         }
-        if !is_blank(&place[..size]) {
-            return false;
-        }
-        turns -= 1;
     }
     false
 }
 
 fn is_open_ours(open: Stream<'_>, mark: &[u8]) -> bool {
     let mut place = [0u8; 4096];
-    let input = read_whole(open, &mut place);
-    let size = input.size;
+    let size = read_whole(open, &mut place).size;
     if is_blank(&place[..size]) {
-        return rest_is_blank(open);
+        rest_is_blank(open)
+    } else {
+        is_left_over(&place[..size], mark)
     }
-    is_left_over(&place[..size], mark)
 }
 
 // Whether PROOF.new is free, or left by a killed run: blank, or with the mark of a checkpoint.
 fn is_new_ours<R: Files<File = File>>(rt: &R, path: &[u8], mark: &[u8], err: Stream<'_>) -> bool {
-    if let Ok(false) = look(rt, path) {
+    if let Ok(false) = exists(rt, path) {
         return true;
     }
-    match open_read(rt, path) {
-        Err(why) => {
-            complain_of(err, path, error_number(why));
-            false
-        }
-        Ok(file) => {
-            let ours = is_open_ours(Stream::File(&file), mark);
-            if !ours {
-                complain(
-                    err,
-                    path,
-                    b"there already, and no checkpoint; it is not overwritten",
-                );
-            }
-            ours
-        }
+    let Some(file) = or_complain(open_read(rt, path), err, path) else {
+        return false;
+    };
+    let ours = is_open_ours(Stream::File(&file), mark);
+    if !ours {
+        complain(
+            err,
+            path,
+            b"there already, and no checkpoint; it is not overwritten",
+        );
     }
+    ours
 }
 
 // Whether checkpoints can be written beside this proof.
 pub fn may_save<R: Files<File = File>>(rt: &R, proof: &[u8], mark: &[u8], err: Stream<'_>) -> bool {
-    let name = named(proof, b".new");
-    let text = name.text;
-    let length = name.length;
-    is_new_ours(rt, &text[..length], mark, err)
+    is_new_ours(rt, Name::beside(proof, b".new").path(), mark, err)
 }
 
 // A file with these bytes, on the disk.
@@ -92,26 +74,6 @@ fn write_new<R: Files<File = File>>(
     file.sync_all()
 }
 
-fn save_as<R: Files<File = File>>(
-    rt: &R,
-    new: &[u8],
-    run: &[u8],
-    bytes: &[u8],
-    openings: &[u8],
-    err: Stream<'_>,
-) -> bool {
-    if let Err(why) = write_new(rt, new, bytes, openings) {
-        complain_of(err, new, error_number(why));
-        let _ = descriptors::remove(rt, new);
-        return false;
-    }
-    if let Err(why) = rename(rt, new, run) {
-        complain_of(err, run, error_number(why));
-        return false;
-    }
-    sync_folder(rt, run)
-}
-
 // A checkpoint and the openings that are finished, in place of the one before.
 pub fn save<R: Files<File = File>>(
     rt: &R,
@@ -120,32 +82,25 @@ pub fn save<R: Files<File = File>>(
     openings: &[u8],
     err: Stream<'_>,
 ) -> bool {
-    let new = named(proof, b".new");
-    let run = named(proof, b".run");
-    let from = new.text;
-    let from_length = new.length;
-    let to = run.text;
-    let to_length = run.length;
-    save_as(
-        rt,
-        &from[..from_length],
-        &to[..to_length],
-        bytes,
-        openings,
-        err,
-    )
+    let new = Name::beside(proof, b".new");
+    let run = Name::beside(proof, b".run");
+    let written = write_new(rt, new.path(), bytes, openings);
+    if or_complain(written, err, new.path()).is_none() {
+        let _ = descriptors::remove(rt, new.path());
+        return false;
+    }
+    let renamed = rename(rt, new.path(), run.path());
+    or_complain(renamed, err, run.path()).is_some() && sync_folder(rt, run.path()).is_ok()
 }
 
-fn append<R: Files<File = File>>(rt: &R, path: &[u8], bytes: &[u8], sync: bool) -> bool {
-    let Ok(file) = open_append(rt, path) else {
-        return false;
-    };
-    let written = write_all(Stream::File(&file), bytes).is_ok();
-    if !sync {
-        return written;
+fn append<R: Files<File = File>>(rt: &R, path: &[u8], bytes: &[u8], sync: bool) -> io::Result<()> {
+    let file = open_append(rt, path)?;
+    let written = write_all(Stream::File(&file), bytes);
+    // What was written before a failure is synced too.
+    if sync {
+        file.sync_all()?;
     }
-    let synced = file.sync_all().is_ok();
-    written && synced
+    written
 }
 
 // One opening more behind the checkpoint.
@@ -155,46 +110,36 @@ pub fn save_opening<R: Files<File = File>>(
     opening: &[u8],
     sync: bool,
 ) -> bool {
-    let name = named(proof, b".run");
-    let text = name.text;
-    let length = name.length;
-    append(rt, &text[..length], opening, sync)
+    append(rt, Name::beside(proof, b".run").path(), opening, sync).is_ok()
 }
 
-// The bytes of a checkpoint that is there.
-fn load_file(file: &File, path: &[u8], place: &mut [u8], err: Stream<'_>) -> There {
-    let input = read_whole(Stream::File(file), place);
-    if input.failed {
-        complain_of(err, path, input.error);
-        return There::Unread;
+// How many bytes the file of that name has, if one is there.
+fn load<R: Files<File = File>>(rt: &R, path: &[u8], place: &mut [u8]) -> io::Result<Option<usize>>
+    ensures { IfOk result (λ there. IfSome there (λ size. IsPrefixLen size place.new)) }
+{
+    if let Ok(false) = exists(rt, path) {
+        return Ok(None);
     }
-    There::Bytes(input.size)
-}
-
-fn load_at<R: Files<File = File>>(rt: &R, path: &[u8], place: &mut [u8], err: Stream<'_>) -> There {
-    if let Ok(false) = look(rt, path) {
-        return There::Nothing;
-    }
-    match open_read(rt, path) {
-        Ok(file) => load_file(&file, path, place, err),
-        Err(why) => {
-            complain_of(err, path, error_number(why));
-            There::Unread
-        }
+    let file = open_read(rt, path)?;
+    let input = read_whole(Stream::File(&file), place);
+    match input.failure {
+        Some(why) => Err(why),
+        None => Ok(Some(input.size)),
     }
 }
 
-// Reads PROOF.run into a place that holds any checkpoint. What stands behind so many bytes is none of it.
+// Reads PROOF.run, if it is there, into a place that holds any checkpoint; what stands behind so many bytes is none of it. An error has been
+// told by a line.
 pub fn load_run<R: Files<File = File>>(
     rt: &R,
     proof: &[u8],
     place: &mut [u8],
     err: Stream<'_>,
-) -> There {
-    let name = named(proof, b".run");
-    let text = name.text;
-    let length = name.length;
-    load_at(rt, &text[..length], place, err)
+) -> io::Result<Option<usize>>
+    ensures { IfOk result (λ there. IfSome there (λ size. IsPrefixLen size place.new)) }
+{
+    let name = Name::beside(proof, b".run");
+    load(rt, name.path(), place).inspect_err(|why| complain_of(err, name.path(), *why))
 }
 
 // Removes the checkpoint, when the proof stands under its name.
@@ -204,9 +149,6 @@ pub fn remove_run<R: Files<File = File>>(rt: &R, proof: &[u8]) {
 }
 
 // A line on PROOF.run.
-pub fn say_of_run(proof: &[u8], what: Line, err: Stream<'_>) {
-    let name = named(proof, b".run");
-    let text = name.text;
-    let length = name.length;
-    complain_line(err, &text[..length], what)
+pub fn say_of_run(proof: &[u8], what: &Line, err: Stream<'_>) {
+    complain_line(err, Name::beside(proof, b".run").path(), what)
 }

@@ -1,15 +1,17 @@
 -- What one byte does: laws of `groups` and `read_from`, one for each way on, and the bounds that go with them.
 use mathlib.Core.Path.{◌≡◌, refl, sym}
 use mathlib.Core.Bool.{Bool, true, false}
+use mathlib.Core.Logic.{⊎_elim}
 use mathlib.Core.List.{List, [], ◌∷◌}
 use Prim.Native.Nat.{ℕ, zero, suc, ◌+◌, ◌*◌, ◌/◌, ◌%◌, ◌^◌, ◌≤◌, ◌<◌}
 use native.Mathlib.Nat.{mul-le-mul_right, pow-le-pow_right}
 use native.Mathlib.Numerals.{add-one}
 use native.Mathlib.Omega.{arith}
-use borrow.Author.Tests.{lt-ltb, le-ltb, le-leb, lt-leb, ltb-true, ltb-false, ne_eqb}
+use borrow.Author.Tests.{lt-ltb, le-ltb, le-leb, lt-leb, ltb-true, ne_eqb}
 use lib.Dec.{ltb, leb, eqb}
 use lib.ListN.{length, get_or}
 use Rattle.base.specs.Choice.{pick, both}
+use Rattle.base.proofs.ChoiceLaws.{lt-or-le}
 use Rattle.base.specs.Row.{either}
 use Rattle.groups.specs.Groups.{groups}
 use Rattle.groups.specs.Reading.{Answer, value, refused, ended, read_from, read_at}
@@ -56,40 +58,61 @@ module _ (bytes : List ℕ) (at i low left next byte weight : ℕ) (n : left ≡
 pub small : (x : ℕ) → x < 128 → x % 128 ≡ x
 small x h = omega arith
 
--- a tenth byte, the last that is allowed, whatever it is
-pub read-tenth : (bytes : List ℕ) (at i low left byte : ℕ) → i ≡ 9 → left ≡ 1 → at < length bytes → byte ≡ get_or bytes at 0
-    → read_from bytes at i low left ≡ ended byte 9 (low + byte * 2 ^ 63) (at + 1)
-unfolding read_from ended
-read-tenth bytes at i low left byte nine one here b = rw (nine, one) (cases (ltb byte 128) refl)
+-- a last byte that is the only one, and one that is not 0
+pub ended-first : (byte i x end : ℕ) → i ≤ 0 → x < 2 ^ 64 → ended byte i x end ≡ value x end
+unfolding ended
+ended-first byte i x end only fits = rw (le-ltb 0 i only, lt-leb (2 ^ 64) x fits) (cases (eqb byte 0))
   where
-    cases : (t : Bool) → ltb byte 128 ≡ t → read_from bytes at 9 low 1 ≡ ended byte 9 (low + byte * 2 ^ 63) (at + 1)
-    cases true e =
-        let h : byte < 128 = ltb-true byte 128 e in
-        rw (← b, lt-leb (length bytes) at here, e, small byte h)
-    cases false e =
-        let h : 128 ≤ byte = ltb-false byte 128 e in
-        rw (← b, lt-leb (length bytes) at here, e, ne_eqb byte 0 (omega arith), le-leb (2 ^ 64) (low + byte * 2 ^ 63) (omega arith))
+    cases : (t : Bool) → pick (either (both t false) false) (refused 11) (value x end) ≡ value x end
+    cases true = refl
+    cases false = refl
 
--- of the tenth bytes only 1 ends a number
-pub tenth-one : (byte low end : ℕ) → low < 2 ^ 63 → byte ≡ 1 → value (low + 2 ^ 63) end ≡ ended byte 9 (low + byte * 2 ^ 63) end
+pub ended-some : (byte i x end : ℕ) → (byte ≡ 0 → ⊥) → x < 2 ^ 64 → ended byte i x end ≡ value x end
 unfolding ended
-tenth-one byte low end h e = rw (e, lt-leb (2 ^ 64) (low + 2 ^ 63) (omega arith))
+ended-some byte i x end some fits = rw (ne_eqb byte 0 some, lt-leb (2 ^ 64) x fits)
 
-pub tenth-other : (byte low end : ℕ) → (byte ≡ 1 → ⊥) → refused 11 ≡ ended byte 9 (low + byte * 2 ^ 63) end
-unfolding ended
-tenth-other zero low end d = refl
-tenth-other (suc byte) low end d = rw (ne_eqb (suc byte) 0 (omega arith), le-leb (2 ^ 64) (low + suc byte * 2 ^ 63) (omega arith))
+-- a tenth group that does not fit, the last that is allowed, and a last byte of 0 after others
+module _ (bytes : List ℕ) (at i low left byte : ℕ) (here : at < length bytes) (b : byte ≡ get_or bytes at 0) where
+  pub read_over : i ≡ 9 → left ≡ 1 → 2 ^ 64 ≤ byte % 128 * 128 ^ i → refused 11 ≡ read_from bytes at i low left
+  unfolding read_from ended
+  read_over nine one over = rw (nine, one, ← b, lt-leb (length bytes) at here) (cases (ltb byte 128) refl)
+    where
+      cases : (t : Bool) → ltb byte 128 ≡ t → refused 11 ≡ pick (ltb byte 128) (ended byte 9 (low + byte % 128 * 128 ^ 9) (at + 1)) (refused 11)
+      cases true e =
+          let h : byte < 128 = ltb-true byte 128 e in
+          let most : 2 ^ 64 ≤ byte % 128 * 128 ^ 9 = rw nine at over in
+          rw (e, ne_eqb byte 0 (omega arith), le-leb (2 ^ 64) (low + byte % 128 * 128 ^ 9) (omega arith))
+      cases false e = rw e
 
 -- a group added to what is read stays below the next weight
 pub added-below : (byte low weight : ℕ) → low < weight → low + byte % 128 * weight < weight * 128
 added-below byte low weight h = omega (arith, mul-le-mul_right {m = byte % 128} {n = 127} weight (omega arith))
 
 -- the weight of one of ten groups, and of one of the first nine
-pub weight-of-ten : (weight i : ℕ) → weight ≡ 128 ^ i → i < 10 → weight ≤ 2 ^ 63
-weight-of-ten weight i w h = rw w (pow-le-pow_right {n = 128} (omega arith) {i = i} {j = 9} (omega arith))
+pub weight-of-ten : (i : ℕ) → i < 10 → 128 ^ i ≤ 2 ^ 63
+weight-of-ten i h = pow-le-pow_right {n = 128} (omega arith) {i = i} {j = 9} (omega arith)
 
-pub weight-le : (weight i : ℕ) → weight ≡ 128 ^ i → i < 9 → weight ≤ 2 ^ 56
-weight-le weight i w h = rw w (pow-le-pow_right {n = 128} (omega arith) {i = i} {j = 8} (omega arith))
+pub weight-le : (i : ℕ) → i < 9 → 128 ^ i ≤ 2 ^ 56
+weight-le i h = pow-le-pow_right {n = 128} (omega arith) {i = i} {j = 8} (omega arith)
+
+-- a group that does not fit is a tenth, and one that fits may be added
+pub over-tenth : (byte i : ℕ) → i < 10 → 2 ^ 64 ≤ byte % 128 * 128 ^ i → i ≡ 9
+over-tenth byte i h over =
+    ⊎_elim
+    (λ few. absurd (omega (
+      arith,
+      weight-le i few,
+      mul-le-mul_right {m = byte % 128} {n = 127} (128 ^ i) (omega arith),
+      mul-le-mul_right {m = 128 ^ i} {n = 2 ^ 56} 127 (weight-le i few),
+    ))) (λ nine. omega arith) (lt-or-le i 9)
+
+pub sum_fits : (byte low i : ℕ) → i < 10 → low < 128 ^ i → byte % 128 * 128 ^ i < 2 ^ 64 → low + byte % 128 * 128 ^ i < 2 ^ 64
+sum_fits byte low i h l fits =
+    ⊎_elim (λ few. omega (arith, added-below byte low (128 ^ i) l, weight-le i few))
+    (λ nine. let e : i ≡ 9 = omega arith in tenth (rw e at l) (rw e at fits) e) (lt-or-le i 9)
+  where
+    tenth : low < 128 ^ 9 → byte % 128 * 128 ^ 9 < 2 ^ 64 → i ≡ 9 → low + byte % 128 * 128 ^ i < 2 ^ 64
+    tenth l fits e = rw e (omega arith)
 
 pub next-weight : (weight i : ℕ) → weight ≡ 128 ^ i → weight * 128 ≡ 128 ^ (i + 1)
 next-weight weight i w = rw (w, add-one i) (omega arith)

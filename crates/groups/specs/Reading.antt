@@ -1,19 +1,19 @@
 -- Document 01's row 'File, each number in turn': '10: bytes end; 11: last of several bytes 0, or the last allowed byte above 127'.
-use Rattle.std.specs.Prelude.{ℕ, zero, suc, ◌+◌, ◌*◌, ◌%◌, ◌^◌, Bool, List, ltb, leb, eqb, length, get_or}
+use Rattle.std.specs.Prelude.{ℕ, zero, suc, ◌+◌, ◌*◌, ◌%◌, ◌^◌, Bool, List, ltb, leb, eqb, length, get_or, Result, Ok, Err}
 use Rattle.base.specs.Choice.{pick, both}
 use Rattle.base.specs.Number.{number_of}
 use Rattle.base.specs.Row.{either}
+use Rattle.base.specs.declared.refusal.Refusal.{Refusal}
 use Rattle.groups.specs.declared.Number.{Number}
-use Rattle.groups.specs.declared.Number.TheVariants.{Value, Refused}
 
 -- what reading a number answers: its value and the place after it, or document 01's number of the refusal
 pub data Answer : Type 0 where
   value : ℕ → ℕ → Answer
   refused : ℕ → Answer
 
-abbrev pub answer_of : Number → Answer
-answer_of (Value x c) = value x c.at
-answer_of (Refused r) = refused (number_of r)
+abbrev pub answer_of : Result Number Refusal → Answer
+answer_of (Ok number) = value number.value number.end
+answer_of (Err r) = refused (number_of r)
 
 -- A number's last byte, after i others, with the number's value and its end. The last of several bytes is not 0; and no number
 -- is over 2^64 − 1, which only a tenth byte above 1 would make.

@@ -1,111 +1,70 @@
 // Numbers in seven-bit groups, read at a place of the caller's bytes and written there.
 #![tactic(auto)]
 
-ghost use Rattle.std.specs.Prelude.{◌≡◌, ◌+◌, ◌*◌, ◌^◌, ◌<◌, ◌≤◌, min, leb, length, take};
+ghost use Rattle.std.specs.Prelude.{◌≡◌, ◌+◌, ◌≤◌, min, length, take};
+ghost use Rattle.std.specs.Result.{result_unwrap_or};
 ghost use Rattle.base.specs.Bytes.{written};
 ghost use Rattle.base.specs.Number.{outcome_number};
 ghost use Rattle.groups.specs.Groups.{groups_of, max_groups};
-ghost use Rattle.groups.specs.Reading.{answer_of, ended, read_at};
+ghost use Rattle.groups.specs.Reading.{answer_of, read_at};
 ghost use Rattle.groups.specs.Writing.{put_row, put_count, output_after};
 
-use base::{Outcome, Refusal, wide};
+use base::Refusal;
 
 // The most groups of a number of a file, and of a run's record but for its labels made (specs/Groups.antt).
 pub const NUMBER_GROUPS: usize = 2;
 
-// A place in the caller's bytes.
-#[derive(Clone, Copy)]
-pub struct Cursor {
-    pub at: usize,
+// The most groups of any number: ten hold every number of 64 bits.
+const MAX_GROUPS: usize = 10;
+
+// A number that was read, and the place after it.
+#[derive(Clone, Copy, Debug, PartialEq, Eq)]
+pub struct Number {
+    pub value: u64,
+    pub end: usize,
 }
 
-// What reading a number gives: its value and the place after it, or the refusal.
-#[derive(Clone, Copy)]
-pub enum Number {
-    Value(u64, Cursor),
-    Refused(Refusal),
-}
-
-// What writing a number gives: done with the count of bytes written, or refused with 0.
-#[derive(Clone, Copy)]
-pub struct Put {
-    pub outcome: Outcome,
-    pub count: usize,
-}
-
-// A number's groups: the first `count` of ten bytes.
+// A number's groups: the first `count` of ten bytes, in fixed memory.
 #[derive(Clone, Copy)]
 struct Laid {
-    bytes: [u8; 10],
+    bytes: [u8; MAX_GROUPS],
     count: usize,
-}
-
-// How many groups may be read.
-fn allowed(most: usize) -> usize
-    ensures { result ≡ min most max_groups }
-{
-    if most < 10 { most } else { 10 }
-}
-
-// The number that ends with this byte, after i others. The last of several is not 0.
-fn last(byte: u64, i: usize, value: u64, end: usize) -> Number
-    ensures { answer_of result ≡ ended byte i value end }
-{
-    if byte == 0 {
-        if 0 < i {
-            return Number::Refused(Refusal::NotShortest);
-        }
-    }
-    Number::Value(value, Cursor { at: end })
-}
-
-// The number that ends with a tenth byte. It is 1, since the last of several is not 0 and more would not fit 64 bits.
-fn tenth(byte: u64, low: u64, end: usize) -> Number
-    requires { low < 2 ^ 63 }
-    ensures { answer_of result ≡ ended byte 9 (low + byte * 2 ^ 63) end }
-{
-    if byte == 1 {
-        return Number::Value(low + 9223372036854775808, Cursor { at: end });
-    }
-    Number::Refused(Refusal::NotShortest)
 }
 
 // Reads the number at a place, of at most `most` groups, and of no more than ten, which hold every number of 64 bits.
 // A place past the end is refused as bytes that end are.
-pub fn read(bytes: &[u8], from: Cursor, most: usize) -> Number
-    ensures { answer_of result ≡ read_at bytes.now from.at (min most max_groups) }
+pub fn read(bytes: &[u8], at: usize, most: usize) -> Result<Number, Refusal>
+    ensures { answer_of result ≡ read_at bytes.now at (min most max_groups) }
 {
-    let limit = allowed(most);
-    let mut at = from.at;
-    let mut low: u64 = 0;
-    let mut weight: u64 = 1;
-    let mut i = 0;
-    while i < limit {
-        if bytes.len() <= at {
-            return Number::Refused(Refusal::BytesEnd);
-        }
-        let byte = wide(bytes[at]);
-        if 9 <= i {
-            return tenth(byte, low, at + 1);
-        }
-        low += byte % 128 * weight;
-        at += 1;
+    let mut value: u64 = 0;
+    for i in 0..most.min(MAX_GROUPS) {
+        let byte = *bytes.get(at.saturating_add(i)).ok_or(Refusal::BytesEnd)?;
+        let group = u64::from(byte % 128);
+        let weight = 128u64.pow(i as u32);
+        // Of a tenth group only 0 and 1 fit.
+        value += group.checked_mul(weight).ok_or(Refusal::NotShortest)?;
         if byte < 128 {
-            return last(byte, i, low, at);
+            // The last of several is not 0.
+            if byte == 0 && 0 < i {
+                return Err(Refusal::NotShortest);
+            }
+            return Ok(Number {
+                value,
+                end: at + i + 1,
+            });
         }
-        weight *= 128;
-        i += 1;
     }
-    Number::Refused(Refusal::NotShortest)
+    Err(Refusal::NotShortest)
 }
 
 // The groups of a number, low group first, the top bit set where another follows.
 fn lay(value: u64) -> Laid
     ensures { (take result.count result.bytes ≡ groups_of value) × (result.count ≡ length (groups_of value)) }
 {
-    let mut bytes = [0u8; 10];
+    let mut bytes = [0u8; MAX_GROUPS];
     let mut rest = value;
     let mut i = 0;
+    // How many turns there are comes from the number: a `for` over the bytes would need a return that is never reached.
     while 128 <= rest {
         bytes[i] = (128 + rest % 128) as u8;
         rest /= 128;
@@ -118,36 +77,19 @@ fn lay(value: u64) -> Laid
     }
 }
 
-// Whether so many bytes from a place on fit a length.
-fn has_room(len: usize, at: usize, count: usize) -> bool
-    ensures { result ≡ leb (at + count) len }
-{
-    if len < count {
-        return false;
-    }
-    at <= len - count
-}
-
-// Writes a number's groups over `out` from a place on, or nothing where they do not fit.
-pub fn write(value: u64, out: &mut [u8], at: usize) -> Put
-    ensures outcome_value { outcome_number result.outcome ≡ put_row out.old at value }
-    ensures count_value { result.count ≡ put_count out.old at value }
+// Writes a number's groups over `out` from a place on, or nothing where they do not fit. How many bytes it wrote.
+#[tactic(auto, unfolding(crate::specs::Writing::put_row, crate::specs::Writing::put_count, crate::specs::Writing::output_after))]
+pub fn write(value: u64, out: &mut [u8], at: usize) -> Result<usize, Refusal>
+    ensures outcome_value { outcome_number result ≡ put_row out.old at value }
+    ensures count_value { result_unwrap_or result 0 ≡ put_count out.old at value }
     ensures out_after { out.new ≡ output_after out.old at value }
 {
     let groups = lay(value);
-    let bytes = groups.bytes;
-    let count = groups.count;
-    if !has_room(out.len(), at, count) {
-        return Put {
-            outcome: Outcome::Refused(Refusal::ShortOutput),
-            count: 0,
-        };
+    if out.len() < at.saturating_add(groups.count) {
+        return Err(Refusal::ShortOutput);
     }
-    base::put(out, at, &bytes[..count]);
-    Put {
-        outcome: Outcome::Done,
-        count,
-    }
+    base::put(out, at, &groups.bytes[..groups.count]);
+    Ok(groups.count)
 }
 
 // The same where its callers know that they fit. The place after the number.
@@ -156,6 +98,7 @@ pub fn put_number(value: u64, out: &mut [u8], at: usize) -> usize
     ensures value { result ≡ at + length (groups_of value) }
     ensures out_after { out.new ≡ written out.old at (groups_of value) }
 {
-    let put = write(value, out, at);
-    at + put.count
+    let groups = lay(value);
+    base::put(out, at, &groups.bytes[..groups.count]);
+    at + groups.count
 }

@@ -74,15 +74,22 @@ module _ (height level position made l p : ℕ) (few : made < nodes_in height) (
     next-blocks = rw (← is) (by_kind (eqb l n) refl)
 
     -- by the number of parents, as they are computed
-    pub leaf-blocks :
+    at-leaf :
         l ≡ n → (parents : ℕ) → parents ≡ ones (p % 2 ^ n)
         → blocks_of (41 + 32 * parents) ≡ next_blocks edition statement height (node level position) front held made
-    leaf-blocks leaf parents e =
+    at-leaf leaf parents e =
         let in_tree : p < 2 ^ n = rw leaf at next-inside in
         let all : parents ≡ ones p = e ∙ ap ones (mod-eq_of_lt in_tree) in
         rw all (ap blocks_of (sym (size-of-leaf n (node l p) leaf in_tree))) ∙ sym next-blocks
 
-    pub inner-blocks : (l ≡ n → ⊥) → blocks_of (41 + 32 * 2) ≡ next_blocks edition statement height (node level position) front held made
-    inner-blocks ne =
+    pub leaf-blocks :
+        (depth : ℕ) → n ≡ depth → l ≡ depth → (parents : ℕ) → parents ≡ ones (p % 2 ^ depth)
+        → blocks_of (41 + 32 * parents) ≡ next_blocks edition statement height (node level position) front held made
+    leaf-blocks depth all leaf parents e = at-leaf (leaf ∙ sym all) parents (rw all e)
+
+    pub inner-blocks :
+        (depth : ℕ) → n ≡ depth → (l ≡ depth → ⊥)
+        → blocks_of (41 + 32 * 2) ≡ next_blocks edition statement height (node level position) front held made
+    inner-blocks depth all ne =
         let inner : l < n = omega (arith, ne, next_level height level position made l p few is) in
         ap blocks_of (sym (size-of-inner n (node l p) inner)) ∙ sym next-blocks

@@ -2,7 +2,6 @@
 use mathlib.Core.Path.{◌≡◌, refl, sym, ap, ◌∙◌}
 use mathlib.Core.List.{List, [], ◌∷◌, ◌++◌, append_assoc, reverse, reverse-append}
 use Prim.Native.Nat.{ℕ, ◌+◌, ◌-◌, ◌%◌, ◌≤◌}
-use native.Mathlib.Nat.{mod-eq_of_lt}
 use native.Mathlib.Omega.{arith}
 use lib.ListN.{length, take, length-append}
 use lib.Seq.{take_at}
@@ -12,7 +11,7 @@ use Rattle.base.proofs.BytesLaws.{length-big_endian, length-joined, joined-appen
 use Rattle.base.proofs.Zeros.{filled_more}
 use Rattle.tree.specs.Nodes.{Node, node}
 use Rattle.tree.specs.Labels.{ordered, tag, input_head, document_input, in_labels}
-use Rattle.tree.proofs.Ordered.{ordered-length, ordered-each, ordered-first, ordered-later, tag-byte}
+use Rattle.tree.proofs.Ordered.{ordered-length, ordered-each, ordered-first, ordered-later}
 use Rattle.tree.proofs.Cut.{length-labels, labels-sizes, labels_append, bytes_back}
 use Rattle.tree.proofs.DocumentRule.{length-head}
 
@@ -58,21 +57,18 @@ module _ (edition n : ℕ) (statement : List ℕ) (level position : ℕ) (front 
       (width : ℕ) (whole : length statement ≡ 32) (inside : level ≤ n) (small : n ≤ max_depth)
       (fits : 41 + length front + length rest ≤ width) (byte : ℕ) (place b0 b1 b2 b3 b4 : List ℕ)
       (zeroed : b0 ≡ zeros width) (eb : byte ≡ tag edition n level) (e : place ≡ big_endian 8 position) (e1 : b1 ≡ written b0 0 statement)
-      (e2 : b2 ≡ written b1 32 (byte % 256 ∷ [])) (e3 : b3 ≡ written b2 33 place) (e4 : b4 ≡ written b3 41 labels)
+      (e2 : b2 ≡ written b1 32 (byte ∷ [])) (e3 : b3 ≡ written b2 33 place) (e4 : b4 ≡ written b3 41 labels)
     where
       after-statement : b1 ≡ statement ++ zeros (width - 32)
       after-statement =
           let none : width ≡ width - 0 = omega arith in
           e1 ∙ rw whole at (filled_more width b0 [] statement 0 (zeroed ∙ ap zeros none) refl (omega arith))
 
-      tagged : byte % 256 ≡ tag edition n level
-      tagged = rw eb (mod-eq_of_lt (tag-byte edition n level inside (omega arith)))
-
       after_tag : b2 ≡ (statement ++ tag edition n level ∷ []) ++ zeros (width - 33)
       after_tag =
           e2
-          ∙ filled_more width b1 statement (byte % 256 ∷ []) 32 after-statement whole (omega arith)
-          ∙ ap (λ (x : ℕ). (statement ++ x ∷ []) ++ zeros (width - 33)) tagged
+          ∙ filled_more width b1 statement (byte ∷ []) 32 after-statement whole (omega arith)
+          ∙ ap (λ (x : ℕ). (statement ++ x ∷ []) ++ zeros (width - 33)) eb
 
       after-head : b3 ≡ head ++ zeros (width - 41)
       unfolding input_head

@@ -1,5 +1,5 @@
 -- The next node of a subtree: where it lies, and what one step gives, by its kind.
-use mathlib.Core.Path.{◌≡◌}
+use mathlib.Core.Path.{◌≡◌, sym, ◌∙◌}
 use mathlib.Core.List.{List, [], ◌++◌}
 use Prim.Native.Nat.{ℕ, ◌+◌, ◌-◌, ◌*◌, ◌/◌, ◌%◌, ◌^◌, ◌≤◌, ◌<◌}
 use native.Mathlib.Nat.{mod-lt}
@@ -52,33 +52,33 @@ module _ (height level position made l p : ℕ) (few : made < nodes_in height) (
   pub next-few : position < 2 ^ level → ones p ≤ l
   next-few inside = omega (arith, next-ones, next_level, ones-le level position inside, place-le (l - level) p)
 
-  module _ (edition : ℕ) (statement front held : List ℕ) where
+  module _ (edition depth : ℕ) (statement front held : List ℕ) (all : level + height ≡ depth) where
     -- a leaf, whose labels in front are the subtree's
-    module _ (leaf : l ≡ level + height) (size : length front ≡ 32 * ones position) where
+    module _ (leaf : l ≡ depth) (size : length front ≡ 32 * ones position) where
       behind-front : 32 * ones p - length front ≡ 32 * ones (p % 2 ^ (l - level))
       behind-front = omega (arith, next-ones)
 
       pub leaf-label :
-          label_by (stamp_rule edition (level + height) statement) (node l p)
+          label_by (stamp_rule edition depth statement) (node l p)
           (in_labels (front ++ take (32 * ones p - length front) held))
           ≡ next_label edition statement height (node level position) front held made
       unfolding next_label hashed_labels
-      leaf-label = rw (behind-front, ← is, eq-eqb l (level + height) leaf)
+      leaf-label = rw (← all, behind-front, ← is, eq-eqb l (level + height) (leaf ∙ sym all))
 
       pub leaf-held : (label : List ℕ)
           → written held (32 * ones p - length front) label ≡ held_with height (node level position) held (node l p) label
       unfolding held_with
-      leaf-held label = rw (behind-front, eq-eqb l (level + height) leaf)
+      leaf-held label = rw (behind-front, eq-eqb l (level + height) (leaf ∙ sym all))
 
     -- an inner node, whose place is this one
-    module _ (inner : l ≡ level + height → ⊥) (place : ℕ) (placed : place ≡ ones (p % 2 ^ (l - level))) where
+    module _ (inner : l ≡ depth → ⊥) (place : ℕ) (placed : place ≡ ones (p % 2 ^ (l - level))) where
       pub inner-label :
-          label_by (stamp_rule edition (level + height) statement) (node l p) (in_labels (take 64 (drop (32 * place) held)))
+          label_by (stamp_rule edition depth statement) (node l p) (in_labels (take 64 (drop (32 * place) held)))
           ≡ next_label edition statement height (node level position) front held made
       unfolding next_label hashed_labels
-      inner-label = rw (placed, ← is, ne_eqb l (level + height) inner)
+      inner-label = rw (← all, placed, ← is, ne_eqb l (level + height) (λ e. inner (e ∙ all)))
 
       pub inner-held : (label : List ℕ)
           → written (written held (32 * place) label) (32 * place + 32) (zeros 32) ≡ held_with height (node level position) held (node l p) label
       unfolding held_with
-      inner-held label = rw (placed, ne_eqb l (level + height) inner)
+      inner-held label = rw (placed, ne_eqb l (level + height) (λ e. inner (e ∙ all)))

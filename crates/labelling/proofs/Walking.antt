@@ -24,8 +24,10 @@ pub record Walking (height level position made h l p left half : ℕ) : Type 0 w
   pub same : node_at h (node l p) left ≡ node_at height (node level position) made
 
 pub walking_start : (height level position made : ℕ) → height ≤ max_depth → position < 2 ^ level → made < nodes_in height
-    → Walking height level position made height level position made ((1 * 2 ^ height) % 2 ^ 64 - 1)
+    → Walking height level position made (level + height - level) level position made ((1 * 2 ^ height) % 2 ^ 64 - 1)
 walking_start height level position made small inside few =
+    let all : level + height - level ≡ height = omega arith in
+    rw all
     record { heights = refl; inside = inside; few = few; halves = omega (arith, shifted_one height small, pow_pos height); same = refl }
 
 -- one turn, by the child's side
@@ -55,14 +57,19 @@ turned height level position made h l p left half w small =
       same = s.0 ∙ w.same;
     }
 
-pub walking-turn : (height level position made h l p left half : ℕ) → Walking height level position made h l p left half → left < 2 * half
-    → (1 ≤ h)
-    × Walking height level position made (h - 1) (l + 1) (pick (ltb left half) (2 * p) (2 * p + 1))
+by-height : (height level position made h h' l p left half : ℕ) → Walking height level position made h l p left half → left < 2 * half → h' ≡ h - 1
+    → Walking height level position made h' (l + 1) (pick (ltb left half) (2 * p) (2 * p + 1)) (pick (ltb left half) left (left - half)) (half / 2)
+by-height height level position made zero h' l p left half w small e = absurd (omega (arith, w.halves))
+by-height height level position made (suc h) h' l p left half w small e =
+    let same : h' ≡ h = omega arith in
+    rw same (turned height level position made h l p left half w small)
+
+pub walking-turn : (height level position made l p left half : ℕ) → Walking height level position made (level + height - l) l p left half
+    → left < 2 * half
+    → Walking height level position made (level + height - (l + 1)) (l + 1) (pick (ltb left half) (2 * p) (2 * p + 1))
     (pick (ltb left half) left (left - half)) (half / 2)
-walking-turn height level position made zero l p left half w small = absurd (omega (arith, w.halves))
-walking-turn height level position made (suc h) l p left half w small =
-    let e : suc h - 1 ≡ h = omega arith in
-    (omega arith, rw e (turned height level position made h l p left half w small))
+walking-turn height level position made l p left half w small =
+    by-height height level position made (level + height - l) (level + height - (l + 1)) l p left half w small (omega arith)
 
 pub walking-end : (height level position made h l p left half : ℕ) → Walking height level position made h l p left half → 2 * half ≤ left
     → made < nodes_in height → node l p ≡ get_or (order_below height (node level position)) made root

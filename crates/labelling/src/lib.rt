@@ -5,6 +5,13 @@ mod next; // next.rt: one step
 mod rule; // rule.rt: a label from its parents' labels
 mod walk; // walk.rt: the next node from the number of nodes labelled
 
-pub use next::{Labelled, label_next};
-pub use rule::{label, put_input};
-pub use walk::{Place, next_node};
+pub use next::Labelled;
+pub use rule::Tree;
+pub use walk::Node;
+
+// What a call did: the labels that it made, and the 64-byte blocks that were compressed for them.
+#[derive(Clone, Copy, Debug, PartialEq, Eq)]
+pub struct Work {
+    pub labels: u64,
+    pub blocks: u64,
+}

@@ -6,9 +6,9 @@ ghost use Rattle.tree.specs.Nodes.{node};
 ghost use Rattle.tree.specs.Walk.{nodes_in};
 ghost use Rattle.labelling.specs.Step.{next_node};
 
-// A node's level and position.
-#[derive(Clone, Copy)]
-pub struct Place {
+// A node of a tree.
+#[derive(Clone, Copy, Debug, PartialEq, Eq)]
+pub struct Node {
     pub level: u64,
     pub position: u64,
 }
@@ -32,26 +32,23 @@ fn remaining(left: u64, half: u64) -> u64
     if left < half { left } else { left - half }
 }
 
-// The node that is labelled when `made` nodes of the subtree of this height are. Its callers know that one is left.
-pub fn next_node(height: u64, level: u64, position: u64, made: u64) -> Place
-    requires { (level + height ≤ max_depth) × (position < 2 ^ level) × (made < nodes_in height) }
-    ensures { node result.level result.position ≡ next_node height (node level position) made }
-{
-    let mut h = height;
-    let mut l = level;
-    let mut p = position;
-    let mut left = made;
-    let mut half = (1u64 << height) - 1;
-    while left < 2 * half {
-        let next = child(p, left, half);
-        left = remaining(left, half);
-        p = next;
-        l += 1;
-        h -= 1;
-        half = half / 2;
-    }
-    Place {
-        level: l,
-        position: p,
+impl Node {
+    // The node that is labelled when `made` nodes of this one's subtree of this height are. Its callers know that one is left.
+    pub fn next_below(self, height: u64, made: u64) -> Node
+        requires { (self.level + height ≤ max_depth) × (self.position < 2 ^ self.level) × (made < nodes_in height) }
+        ensures { node result.level result.position ≡ next_node height (node self.level self.position) made }
+    {
+        let mut level = self.level;
+        let mut position = self.position;
+        let mut left = made;
+        let mut half = (1u64 << height) - 1;
+        // Not a `for`: how far down the walk goes comes from what is left to pass.
+        while left < 2 * half {
+            position = child(position, left, half);
+            left = remaining(left, half);
+            level += 1;
+            half /= 2;
+        }
+        Node { level, position }
     }
 }

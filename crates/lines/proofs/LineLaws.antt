@@ -5,9 +5,9 @@ use native.Mathlib.Numerals.{add-one}
 use native.Mathlib.Omega.{arith}
 use mathlib.Core.Bool.{Bool, true, false}
 use mathlib.Core.List.{List, [], ◌∷◌, ◌++◌, append_assoc, append-nil}
-use lib.Dec.{ltb, leb}
-use lib.ListN.{length, get_or, take, drop, length-append, length-take, drop_of_length-le}
-use lib.Seq.{take_at, take_all, drop-cons, length-take-le}
+use lib.Dec.{ltb}
+use lib.ListN.{length, get_or, take, drop, length-append, drop_of_length-le}
+use lib.Seq.{take_at, drop-cons, length-take-le}
 use borrow.Author.Tests.{le-leb, lt-leb}
 use Rattle.base.specs.Choice.{pick}
 use Rattle.base.specs.Bytes.{written}
@@ -32,18 +32,6 @@ laid text part after at l h k e =
     (length-append (take at text) part ∙ ap (λ (k : ℕ). k + length part) n))
 
 -- what does not fit changes nothing
-pub laid_none : (text part : List ℕ) (at : ℕ) → length text ≡ 8192 → 8192 < at → take at text ≡ added (take at text) part
-unfolding added
-laid_none text [] at l h = go (leb (length (take at text) + length {A = ℕ} []) 8192)
-  where
-    go : (t : Bool) → take at text ≡ pick t (take at text ++ []) (take at text)
-    go true = sym (append-nil (take at text))
-    go false = refl
-laid_none text (b ∷ part) at l h =
-    let whole : take at text ≡ text = take_all at text (omega arith) in
-    let size : length (take at text) ≡ 8192 = ap length whole ∙ l in
-    rw (lt-leb (length (take at text) + length (b ∷ part)) 8192 (omega arith))
-
 pub laid-full : (text part : List ℕ) (at : ℕ) → length text ≡ 8192 → at ≤ 8192 → 8192 - at < length part → take at text ≡ added (take at text) part
 unfolding added
 laid-full text part at l h k =
@@ -87,15 +75,14 @@ name-turn line name i h = rw (add-one i, drop-cons name i 0 h) (unfold added_nam
 pub name-end : (line name : List ℕ) (i : ℕ) → length name ≤ i → added_name line (drop i name) ≡ line
 name-end line name i h = rw (drop_of_length-le name h) (unfold added_name in refl)
 
-pub byte_full : (text : List ℕ) (at b : ℕ) → length text ≡ 8192 → 8000 < at → take at text ≡ added_byte (take at text) b
+-- a byte of a name where it has no room, and where it has
+pub byte_full : (line : List ℕ) (b : ℕ) → 8000 < length line → line ≡ added_byte line b
 unfolding added_byte
-byte_full text at b l h = rw (lt-leb (length (take at text)) 8000 (omega (arith, length-take at text)))
+byte_full line b h = rw (lt-leb (length line) 8000 h)
 
-pub byte-added :
-    (text part : List ℕ) (at b : ℕ) → length text ≡ 8192 → at ≤ 8000 → part ≡ shown_byte b
-    → added (take at text) part ≡ added_byte (take at text) b
+pub byte_added : (line part : List ℕ) (b : ℕ) → length line ≤ 8000 → part ≡ shown_byte b → added line part ≡ added_byte line b
 unfolding added_byte
-byte-added text part at b l h e = rw (le-leb (length (take at text)) 8000 (omega (arith, length-take at text)), e)
+byte_added line part b h e = rw (le-leb (length line) 8000 h, e)
 
 -- a line that is short so far
 pub record Short (line text : List ℕ) (most : ℕ) : Type 0 where
@@ -124,12 +111,64 @@ more-hex {line} {next} {text} {n} bytes k s e h r =
       size = omega (arith, s.size, length-append text (hex_of bytes), length-hex bytes);
     }
 
-pub in-threes : (a x b y c z e : List ℕ) → a ++ x ++ b ++ y ++ c ++ z ++ e ≡ (a ++ x) ++ (b ++ y) ++ (c ++ z) ++ e
-in-threes a x b y c z e = simp append_assoc
+-- a name and its number as one part: behind a line, and as the first part
+pub more-field :
+    {line next text : List ℕ} {n : ℕ} (name : List ℕ) (x : ℕ) → Short line text n → next ≡ added (added line name) (decimal x)
+    → length name ≤ 1000
+    → n + 1020 ≤ 8192
+    → Short next (text ++ field name x) (n + 1020)
+more-field {line} {next} {text} {n} name x s e h r =
+    let named : Short (added line name) (text ++ name) (n + 1000) = more name 1000 s refl h (omega arith) in
+    let numbered = more (decimal x) 20 named e (decimal-short x) (omega arith) in
+    record {
+      out = numbered.out ∙ append_assoc text name (decimal x);
+      size = omega (arith, s.size, decimal-short x, length-append text (field name x), length-append name (decimal x));
+    }
 
--- a name and its number as one part
-pub in_field : (line name number end : List ℕ) → line ++ name ++ number ++ end ≡ line ++ (name ++ number) ++ end
-in_field line name number end = ap (λ (l : List ℕ). l ++ end) (append_assoc line name number)
+pub first-field :
+    {none line : List ℕ} (name : List ℕ) (x : ℕ) → none ≡ [] → line ≡ added (added none name) (decimal x) → length name ≤ 1000
+    → Short line (field name x) 1020
+first-field {none} {line} name x e f h = more-field {n = 0} name x (record { out = e; size = omega arith }) f h (omega arith)
+
+-- a number, a name with another, and an end
+pub numbers_laid :
+    {none one two line : List ℕ} (x : ℕ) (b : List ℕ) (y : ℕ) (end : List ℕ) → none ≡ []
+    → one ≡ added none (decimal x)
+    → two ≡ added (added one b) (decimal y)
+    → line ≡ added two end
+    → length b ≤ 1000
+    → length end ≤ 1000
+    → line ≡ two_text [] x b y end
+numbers_laid x b y end e f g h j k =
+    (more end 1000 (more-field b y (first _ _ _ 20 e f (decimal-short x) (omega arith)) g j (omega arith)) h k (omega arith)).out
+
+-- two and three names with their numbers, and an end
+pub two_laid :
+    {none one two line : List ℕ} (a : List ℕ) (x : ℕ) (b : List ℕ) (y : ℕ) (end : List ℕ) → none ≡ []
+    → one ≡ added (added none a) (decimal x)
+    → two ≡ added (added one b) (decimal y)
+    → line ≡ added two end
+    → length a ≤ 1000
+    → length b ≤ 1000
+    → length end ≤ 1000
+    → line ≡ two_text a x b y end
+two_laid a x b y end e f g h i j k =
+    (more end 1000 (more-field b y (first-field a x e f i) g j (omega arith)) h k (omega arith)).out
+
+pub three_laid :
+    {none one two three line : List ℕ} (a : List ℕ) (x : ℕ) (b : List ℕ) (y : ℕ) (c : List ℕ) (z : ℕ) (end : List ℕ) → none ≡ []
+    → one ≡ added (added none a) (decimal x)
+    → two ≡ added (added one b) (decimal y)
+    → three ≡ added (added two c) (decimal z)
+    → line ≡ added three end
+    → length a ≤ 1000
+    → length b ≤ 1000
+    → length c ≤ 1000
+    → length end ≤ 1000
+    → line ≡ three_text a x b y c z end
+unfolding three_text
+three_laid a x b y c z end e f g h i j k l m =
+    (more end 1000 (more-field c z (more-field b y (first-field a x e f j) g k (omega arith)) h l (omega arith)) i m (omega arith)).out
 
 -- ---- how long the parts of a line are
 two-short : (a : List ℕ) (x : ℕ) (b : List ℕ) (y : ℕ) (e : List ℕ) → length (two_text a x b y e) ≤ length a + length b + length e + 40

@@ -6,17 +6,6 @@ use std::fs::File;
 use std::process::ExitCode;
 use std::rt::{Clock, Env, Files};
 
-// The status as the system has it.
-fn status(number: u8) -> u8 {
-    if number == 0 {
-        return 0;
-    }
-    if number == 1 {
-        return 1;
-    }
-    2
-}
-
 // Does what the program's arguments ask, with answers on standard output, and progress and complaints on standard error. 0 if it is done, 1
 // if it is refused, 2 if it could not be tried.
 pub fn mastdock_main<R: Env + Files<File = File> + Clock>(
@@ -25,7 +14,7 @@ pub fn mastdock_main<R: Env + Files<File = File> + Clock>(
     out: Stream<'_>,
     err: Stream<'_>,
 ) -> u8 {
-    status(commands::run_arguments(rt, input, out, err))
+    commands::run_arguments(rt, input, out, err)
 }
 
 fn main(rt: HostRuntime) -> ExitCode {

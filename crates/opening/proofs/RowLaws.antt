@@ -103,9 +103,6 @@ module _ (o : Opening) (store out : List ℕ) (budget : ℕ) where
       → blocks ≡ blocks_in store (open_of o out) budget
   blocks-by = machines.cost-by (opening_machine store) (open_of o out) budget (step_blocks store)
 
-  pub no_blocks : 0 ≡ labels_in store (open_of o out) budget → 0 ≡ blocks_in store (open_of o out) budget
-  no_blocks e = sym (machines.costs-nothing (opening_machine store) (open_of o out) budget (step_blocks store) (sym e))
-
   pub unchanged : 0 ≡ labels_in store (open_of o out) budget
       → (o ≡ (advanced store (open_of o out) budget).opening) × (out ≡ (advanced store (open_of o out) budget).out)
   unchanged e = let f = machines.unchanged (opening_machine store) (open_of o out) budget (sym e) in (rw f, rw f)

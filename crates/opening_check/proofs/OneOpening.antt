@@ -6,18 +6,15 @@ use Prim.Native.Nat.{ℕ, suc, ◌+◌, ◌-◌, ◌*◌, ◌/◌, ◌%◌, ◌^
 use native.Mathlib.Nat.{add-zero, div-one, div-eq_of_lt}
 use native.Mathlib.Numerals.{add-one}
 use native.Mathlib.Omega.{arith}
-use borrow.Author.Tests.{lt-ltb, le-ltb, le-leb, lt-leb}
 use lib.Count.{ones, ones_step, ones-le}
 use lib.ListN.{length, take, drop, length-replicate, take-append-drop}
 use lib.Pow.{shr_lt}
 use Rattle.base.specs.Limits.{max_depth}
 use Rattle.base.specs.Choice.{pick, odd}
 use Rattle.base.specs.Bytes.{zeros, joined, written}
-use Rattle.base.specs.Lists.{same_bytes}
 use Rattle.base.proofs.BytesLaws.{joined-append}
 use Rattle.base.proofs.ChoiceLaws.{is_odd, is-even, odd-true, odd-false}
 use Rattle.base.proofs.Copying.{length-written}
-use Rattle.base.specs.Row.{outside, no_edition}
 use Rattle.tree.specs.Nodes.{node}
 use Rattle.tree.specs.Labels.{Label, label_by, in_labels}
 use Rattle.tree.specs.Openings.{Given, child_labels, computed, input_at, opening_size}
@@ -27,17 +24,11 @@ use Rattle.tree.specs.Disagreement.{Given32}
 use Rattle.tree.proofs.Cut.{labels-back, two-labels}
 use Rattle.tree.proofs.OpeningLaws.{halved, input-leaf, left-each}
 use Rattle.labelling.specs.Rule.{stamp_rule}
-use Rattle.base.proofs.Powers.{shifted_one}
 use Rattle.base.proofs.Parts.{written_behind, part-size, part_length}
-use Rattle.opening_check.specs.OpeningCheck.{given_by, right_row, opening_row}
+use Rattle.opening_check.specs.OpeningCheck.{given_by}
 
 -- ---- the leaf
 module _ (gathered bytes : List ℕ) (len leaf height : ℕ) where
-  pub left-put : leaf / 2 ^ height % 2 ≡ 1
-      → written gathered len (take (32 * (height + 1) + 32 - 32 * (height + 1)) (drop (32 * (height + 1)) bytes))
-      ≡ written gathered len (pick (odd (leaf / 2 ^ height)) (given_by bytes (height + 1)) [])
-  left-put o = rw (is_odd (leaf / 2 ^ height) o, part-size bytes (32 * (height + 1)) 32)
-
   pub right-passed : (leaf / 2 ^ height % 2 ≡ 1 → ⊥)
       → gathered ≡ written gathered len (pick (odd (leaf / 2 ^ height)) (given_by bytes (height + 1)) [])
   unfolding written
@@ -146,72 +137,3 @@ pub climbed : (edition : ℕ) (statement bytes : List ℕ) (n leaf height : ℕ)
 unfolding computed
 climbed edition statement bytes n leaf height label above e a =
     a ∙ rw (part-size bytes (32 * (height + 1)) 32, e, add-one height, halved leaf height)
-
--- ---- the two refusals
-module _ (edition : ℕ) (statement : List ℕ) (n leaf : ℕ) (root bytes : List ℕ) where
-  module _ (hash : Label)
-      (h : hash
-      ≡ (stamp_rule edition n statement).hash (input_at (stamp_rule edition n statement) n leaf (given_by bytes) (node n leaf))) where
-    pub wrong-leaf : same_bytes (take 32 bytes) hash ≡ false → 14 ≡ right_row edition statement n leaf root bytes
-    unfolding right_row
-    wrong-leaf f = rw (← h, f)
-
-    module _ (leaf_right : same_bytes (take 32 bytes) hash ≡ true) (top : Label)
-        (t : top ≡ computed (stamp_rule edition n statement) n leaf (given_by bytes) n) where
-      pub wrong-root : same_bytes top root ≡ false → 15 ≡ right_row edition statement n leaf root bytes
-      unfolding right_row
-      wrong-root f = rw (← h, leaf_right, ← t, f)
-
-      pub both_right : same_bytes top root ≡ true → 0 ≡ right_row edition statement n leaf root bytes
-      unfolding right_row
-      both_right f = rw (← h, leaf_right, ← t, f)
-
--- ---- the row, one law for each return
-module _ (edition : ℕ) (statement : List ℕ) (n leaf : ℕ) (root bytes : List ℕ) where
-  pub edition-refused : no_edition edition ≡ true → 12 ≡ opening_row edition statement n leaf root bytes
-  unfolding opening_row
-  edition-refused e = rw e
-
-  module _ (e : no_edition edition ≡ false) where
-    pub depth-refused : outside 1 max_depth n ≡ true → 1 ≡ opening_row edition statement n leaf root bytes
-    unfolding opening_row
-    depth-refused d = rw (e, d)
-
-    module _ (d : outside 1 max_depth n ≡ false) (small : n ≤ max_depth) where
-      pub leaf-refused : (1 * 2 ^ n) % 2 ^ 64 ≤ leaf → 6 ≡ opening_row edition statement n leaf root bytes
-      unfolding opening_row
-      leaf-refused h = let l : 2 ^ n ≤ leaf = rw (shifted_one n small) at h in rw (e, d, le-leb (2 ^ n) leaf l)
-
-      module _ (inside : leaf < (1 * 2 ^ n) % 2 ^ 64) where
-        inside-leaf : leaf < 2 ^ n
-        inside-leaf = rw (shifted_one n small) at inside
-
-        pub short-refused : length bytes < opening_size n → 10 ≡ opening_row edition statement n leaf root bytes
-        unfolding opening_row
-        short-refused h = rw (e, d, lt-leb (2 ^ n) leaf inside-leaf, lt-ltb (length bytes) (opening_size n) h)
-
-        module _ (enough : opening_size n ≤ length bytes) where
-          pub long-refused : opening_size n < length bytes → 13 ≡ opening_row edition statement n leaf root bytes
-          unfolding opening_row
-          long-refused h =
-              rw (
-                e,
-                d,
-                lt-leb (2 ^ n) leaf inside-leaf,
-                le-ltb (length bytes) (opening_size n) enough,
-                lt-ltb (opening_size n)
-                    (length bytes) h,
-              )
-
-          pub rest-right :
-              length bytes ≤ opening_size n → right_row edition statement n leaf root bytes ≡ opening_row edition statement n leaf root bytes
-          unfolding right_row opening_row
-          rest-right h =
-              rw (
-                e,
-                d,
-                lt-leb (2 ^ n) leaf inside-leaf,
-                le-ltb (length bytes) (opening_size n) enough,
-                le-ltb (opening_size n)
-                    (length bytes) h,
-              )

@@ -85,6 +85,16 @@ above_more n leaf l store len len' bytes bytes' level room fits so e f =
       counted = omega (arith, ones-more n leaf l level, so.counted);
     }
 
+-- the same, of a level of its own
+pub above-level : (n leaf level : ℕ) (store : List ℕ) (len len' : ℕ) (bytes bytes' : List ℕ) → 1 ≤ level → level ≤ n → len + 32 ≤ front_size
+    → slot (node level (leaf / 2 ^ (n - level))) ≤ length store → Above n leaf store (level - 1) len bytes
+    → bytes' ≡ written bytes len (left_label store level (leaf / 2 ^ (n - level))) → len' ≡ len + 32 * (leaf / 2 ^ (n - level) % 2)
+    → Above n leaf store level len' bytes'
+above-level n leaf zero store len len' bytes bytes' some level room fits so e f = absurd (omega arith)
+above-level n leaf (suc l) store len len' bytes bytes' some level room fits so e f =
+    let before : suc l - 1 ≡ l = omega arith in
+    rw (add-one l) at (above_more n leaf l store len len' bytes bytes') (omega arith) room fits (rw before at so) e f
+
 -- the length of the labels of levels 1 to l, whatever the store holds
 pub front_length : (n leaf m : ℕ) (store : List ℕ) → m ≤ n → leaf < 2 ^ n → store_size m ≤ length store
     → (l : ℕ) → l ≤ m → length (front n l leaf store) ≡ 32 * ones (leaf / 2 ^ (n - l))

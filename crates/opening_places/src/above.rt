@@ -13,11 +13,20 @@ use base::{MAX_MEMORY, put};
 
 const FRONT_SIZE: usize = 32 * MAX_MEMORY as usize;
 
-// The labels as bytes: the first `len` of these.
-#[derive(Clone, Copy)]
+// The labels as bytes: the first `len` of these. An array and a length and no `Vec`: memory is fixed, there is no heap.
+#[derive(Clone, Copy, Debug, PartialEq, Eq)]
 pub struct Front {
     pub bytes: [u8; FRONT_SIZE],
     pub len: usize,
+}
+
+impl Front {
+    pub fn as_slice(&self) -> &[u8]
+        requires { self.now.len ≤ front_size }
+        ensures { result.now ≡ take self.now.len self.now.bytes }
+    {
+        &self.bytes[..self.len]
+    }
 }
 
 // Puts the label of the left sibling of a node, if it has one, behind the first `len` bytes; their number afterwards.
@@ -31,8 +40,7 @@ fn add_left(bytes: &mut [u8], len: usize, level: u64, position: u64, store: &[u8
         return len;
     }
     let at = slot_of(level, position - 1);
-    let end = at + 32;
-    put(bytes, len, &store[at..end]);
+    put(bytes, len, &store[at..at + 32]);
     len + 32
 }
 
@@ -47,9 +55,7 @@ pub fn labels_above(depth: u64, memory: u64, leaf: u64, store: &[u8]) -> Front
     let len = 32 * u64::count_ones(leaf >> (depth - memory)) as usize;
     let mut bytes = [0u8; FRONT_SIZE];
     let mut filled = 0;
-    let mut level = 0;
-    while level < memory {
-        level += 1;
+    for level in 1..=memory {
         let position = leaf >> (depth - level);
         filled = add_left(&mut bytes, filled, level, position, store);
     }

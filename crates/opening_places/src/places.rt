@@ -1,7 +1,7 @@
 // The places of an opening: a label put where it belongs, and what the store holds copied.
 ghost use Rattle.std.specs.Prelude.{◌≡◌, ◌+◌, ◌^◌, ◌<◌, ◌≤◌, length};
 ghost use Rattle.base.specs.Limits.{max_depth};
-ghost use Rattle.tree.specs.Nodes.{node, same_node};
+ghost use Rattle.tree.specs.Nodes.{node};
 ghost use Rattle.tree.specs.Store.{slot, store_size};
 ghost use Rattle.tree.specs.Openings.{sibling, opening_size};
 ghost use Rattle.opening_places.specs.Possible.{Possible};
@@ -20,15 +20,6 @@ fn sibling_of(position: u64) -> u64
     }
 }
 
-fn same_node(level: u64, position: u64, level2: u64, position2: u64) -> bool
-    ensures { result ≡ same_node (node level position) (node level2 position2) }
-{
-    if level == level2 {
-        return position == position2;
-    }
-    false
-}
-
 // Where the store has a node's label.
 pub fn slot_of(level: u64, position: u64) -> usize
     requires { (level ≤ max_depth) × (position < 2 ^ level) }
@@ -43,14 +34,10 @@ pub fn put_label(depth: u64, leaf: u64, out: &mut [u8], level: u64, position: u6
     requires depth_in_bounds { (opening_size depth ≤ length out.old) × (length label.now ≡ 32) }
     ensures { out.new ≡ placed depth leaf out.old (node level position) label.now }
 {
-    if same_node(level, position, depth, leaf) {
+    if level == depth && position == leaf {
         put(out, 0, label);
-        return;
-    }
-    let beside = sibling_of(leaf >> (depth - level));
-    if same_node(level, position, level, beside) {
-        let at = 32 * (depth - level + 1);
-        put(out, at as usize, label);
+    } else if position == sibling_of(leaf >> (depth - level)) {
+        put(out, 32 * (depth - level + 1) as usize, label);
     }
 }
 
@@ -61,8 +48,7 @@ fn copy_label(depth: u64, leaf: u64, level: u64, position: u64, store: &[u8], ou
     ensures { out.new ≡ placed depth leaf out.old (node level position) (label_in store.now (node level position)) }
 {
     let at = slot_of(level, position);
-    let end = at + 32;
-    put_label(depth, leaf, out, level, position, &store[at..end]);
+    put_label(depth, leaf, out, level, position, &store[at..at + 32]);
 }
 
 // Copies the siblings of levels 1 to m, from level 1 on.
@@ -71,9 +57,7 @@ fn copy_siblings(depth: u64, memory: u64, leaf: u64, store: &[u8], out: &mut [u8
     requires memory_in_bounds { (store_size memory ≤ length store.now) × (opening_size depth ≤ length out.old) }
     ensures { out.new ≡ copied depth leaf store.now out.old memory }
 {
-    let mut level = 0;
-    while level < memory {
-        level += 1;
+    for level in 1..=memory {
         let beside = sibling_of(leaf >> (depth - level));
         copy_label(depth, leaf, level, beside, store, out);
     }

@@ -24,25 +24,20 @@ fn output_space() -> [u8; MAX_OUTPUT]
     [0; MAX_OUTPUT]
 }
 
-fn emit(to: Stream<'_>, output: &[u8], count: usize) -> bool {
-    if output.len() < count {
-        return false;
-    }
-    write_all(to, &output[..count]).is_ok()
-}
-
 // Reads an input, and answers it; an input that cannot be read and an answer that cannot be written are told.
 pub fn plan(from: Stream<'_>, to: Stream<'_>, err: Stream<'_>) {
     let mut space = input_space();
     let input = read_whole(from, &mut space);
-    let size = input.size;
-    if input.failed {
+    if input.failure.is_some() {
         let _ = write_all(err, b"plan: the input could not be read\n");
         return;
     }
     let mut output = output_space();
-    let count = planning::answer(&space[..size], &mut output);
-    if !emit(to, &output, count) {
+    let count = planning::answer(&space[..input.size], &mut output);
+    let written = output
+        .get(..count)
+        .is_some_and(|text| write_all(to, text).is_ok());
+    if !written {
         let _ = write_all(err, b"plan: the answer could not be written\n");
     }
 }

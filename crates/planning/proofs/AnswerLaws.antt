@@ -13,10 +13,8 @@ use Rattle.base.specs.Bytes.{written}
 use Rattle.base.specs.Limits.{max_challenges, max_chain}
 use Rattle.base.proofs.Ranges.{range-of}
 use Rattle.base.specs.declared.refusal.Refusal.{Refusal}
-use Rattle.base.specs.declared.refusal.Outcome.{Outcome}
-use Rattle.base.specs.declared.refusal.Outcome.TheVariants.{Done, Refused}
-use Rattle.base.specs.Number.{number_of, outcome_number}
-use Rattle.base.proofs.RowLaws.{is-done, refused-number, not_done}
+use Rattle.base.specs.Number.{number_of}
+use Rattle.base.proofs.RowLaws.{not_done}
 use Rattle.tree.specs.Nodes.{Node, node, root}
 use Rattle.chain_theory.specs.Ways.{chain, code, chain_codes}
 use Rattle.chain_theory.specs.Counts.{leaves_opened}
@@ -99,10 +97,8 @@ plan-wrote n leaves codes done are d e f k m q i different w end p t room =
     ))
 
 -- what planning into a list of 6,855 places answers
-pub done-row :
-    (n : ℕ) (leaves : List ℕ) (o : Outcome) (list : ℕ) → list ≡ max_chain → outcome_number o ≡ plan_row n leaves list → o ≡ Done
-    → plan_row n leaves places ≡ 0
-done-row n leaves o list e p q = rw (← e) (is-done o (plan_row n leaves list) p q)
+pub done-row : (n : ℕ) (leaves : List ℕ) (list : ℕ) → list ≡ max_chain → 0 ≡ plan_row n leaves list → plan_row n leaves places ≡ 0
+done-row n leaves list e p = rw (← e) (sym p)
 
 pub done-count : (n : ℕ) (leaves : List ℕ) (list count : ℕ) → list ≡ max_chain → plan_row n leaves places ≡ 0 → count ≡ planned_count n leaves list
     → count ≡ length (chain n leaves)
@@ -117,20 +113,13 @@ done-codes n leaves list codes count e d c p =
     (ap (take count) (append_assoc [] (map code (chain n leaves)) _)
     ∙ take_at (map code (chain n leaves)) _ count (length-map (chain n leaves) code ∙ sym c))
 
-refused-text :
-    (n : ℕ) (leaves : List ℕ) (o : Outcome) (why : Refusal) (list k : ℕ) → list ≡ max_chain → outcome_number o ≡ plan_row n leaves list
-    → o ≡ Refused why
-    → k ≡ number_of why → plan_text n leaves ≡ refused_text k
-unfolding plan_text
-refused-text n leaves o why list k a p q r =
-    let row : plan_row n leaves places ≡ k = rw (← a) (sym (refused-number o (plan_row n leaves list) why p q) ∙ sym r) in
-    rw (row, not_done why k (sym r))
-
 pub refused-wrote :
-    (n : ℕ) (leaves d e : List ℕ) (o : Outcome) (why : Refusal) (list k m : ℕ) → list ≡ max_chain
-    → outcome_number o ≡ plan_row n leaves list
-    → o ≡ Refused why → k ≡ number_of why → Wrote d 0 (refused_text k) e m → Wrote d 0 (plan_text n leaves) e m
-refused-wrote n leaves d e o why list k m a p q r w = rw (refused-text n leaves o why list k a p q r) w
+    (n : ℕ) (leaves d e : List ℕ) (why : Refusal) (list m : ℕ) → list ≡ max_chain → number_of why ≡ plan_row n leaves list
+    → Wrote d 0 (refused_text (number_of why)) e m → Wrote d 0 (plan_text n leaves) e m
+unfolding plan_text
+refused-wrote n leaves d e why list m a p w =
+    let row : plan_row n leaves places ≡ number_of why = rw (← a) (sym p) in
+    rw (row, not_done why (number_of why) refl) w
 
 pub done-wrote :
     (n : ℕ) (leaves d e : List ℕ) (m : ℕ) → plan_row n leaves places ≡ 0 → Wrote d 0 (answer_text n leaves 0) e m

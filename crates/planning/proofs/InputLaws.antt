@@ -1,12 +1,12 @@
 -- What is printed on an input: 17, or the plan of its first 202 numbers.
-use mathlib.Core.Path.{◌≡◌, refl, sym, ap, ◌∙◌}
-use Prim.Native.Nat.{ℕ, zero, suc, ◌+◌, ◌-◌, ◌≤◌, ◌<◌}
+use mathlib.Core.Path.{◌≡◌, refl, sym, ap, ap₂, ◌∙◌}
+use Prim.Native.Nat.{ℕ, ◌+◌, ◌≤◌, ◌<◌}
 use native.Mathlib.Omega.{arith}
 use mathlib.Core.Bool.{Bool, true, false, not, true≢false}
 use mathlib.Core.List.{List, [], ◌∷◌}
 use lib.Dec.{ltb, leb, eqb}
 use lib.ListN.{length, get_or, take, drop}
-use lib.Seq.{take_all, take-nil, get_or-take, length-take-le}
+use lib.Seq.{take_all, get_or-take, length-take-le}
 use borrow.Author.Tests.{lt-ltb, le-ltb, le-leb, lt-leb, leb-true, leb-false, eq-eqb, ne_eqb}
 use Rattle.base.specs.Choice.{pick, both, every}
 use Rattle.base.specs.Bytes.{written}
@@ -80,19 +80,13 @@ cut-rest : (n : ℕ) (xs : List ℕ) → plan_text n (drop 1 (take max_numbers x
 cut-rest n [] = refl
 cut-rest n (x ∷ ys) = cut n ys
 
-rest_of : (list : List ℕ) (count : ℕ) → 1 ≤ count → take (count - 1) (drop 1 list) ≡ drop 1 (take count list)
-rest_of list zero h = absurd (omega arith)
-rest_of [] (suc k) h = take-nil (suc k - 1)
-rest_of (x ∷ list) (suc k) h = let e : suc k - 1 ≡ k = omega arith in rw e
-
-pub plan-printed : (bytes list d e : List ℕ) (count m : ℕ) → 1 ≤ count → take count list ≡ take max_numbers (numbers bytes) → unreadable bytes ≡ false
-    → Wrote d 0 (plan_text (get_or list 0 0) (take (count - 1) (drop 1 list))) e m → Wrote d 0 (printed bytes) e m
+pub plan-printed : (bytes ys d e : List ℕ) (x m : ℕ) → x ∷ ys ≡ take max_numbers (numbers bytes) → unreadable bytes ≡ false
+    → Wrote d 0 (plan_text x ys) e m → Wrote d 0 (printed bytes) e m
 unfolding printed
-plan-printed bytes list d e count m h t u w =
-    let first : get_or list 0 0 ≡ get_or (numbers bytes) 0 0 =
-    sym (get_or-take count list 0 0 (omega arith)) ∙ ap (λ (l : List ℕ). get_or l 0 0) t ∙ get_or-take max_numbers (numbers bytes) 0 0 (omega arith) in
-    let text : plan_text (get_or list 0 0) (take (count - 1) (drop 1 list)) ≡ plan_text (get_or (numbers bytes) 0 0) (drop 1 (numbers bytes)) =
-    rw (first, rest_of list count h, t) (cut-rest (get_or (numbers bytes) 0 0) (numbers bytes)) in
+plan-printed bytes ys d e x m t u w =
+    let first : x ≡ get_or (numbers bytes) 0 0 = ap (λ (l : List ℕ). get_or l 0 0) t ∙ get_or-take max_numbers (numbers bytes) 0 0 (omega arith) in
+    let text : plan_text x ys ≡ plan_text (get_or (numbers bytes) 0 0) (drop 1 (numbers bytes)) =
+    ap₂ plan_text first (ap (λ (l : List ℕ). drop 1 l) t) ∙ cut-rest (get_or (numbers bytes) 0 0) (numbers bytes) in
     rw u (rw text at w)
 
 pub input-printed : (bytes d e : List ℕ) (m : ℕ) → unreadable bytes ≡ true → Wrote d 0 (refused_text 17) e m → Wrote d 0 (printed bytes) e m

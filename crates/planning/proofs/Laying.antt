@@ -1,6 +1,6 @@
 -- The texts of a plan: how long they are, and one after the other.
 use mathlib.Core.Path.{◌≡◌}
-use Prim.Native.Nat.{ℕ, ◌+◌, ◌*◌, ◌^◌, ◌≤◌, ◌<◌}
+use Prim.Native.Nat.{ℕ, ◌+◌, ◌*◌, ◌≤◌, ◌<◌}
 use native.Mathlib.Numerals.{add-one}
 use native.Mathlib.Omega.{arith}
 use mathlib.Core.List.{List, [], ◌∷◌, ◌++◌}
@@ -12,10 +12,6 @@ use Rattle.decimal.specs.Text.{decimal, field}
 use Rattle.decimal.proofs.Laying.{decimal-short, field-length}
 use Rattle.tree.specs.Nodes.{Node, root}
 use Rattle.planning.specs.Output.{node_text, nodes_text}
-
--- 2^(l+1)
-pub twice : (width level : ℕ) → width ≡ 2 ^ level → width * 2 ≡ 2 ^ (level + 1)
-twice width level e = rw (add-one level) (omega arith)
 
 -- the nodes
 pub nodes-turn : (vs : List Node) (i : ℕ) → i < length vs → nodes_text (drop i vs) ≡ node_text (get_or vs i root) ++ nodes_text (drop (i + 1) vs)

@@ -7,8 +7,8 @@ ghost use Rattle.chain.specs.PlanRow.{plan_row};
 ghost use Rattle.planning.specs.Output.{places, max_output, answer_text, plan_text, printed};
 ghost use Rattle.decimal.specs.Steps.{Wrote};
 
-use crate::texts::{node_of, put_head, put_node, put_refused};
-use base::{MAX_CHAIN, MAX_INPUT, Outcome};
+use crate::texts::{Node, put_head, put_node, put_refused};
+use base::{MAX_CHAIN, MAX_INPUT, Refusal};
 use decimal::{is_readable, read_numbers};
 
 // Room for all that is ever printed: specs/Output.antt.
@@ -25,11 +25,8 @@ pub fn put_plan(depth: u64, leaves: &[u64], codes: &[u64], out: &mut [u8]) -> us
         chain::different_leaves(leaves),
         codes.len() as u64,
     );
-    let mut i: usize = 0;
-    while i < codes.len() {
-        let spot = node_of(codes[i]);
-        at = put_node(out, at, spot.level, spot.position);
-        i += 1;
+    for code in codes {
+        at = put_node(out, at, Node::of_code(*code));
     }
     at
 }
@@ -40,12 +37,9 @@ fn put_answer(depth: u64, leaves: &[u64], out: &mut [u8]) -> usize
     ensures { Wrote out.old 0 (plan_text depth leaves.now) out.new result }
 {
     let mut codes = [0u64; MAX_CHAIN];
-    let planned = chain::plan(depth, leaves, &mut codes);
-    let outcome = planned.outcome;
-    let count = planned.count as usize;
-    match outcome {
-        Outcome::Refused(why) => put_refused(out, base::number(why)),
-        Outcome::Done => put_plan(depth, leaves, &codes[..count], out),
+    match chain::plan(depth, leaves, &mut codes) {
+        Ok(count) => put_plan(depth, leaves, &codes[..count as usize], out),
+        Err(why) => put_refused(out, why),
     }
 }
 
@@ -60,17 +54,12 @@ pub fn answer(input: &[u8], out: &mut [u8]) -> usize
     if out.len() < MAX_OUTPUT {
         return 0;
     }
-    if MAX_INPUT < input.len() {
-        return put_refused(out, 17);
-    }
-    if !is_readable(input) {
-        return put_refused(out, 17);
+    if MAX_INPUT < input.len() || !is_readable(input) {
+        return put_refused(out, Refusal::Input);
     }
     let numbers = read_numbers(input);
-    let list = numbers.list;
-    let count = numbers.count;
-    if count < 1 {
-        return put_refused(out, 17);
+    match numbers.list[..numbers.count].split_first() {
+        Some((depth, leaves)) => put_answer(*depth, leaves, out),
+        None => put_refused(out, Refusal::Input),
     }
-    put_answer(list[0], &list[1..count], out)
 }

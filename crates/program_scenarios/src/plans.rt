@@ -1,123 +1,121 @@
 // The planning program's answers to the shared vectors, and at the edges of its input.
-use crate::{output, write};
-use descriptors::{Stream, create, open_read};
+use crate::output;
+use descriptors::{Stream, create, open_read, write_all};
+use std::alloc::{AllocError, Global};
+use std::io;
 
 fn output_space() -> [u8; 287992] {
     [0; 287992]
 }
 
-fn emit(rt: &HostRuntime, text: &[u8], count: usize) {
-    if count <= text.len() {
-        write(output(rt), &text[..count]);
+fn answered(rt: &HostRuntime, input: &[u8]) -> io::Result<()> {
+    let mut text = output_space();
+    let count = planning::answer(input, &mut text);
+    match text.get(..count) {
+        Some(text) => write_all(output(rt), text),
+        None => Ok(()),
     }
 }
 
-fn answered(rt: &HostRuntime, input: &[u8]) {
-    let mut text = output_space();
-    let count = planning::answer(input, &mut text);
-    emit(rt, &text, count);
+// Blanks, but for the bytes at some places.
+fn blanks_but(alloc: Global, size: usize, others: &[(usize, u8)]) -> Result<Vec<u8>, AllocError> {
+    let mut input = vec![in alloc; b' '; size]?;
+    for (place, other) in others {
+        if let Some(byte) = input.get_mut(*place) {
+            *byte = *other;
+        }
+    }
+    Ok(input)
 }
 
-// Blanks before a plan that is good without them.
-fn blanks_65536() -> [u8; 65536] {
-    [32; 65536]
+// A depth, and the first leaf so many times, and then an end.
+fn repeated(rt: &HostRuntime, depth: &[u8], times: usize, end: &[u8]) -> io::Result<()> {
+    let mut input = Vec::new(rt.alloc());
+    input.extend_from_slice(depth)?;
+    for _ in 0..times {
+        input.extend_from_slice(b" 1")?;
+    }
+    input.extend_from_slice(end)?;
+    answered(rt, &input)
 }
 
-fn blanks_65537() -> [u8; 65537] {
-    [32; 65537]
+fn plain(rt: &HostRuntime) -> io::Result<()> {
+    for input in [
+        &b"2 3 0 3"[..],
+        b"2 0",
+        b"4 0 1 2 3 8 9 13 14 15",
+        b"1 0 1\n",
+        b"3\n7\n\n7 0",
+        b"40 0 1099511627775",
+        b"",
+        b" \n",
+        b"x",
+        b"2",
+        b"0 0",
+        b"41 0",
+        b"2 4",
+        b"2 18446744073709551615",
+        b"2 18446744073709551616",
+        b"2\x091",
+    ] {
+        answered(rt, input)?;
+    }
+    Ok(())
 }
 
-fn longest(rt: &HostRuntime) {
-    let mut input = blanks_65536();
-    input[65533] = 49;
-    input[65535] = 48;
-    answered(rt, &input);
-}
-
-fn too_long(rt: &HostRuntime) {
-    let mut input = blanks_65537();
-    input[65533] = 49;
-    input[65535] = 48;
-    answered(rt, &input);
-}
-
-fn part_1(rt: &HostRuntime) {
-    answered(rt, b"2 3 0 3");
-    answered(rt, b"2 0");
-    answered(rt, b"4 0 1 2 3 8 9 13 14 15");
-    answered(rt, b"1 0 1\n");
-    answered(rt, b"3\n7\n\n7 0");
-    answered(rt, b"40 0 1099511627775");
-    answered(rt, b"");
-    answered(rt, b" \n");
-}
-
-fn part_2(rt: &HostRuntime) {
-    answered(rt, b"x");
-    answered(rt, b"2");
-    answered(rt, b"0 0");
-    answered(rt, b"41 0");
-    answered(rt, b"2 4");
-    answered(rt, b"2 18446744073709551615");
-    answered(rt, b"2 18446744073709551616");
-    answered(rt, b"2\x091");
-}
-
-fn part_3(rt: &HostRuntime) {
-    answered(rt, b"002 003 0000000000000000000000003");
-    answered(
-        rt,
-        b"2 1 1 1 1 1 1 1 1 1 1 1 1 1 1 1 1 1 1 1 1 1 1 1 1 1 1 1 1 1 1 1 1 1 1 1 1 1 1 1 1 1 1 1 1 1 1 1 1 1 1 1 1 1 1 1 1 1 1 1 1 1 1 1 1 1 1 1 1 1 1 1 1 1 1 1 1 1 1 1 1 1 1 1 1 1 1 1 1 1 1 1 1 1 1 1 1 1 1 1 1 1 1 1 1 1 1 1 1 1 1 1 1 1 1 1 1 1 1 1 1 1 1 1 1 1 1 1 1 1 1 1 1 1 1 1 1 1 1 1 1 1 1 1 1 1 1 1 1 1 1 1 1 1 1 1 1 1 1 1 1 1 1 1 1 1 1 1 1 1 1 1 1 1 1 1 1 1 1 1 1 1 1 1 1 1 1 1 1 1 1 1 1 1 1 1 1 1 1 1 1 ",
-    );
-    answered(
-        rt,
-        b"2 1 1 1 1 1 1 1 1 1 1 1 1 1 1 1 1 1 1 1 1 1 1 1 1 1 1 1 1 1 1 1 1 1 1 1 1 1 1 1 1 1 1 1 1 1 1 1 1 1 1 1 1 1 1 1 1 1 1 1 1 1 1 1 1 1 1 1 1 1 1 1 1 1 1 1 1 1 1 1 1 1 1 1 1 1 1 1 1 1 1 1 1 1 1 1 1 1 1 1 1 1 1 1 1 1 1 1 1 1 1 1 1 1 1 1 1 1 1 1 1 1 1 1 1 1 1 1 1 1 1 1 1 1 1 1 1 1 1 1 1 1 1 1 1 1 1 1 1 1 1 1 1 1 1 1 1 1 1 1 1 1 1 1 1 1 1 1 1 1 1 1 1 1 1 1 1 1 1 1 1 1 1 1 1 1 1 1 1 1 1 1 1 1 1 1 1 1 1 1 1 1 ",
-    );
-    answered(
-        rt,
-        b"41 1 1 1 1 1 1 1 1 1 1 1 1 1 1 1 1 1 1 1 1 1 1 1 1 1 1 1 1 1 1 1 1 1 1 1 1 1 1 1 1 1 1 1 1 1 1 1 1 1 1 1 1 1 1 1 1 1 1 1 1 1 1 1 1 1 1 1 1 1 1 1 1 1 1 1 1 1 1 1 1 1 1 1 1 1 1 1 1 1 1 1 1 1 1 1 1 1 1 1 1 1 1 1 1 1 1 1 1 1 1 1 1 1 1 1 1 1 1 1 1 1 1 1 1 1 1 1 1 1 1 1 1 1 1 1 1 1 1 1 1 1 1 1 1 1 1 1 1 1 1 1 1 1 1 1 1 1 1 1 1 1 1 1 1 1 1 1 1 1 1 1 1 1 1 1 1 1 1 1 1 1 1 1 1 1 1 1 1 1 1 1 1 1 1 1 1 1 1 1 1 1 ",
-    );
-    answered(
-        rt,
-        b"2 1 1 1 1 1 1 1 1 1 1 1 1 1 1 1 1 1 1 1 1 1 1 1 1 1 1 1 1 1 1 1 1 1 1 1 1 1 1 1 1 1 1 1 1 1 1 1 1 1 1 1 1 1 1 1 1 1 1 1 1 1 1 1 1 1 1 1 1 1 1 1 1 1 1 1 1 1 1 1 1 1 1 1 1 1 1 1 1 1 1 1 1 1 1 1 1 1 1 1 1 1 1 1 1 1 1 1 1 1 1 1 1 1 1 1 1 1 1 1 1 1 1 1 1 1 1 1 1 1 1 1 1 1 1 1 1 1 1 1 1 1 1 1 1 1 1 1 1 1 1 1 1 1 1 1 1 1 1 1 1 1 1 1 1 1 1 1 1 1 1 1 1 1 1 1 1 1 1 1 1 1 1 1 1 1 1 1 1 1 1 1 1 1 1 1 1 1 1 1 1 9",
-    );
+// Numbers with zeros before them; as many leaves as there may be, and more.
+fn long(rt: &HostRuntime) -> io::Result<()> {
+    answered(rt, b"002 003 0000000000000000000000003")?;
+    repeated(rt, b"2", 200, b" ")?;
+    repeated(rt, b"2", 201, b" ")?;
+    repeated(rt, b"41", 201, b" ")?;
+    repeated(rt, b"2", 200, b" 9")
 }
 
 // The planning program over a file of these bytes.
-fn planned(rt: &HostRuntime, bytes: &[u8]) {
+fn planned(rt: &HostRuntime, bytes: &[u8]) -> io::Result<()> {
     if let Ok(file) = create(rt, b"input") {
-        write(Stream::File(&file), bytes);
+        write_all(Stream::File(&file), bytes)?;
     }
     if let Ok(file) = open_read(rt, b"input") {
         plan_command::plan(Stream::File(&file), output(rt), output(rt));
     }
     let _ = descriptors::remove(rt, b"input");
+    Ok(())
 }
 
 // W-203: a depth alone.
-fn no_leaves(rt: &HostRuntime) {
-    answered(rt, b"1");
-    answered(rt, b"40\n");
-    answered(rt, b"0");
-    answered(rt, b"41");
-    answered(rt, b"2 ");
-    answered(rt, b"3 8");
-    answered(rt, b"2\n");
-    answered(rt, b" 2 ");
-    planned(rt, b"2");
+fn no_leaves(rt: &HostRuntime) -> io::Result<()> {
+    for input in [
+        &b"1"[..],
+        b"40\n",
+        b"0",
+        b"41",
+        b"2 ",
+        b"3 8",
+        b"2\n",
+        b" 2 ",
+    ] {
+        answered(rt, input)?;
+    }
+    planned(rt, b"2")
 }
 
-// The program reads one byte more than an input may have, and no plan is printed of what it did not read whole.
-fn read_edges(rt: &HostRuntime) {
-    let mut most = blanks_65536();
-    most[0] = 50;
-    most[2] = 48;
-    planned(rt, &most);
-    let mut more = blanks_65537();
-    more[0] = 50;
-    more[2] = 48;
-    more[65536] = 120;
-    planned(rt, &more);
+// Blanks before a plan that is good without them, as many as there may be and one more; and the program's reads: it reads one byte more than an
+// input may have, and no plan is printed of what it did not read whole.
+fn edges(rt: &HostRuntime) -> io::Result<()> {
+    let alloc = rt.alloc();
+    for size in [65536, 65537] {
+        answered(
+            rt,
+            &blanks_but(alloc, size, &[(65533, b'1'), (65535, b'0')])?,
+        )?;
+    }
+    planned(rt, &blanks_but(alloc, 65536, &[(0, b'2'), (2, b'0')])?)?;
+    planned(
+        rt,
+        &blanks_but(alloc, 65537, &[(0, b'2'), (2, b'0'), (65536, b'x')])?,
+    )
 }
 
 // An input that cannot be read, and an output that cannot be written.
@@ -130,13 +128,11 @@ fn failing(rt: &HostRuntime) {
     }
 }
 
-pub fn plans(rt: &HostRuntime) {
-    part_1(rt);
-    part_2(rt);
-    part_3(rt);
-    no_leaves(rt);
-    longest(rt);
-    too_long(rt);
-    read_edges(rt);
+pub fn plans(rt: &HostRuntime) -> io::Result<()> {
+    plain(rt)?;
+    long(rt)?;
+    no_leaves(rt)?;
+    edges(rt)?;
     failing(rt);
+    Ok(())
 }

@@ -6,31 +6,27 @@ mod due; // due.rt: when a checkpoint is due
 mod telling; // telling.rt: what is told, and when
 
 use descriptors::Stream;
-pub use due::{appended, is_due, is_due_after_labels, is_due_at_end, is_sync_due, saved};
-pub use telling::{begin, finish, tick};
 
-// Times are in milliseconds. `made` labels of `all` are made, `first` of them before this process began. `ended` says that the checkpoint on
-// the disk is of the finished run, so that openings go behind it.
+// How many labels a tree of a depth has, and how many of them are made.
+#[derive(Clone, Copy, Debug, PartialEq, Eq)]
+pub struct Labels {
+    pub depth: u64,
+    pub all: u64,
+    pub made: u64,
+}
+
+// Times are in milliseconds. `first` labels were made before this process began. `ended` says that the checkpoint on the disk is of the
+// finished run, so that openings go behind it.
 #[derive(Clone, Copy)]
 pub struct Progress<'a> {
     pub err: Stream<'a>,
-    pub terminal: bool,
-    pub depth: u64,
-    pub all: u64,
-    pub first: u64,
-    pub made: u64,
-    pub start: u64,
-    pub shown: u64,
-    pub kept: u64,
-    pub every: u64,
-    pub told: bool,
+    terminal: bool,
+    labels: Labels,
+    first: u64,
+    start: u64,
+    shown: u64,
+    kept: u64,
+    every: u64,
+    told: bool,
     pub ended: bool,
-}
-
-// The time from one moment to a later one.
-fn since(now: u64, then: u64) -> u64 {
-    if now < then {
-        return 0;
-    }
-    now - then
 }

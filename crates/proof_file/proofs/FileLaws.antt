@@ -1,32 +1,32 @@
 -- Laws of the check of a file: one for each return.
 use mathlib.Core.Path.{◌≡◌, refl, sym}
-use mathlib.Core.Bool.{true, false}
-use mathlib.Core.List.{List}
+use mathlib.Core.Bool.{Bool, true, false, not}
+use mathlib.Core.List.{List, [], ◌∷◌}
 use Prim.Native.Nat.{ℕ, suc, ◌+◌, ◌-◌, ◌≤◌, ◌<◌}
 use native.Mathlib.Omega.{arith}
-use borrow.Author.Tests.{lt-ltb, le-ltb, eq-eqb, ne_eqb}
-use lib.Dec.{eqb}
+use borrow.Author.Tests.{ltb-false, not-false}
+use lib.Dec.{eqb, ltb}
 use lib.ListN.{length, take, drop}
-use Rattle.base.specs.Choice.{both}
+use Rattle.base.specs.Choice.{pick, both}
 use Rattle.base.specs.Lists.{same_bytes}
-use Rattle.base.proofs.ChoiceLaws.{both_false, both_yes, both_first}
+use Rattle.base.proofs.ChoiceLaws.{both_first}
 use Rattle.base.proofs.ListsLaws.{tells-bytes}
 use Rattle.base.specs.declared.refusal.Refusal.{Refusal}
-use Rattle.base.specs.declared.refusal.Outcome.{Outcome}
-use Rattle.base.specs.declared.refusal.Outcome.TheVariants.{Done, Refused}
+use Rattle.std.specs.Prelude.{Result, Ok, Err}
 use Rattle.base.specs.Number.{number_of, outcome_number}
-use Rattle.base.specs.Row.{is_done}
-use Rattle.base.proofs.RowLaws.{not_done}
+use Rattle.base.specs.Row.{first_of, is_done}
+use Rattle.base.proofs.RowLaws.{NoneHolds, none-holds, not_done}
+use Rattle.base.proofs.Bounds.{number-some}
 use Rattle.tree.specs.Openings.{opening_size}
 use Rattle.file_head.specs.Challenge.{challenge_leaf}
 use Rattle.file_head.specs.Layout.{opening_from}
 use Rattle.file_head.specs.Head.{numbers, not_read, head_of, length_from, statement_at, root_at, opening_at}
 use Rattle.opening_check.specs.OpeningCheck.{right_row}
-use Rattle.proof_file.specs.FileCheck.{found_in, openings_from, wanted, file_rest, file_check}
+use Rattle.proof_file.specs.FileCheck.{found_in, openings_from, wanted, file_check}
 use Rattle.base.proofs.Parts.{part-size}
 
 -- ---- the openings: one refused, one right, none left
-module _ (edition : ℕ) (bytes statement root : List ℕ) (n at i t start leaf : ℕ) (outcome : Outcome)
+module _ (edition : ℕ) (bytes statement root : List ℕ) (n at i t start leaf : ℕ) (outcome : Result Unit Refusal)
     (s : statement ≡ statement_at bytes at) (r : root ≡ root_at bytes at) (l : leaf ≡ challenge_leaf edition n statement root i)
     (from : start ≡ opening_from n (at + 64) i) (more : i ≤ t)
     (o : outcome_number outcome ≡ right_row edition statement n leaf root (take (start + opening_size n - start) (drop start bytes))) where
@@ -39,14 +39,14 @@ module _ (edition : ℕ) (bytes statement root : List ℕ) (n at i t start leaf 
   one_more : t + 1 - i ≡ suc (t - i)
   one_more = omega arith
 
-  pub opening-refused : (refusal : Refusal) → outcome ≡ Refused refusal
+  pub opening-refused : (refusal : Refusal) → outcome ≡ Err refusal
       → openings_from edition bytes n at i (t + 1 - i) ≡ found_in i (number_of refusal)
   unfolding openings_from
   opening-refused refusal e =
       let no : is_done (number_of refusal) ≡ false = not_done refusal (number_of refusal) refl in
       rw (one_more, outcome-is, e, no)
 
-  pub opening-right : outcome ≡ Done → openings_from edition bytes n at i (t + 1 - i) ≡ openings_from edition bytes n at (i + 1) (t + 1 - (i + 1))
+  pub opening-right : outcome ≡ Ok tt → openings_from edition bytes n at i (t + 1 - i) ≡ openings_from edition bytes n at (i + 1) (t + 1 - (i + 1))
   unfolding openings_from
   opening-right e =
       let rest : t + 1 - (i + 1) ≡ t - i = omega arith in
@@ -56,57 +56,61 @@ pub none_left : (edition : ℕ) (bytes : List ℕ) (n at i t : ℕ) → t < i �
 unfolding openings_from
 none_left edition bytes n at i t h = let none : t + 1 - i ≡ 0 = omega arith in rw none
 
--- ---- 9
+-- ---- 10; 13; 9, then the openings
 module _ (statement statement' : List ℕ) (n t n' t' : ℕ) where
-  pub other-depth : (n ≡ n' → ⊥) → false ≡ wanted statement n t statement' n' t'
-  other-depth d = rw (ne_eqb n n' d, both_false (same_bytes statement statement'))
-
-  pub other-count : n ≡ n' → (t ≡ t' → ⊥) → false ≡ wanted statement n t statement' n' t'
-  other-count e d = rw (eq-eqb n n' e, ne_eqb t t' d, both_false (same_bytes statement statement'))
-
-  pub statement-left : n ≡ n' → t ≡ t' → same_bytes statement statement' ≡ wanted statement n t statement' n' t'
-  statement-left e f = rw (eq-eqb n n' e, eq-eqb t t' f, both_yes (same_bytes statement statement'))
-
   pub wanted-statement : wanted statement n t statement' n' t' ≡ true → statement' ≡ statement
   wanted-statement e =
       sym (tells-bytes.equal statement statement' (both_first (same_bytes statement statement') (both (eqb n n') (eqb t t')) e))
 
--- ---- 10; 13; 9; then the openings
-module _ (bytes statement : List ℕ) (depth count edition n t at size : ℕ) (is : size ≡ length_from n t at) where
-  pub too_short : length bytes < size → found_in 0 10 ≡ file_rest bytes statement depth count (numbers edition n t at)
-  too_short h = let short : length bytes < length_from n t at = rw is at h in rw (lt-ltb (length bytes) (length_from n t at) short)
+-- a row's answer outside openings
+found-row : (a b c : Bool) (openings number : ℕ) → 1 ≤ number → number ≡ first_of ((a, 10) ∷ (b, 13) ∷ (c, 9) ∷ [])
+    → found_in 0 number ≡ pick a (found_in 0 10) (pick b (found_in 0 13) (pick c (found_in 0 9) openings))
+found-row true b c openings number some e = rw e
+found-row false true c openings number some e = rw e
+found-row false false true openings number some e = rw e
+found-row false false false openings number some e = absurd (omega arith)
 
-  module _ (enough : size ≤ length bytes) where
-    not_short : length_from n t at ≤ length bytes
-    not_short = rw is at enough
+-- what the row says of a file where it is passed
+pub record Whole (bytes statement : List ℕ) (depth count edition n t at : ℕ) : Type 0 where
+  pub length-is : length bytes ≡ length_from n t at
+  pub statement-is : statement ≡ statement_at bytes at
+  pub answer : openings_from edition bytes n at 1 t ≡ file_check bytes statement depth count
 
-    pub too_long : size < length bytes
-        → found_in 0 13 ≡ file_rest bytes statement depth count (numbers edition n t at)
-    too_long h =
-        let long : length_from n t at < length bytes = rw is at h in
-        rw (le-ltb (length bytes) (length_from n t at) not_short, lt-ltb (length_from n t at) (length bytes) long)
-
-    module _ (all : length bytes ≤ size) where
-      not-long : length bytes ≤ length_from n t at
-      not-long = rw is at all
-
-      pub not-wanted : wanted (statement_at bytes at) n t statement depth count ≡ false
-          → found_in 0 9 ≡ file_rest bytes statement depth count (numbers edition n t at)
-      not-wanted w =
-          rw (le-ltb (length bytes) (length_from n t at) not_short, le-ltb (length_from n t at) (length bytes) not-long, w)
-
-      pub is-wanted : wanted (statement_at bytes at) n t statement depth count ≡ true
-          → openings_from edition bytes n at 1 t ≡ file_rest bytes statement depth count (numbers edition n t at)
-      is-wanted w =
-          rw (le-ltb (length bytes) (length_from n t at) not_short, le-ltb (length_from n t at) (length bytes) not-long, w)
-
--- ---- the whole
-module _ (bytes statement : List ℕ) (depth count : ℕ) where
-  pub head-refused : (r : ℕ) → head_of bytes ≡ not_read r → found_in 0 r ≡ file_check bytes statement depth count
+module _ (bytes statement : List ℕ) (depth count edition n t at : ℕ) (h : head_of bytes ≡ numbers edition n t at) where
+  pub rest-refused : (r : Refusal) → number_of r ≡ first_of
+      ((ltb (length bytes) (length_from n t at), 10)
+      ∷ (ltb (length_from n t at) (length bytes), 13)
+      ∷ (not (wanted (statement_at bytes at) n t statement depth count), 9)
+      ∷ [])
+      → found_in 0 (number_of r) ≡ file_check bytes statement depth count
   unfolding file_check
-  head-refused r e = rw e
+  rest-refused r e = rw h (found-row _ _ _ (openings_from edition bytes n at 1 t) (number_of r) (number-some r) e)
 
-  pub rest-checked : (edition n t at : ℕ) → head_of bytes ≡ numbers edition n t at
-      → file_rest bytes statement depth count (numbers edition n t at) ≡ file_check bytes statement depth count
+  pub rest-passed : 0 ≡ first_of
+      ((ltb (length bytes) (length_from n t at), 10)
+      ∷ (ltb (length_from n t at) (length bytes), 13)
+      ∷ (not (wanted (statement_at bytes at) n t statement depth count), 9)
+      ∷ [])
+      → Whole bytes statement depth count edition n t at
   unfolding file_check
-  rest-checked edition n t at e = rw e
+  rest-passed e =
+      let row : List (Bool × ℕ) =
+      (ltb (length bytes) (length_from n t at), 10)
+      ∷ (ltb (length_from n t at) (length bytes), 13)
+      ∷ (not (wanted (statement_at bytes at) n t statement depth count), 9)
+      ∷ [] in
+      let none : NoneHolds row = none-holds row refl (sym e) in
+      let least = ltb-false (length bytes) (length_from n t at) none.0 in
+      let most = ltb-false (length_from n t at) (length bytes) none.1.0 in
+      let same : wanted (statement_at bytes at) n t statement depth count ≡ true = not-false _ none.1.1.0 in
+      record {
+        length-is = omega arith;
+        statement-is = wanted-statement (statement_at bytes at) statement n t depth count same;
+        answer = rw (h, none.0, none.1.0, same);
+      }
+
+-- ---- the head
+pub head-refused : (bytes statement : List ℕ) (depth count r : ℕ) → head_of bytes ≡ not_read r
+    → found_in 0 r ≡ file_check bytes statement depth count
+unfolding file_check
+head-refused bytes statement depth count r e = rw e

@@ -1,105 +1,88 @@
 // Document 01's rows 'File': the check of any bytes as a proof of a wanted statement, depth and count.
-ghost use Rattle.std.specs.Prelude.{◌≡◌, ◌+◌, ◌≤◌, length};
-ghost use Rattle.base.specs.Limits.{max_depth, max_challenges};
-ghost use Rattle.base.specs.Number.{code_of};
-ghost use Rattle.file_head.specs.Head.{numbers, length_from, statement_at};
-ghost use Rattle.proof_file.specs.FileCheck.{openings_from, wanted, file_rest, file_check};
+ghost use Rattle.std.specs.Prelude.{◌≡◌, ◌+◌, ◌≤◌, [], ◌∷◌, not, ltb, length};
+ghost use Rattle.base.specs.Number.{code_of, outcome_number};
+ghost use Rattle.base.specs.Row.{first_of};
+ghost use Rattle.file_head.specs.Head.{length_from, statement_at};
+ghost use Rattle.proof_file.specs.FileCheck.{openings_from, wanted, file_check};
 
-use base::{Check, Outcome, Refusal, label_at, same};
-use file_head::{HeadNumbers, challenge_leaf, file_length, opening_start, read_head};
+use base::{Refusal, Rejection, label_at, same};
+use file_head::{Head, challenge_leaf, read_head};
+use labelling::Tree;
 use opening_check::right;
 
 // Each opening in challenge order: 14, 15 with its number.
-fn check_openings(
-    bytes: &[u8],
-    edition: u64,
-    statement: [u8; 32],
-    n: u64,
-    t: u64,
-    at: usize,
-) -> Check
-    requires le_n { (1 ≤ n) × (n ≤ max_depth) × (t ≤ max_challenges) × (at ≤ 6) }
-    requires bytes_len { (length bytes.now ≡ length_from n t at) × (statement ≡ statement_at bytes.now at) }
-    ensures { code_of result ≡ openings_from edition bytes.now n at 1 t }
+fn check_openings(bytes: &[u8], head: &Head, statement: [u8; 32]) -> Result<(), Rejection>
+    requires bytes_len { (length bytes.now ≡ length_from head.now.depth head.now.count head.now.end)
+        × (statement ≡ statement_at bytes.now head.now.end) }
+    ensures { code_of result ≡ openings_from head.now.edition bytes.now head.now.depth head.now.end 1 head.now.count }
 {
-    let root = label_at(bytes, at + 32);
-    let mut i: u64 = 1;
-    while i <= t {
-        let leaf = challenge_leaf(edition, n, statement, root, i);
-        let start = opening_start(n, at, i);
-        let end = start + 32 * (n + 1) as usize;
-        let outcome = right(edition, statement, n, leaf, root, &bytes[start..end]);
-        match outcome {
-            Outcome::Refused(r) => return Check::Rejected(r, i as u8),
-            Outcome::Done => {}
+    let root = label_at(bytes, head.end + 32);
+    let tree = Tree {
+        statement,
+        edition: head.edition,
+        depth: head.depth,
+    };
+    for i in 1..=head.count {
+        let leaf = challenge_leaf(head.edition, head.depth, statement, root, i);
+        let start = head.opening_start(i);
+        let end = start + head.opening_size();
+        if let Err(refusal) = right(&tree, leaf, root, &bytes[start..end]) {
+            return Err(Rejection {
+                refusal,
+                opening: i as u8,
+            });
         }
-        i += 1;
     }
-    Check::Accepted
+    Ok(())
 }
 
 // Whether statement, depth and count are those wanted.
-fn is_wanted(
-    bytes: &[u8],
-    statement: [u8; 32],
-    depth: u64,
-    count: u64,
-    n: u64,
-    t: u64,
-    at: usize,
-) -> bool
-    requires { at + 32 ≤ length bytes.now }
-    ensures { result ≡ wanted (statement_at bytes.now at) n t statement depth count }
+fn is_wanted(bytes: &[u8], head: &Head, statement: [u8; 32], depth: u64, count: u64) -> bool
+    requires { head.now.end + 32 ≤ length bytes.now }
+    ensures { result ≡ wanted (statement_at bytes.now head.now.end) head.now.depth head.now.count statement depth count }
 {
-    if n != depth {
-        return false;
-    }
-    if t != count {
-        return false;
-    }
-    let end = at + 32;
-    same(&bytes[at..end], &statement)
+    head.depth == depth && head.count == count && same(&label_at(bytes, head.end), &statement)
 }
 
-// What follows the numbers.
+// 10; 13; 9: the length, and what is wanted.
 fn check_rest(
     bytes: &[u8],
-    edition: u64,
+    head: &Head,
     statement: [u8; 32],
     depth: u64,
     count: u64,
-    n: u64,
-    t: u64,
-    at: usize,
-) -> Check
-    requires { (1 ≤ n) × (n ≤ max_depth) × (t ≤ max_challenges) × (at ≤ 6) }
-    ensures { code_of result ≡ file_rest bytes.now statement depth count (numbers edition n t at) }
+) -> Result<(), Refusal>
+    ensures { outcome_number result ≡ first_of
+        ((ltb (length bytes.now) (length_from head.now.depth head.now.count head.now.end), 10)
+        ∷ (ltb (length_from head.now.depth head.now.count head.now.end) (length bytes.now), 13)
+        ∷ (not (wanted (statement_at bytes.now head.now.end) head.now.depth head.now.count statement depth count), 9)
+        ∷ []) }
 {
-    let size = file_length(n, t, at);
+    let size = head.file_length();
     if bytes.len() < size {
-        return Check::Rejected(Refusal::BytesEnd, 0);
+        return Err(Refusal::BytesEnd);
     }
     if size < bytes.len() {
-        return Check::Rejected(Refusal::BytesLeft, 0);
+        return Err(Refusal::BytesLeft);
     }
-    if !is_wanted(bytes, statement, depth, count, n, t, at) {
-        return Check::Rejected(Refusal::NotWanted, 0);
+    if !is_wanted(bytes, head, statement, depth, count) {
+        return Err(Refusal::NotWanted);
     }
-    check_openings(bytes, edition, statement, n, t, at)
+    Ok(())
 }
 
 // The check of a file.
-pub fn check_file(bytes: &[u8], statement: [u8; 32], depth: u64, count: u64) -> Check
+pub fn check_file(
+    bytes: &[u8],
+    statement: [u8; 32],
+    depth: u64,
+    count: u64,
+) -> Result<(), Rejection>
     ensures { code_of result ≡ file_check bytes.now statement depth count }
 {
-    let head = read_head(bytes);
-    match head {
-        HeadNumbers::NotRead(r) => Check::Rejected(r, 0),
-        HeadNumbers::Numbers(edition, n, t, next) => {
-            let at = next.at;
-            check_rest(bytes, edition, statement, depth, count, n, t, at)
-        }
-    }
+    let head = read_head(bytes)?;
+    check_rest(bytes, &head, statement, depth, count)?;
+    check_openings(bytes, &head, statement)
 }
 
 // Its answer as one number.

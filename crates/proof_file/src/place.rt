@@ -1,44 +1,32 @@
 // Document 01, 'Challenges and the file': where an opening lies in the caller's bytes, and that part of them.
-ghost use Rattle.std.specs.Prelude.{◌≡◌, ◌+◌, ◌≤◌};
-ghost use Rattle.base.specs.Limits.{max_depth, max_challenges};
-ghost use Rattle.base.specs.Choice.{pick};
-ghost use Rattle.tree.specs.Openings.{opening_size};
-ghost use Rattle.file_head.specs.Layout.{opening_from};
-ghost use Rattle.file_head.specs.Head.{head_of, has_opening, part_start, part_length, opening_part};
+ghost use Rattle.std.specs.Prelude.{◌≡◌, ◌+◌};
+ghost use Rattle.std.specs.Option.{option_map_or};
+ghost use Rattle.file_head.specs.Head.{head_of, part_start, part_length, opening_part};
 
 use base::beyond;
-use file_head::{HeadNumbers, file_length, opening_start, read_head};
+use file_head::read_head;
 
-// A part of the bytes; 0 and 0 where there is none.
+// A part of the bytes; 0 and 0 where there is none, as C is told.
 #[repr(C)]
-#[derive(Clone, Copy)]
+#[derive(Clone, Copy, Debug, PartialEq, Eq)]
 pub struct Place {
     pub offset: usize,
     pub length: usize,
 }
 
-// Where opening i lies in bytes whose numbers end at a place.
-fn place_at(bytes: &[u8], n: u64, t: u64, at: usize, i: u64) -> Place
-    requires { (n ≤ max_depth) × (t ≤ max_challenges) × (at ≤ 6) }
-    ensures offset_value { result.offset ≡ pick (has_opening bytes.now n t at i) (opening_from n (at + 64) i) 0 }
-    ensures length_value { result.length ≡ pick (has_opening bytes.now n t at i) (opening_size n) 0 }
+// Where opening i lies; nowhere in bytes that are no whole file, or that have no opening of that number.
+fn found_place(bytes: &[u8], i: u64) -> Option<Place>
+    ensures offset_value { option_map_or (λ p. p.offset) result 0 ≡ part_start bytes.now i (head_of bytes.now) }
+    ensures length_value { option_map_or (λ p. p.length) result 0 ≡ part_length bytes.now i (head_of bytes.now) }
 {
-    if bytes.len() != file_length(n, t, at) {
-        return Place {
-            offset: 0,
-            length: 0,
-        };
+    let head = read_head(bytes).ok()?;
+    if bytes.len() != head.file_length() || beyond(head.count, i) {
+        return None;
     }
-    if beyond(t, i) {
-        return Place {
-            offset: 0,
-            length: 0,
-        };
-    }
-    Place {
-        offset: opening_start(n, at, i),
-        length: 32 * (n + 1) as usize,
-    }
+    Some(Place {
+        offset: head.opening_start(i),
+        length: head.opening_size(),
+    })
 }
 
 // Where opening i, from 1, lies.
@@ -46,16 +34,12 @@ pub fn opening_place(bytes: &[u8], i: u64) -> Place
     ensures offset_value { result.offset ≡ part_start bytes.now i (head_of bytes.now) }
     ensures length_value { result.length ≡ part_length bytes.now i (head_of bytes.now) }
 {
-    let head = read_head(bytes);
-    match head {
-        HeadNumbers::NotRead(_) => Place {
+    match found_place(bytes, i) {
+        Some(place) => place,
+        None => Place {
             offset: 0,
             length: 0,
         },
-        HeadNumbers::Numbers(_, n, t, next) => {
-            let at = next.at;
-            place_at(bytes, n, t, at, i)
-        }
     }
 }
 
@@ -65,7 +49,6 @@ pub fn opening_part(bytes: &[u8], i: u64) -> &[u8]
     ensures ref_ptr_value { result.ref_ptr ≡ (bytes.entry.ref_ptr.0, bytes.entry.ref_ptr.1 + part_start bytes.now i (head_of bytes.now)) }
 {
     let place = opening_place(bytes, i);
-    let start = place.offset;
-    let end = start + place.length;
-    &bytes[start..end]
+    let end = place.offset + place.length;
+    &bytes[place.offset..end]
 }

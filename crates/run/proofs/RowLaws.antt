@@ -1,15 +1,14 @@
 -- What is known of a run that may be started or continued, and of a row that begins with a start's checks.
-use mathlib.Core.Path.{◌≡◌, refl, sym, ◌∙◌}
+use mathlib.Core.Path.{◌≡◌, refl, sym, ap, ◌∙◌}
 use mathlib.Core.Bool.{Bool, false}
 use mathlib.Core.List.{List, ◌++◌}
 use Prim.Native.Nat.{ℕ, ◌-◌, ◌≤◌, min}
 use borrow.Author.Tests.{ltb-false}
 use lib.Dec.{ltb, lit≤}
 use lib.ListN.{length}
-use Rattle.base.specs.Limits.{max_depth, max_memory, max_edition, new_edition, IsEdition, IsDepth}
+use Rattle.base.specs.Limits.{max_depth, max_memory, max_edition, IsEdition, IsDepth}
 use Rattle.base.specs.declared.refusal.Refusal.{Refusal}
-use Rattle.base.specs.declared.refusal.Outcome.{Outcome}
-use Rattle.base.specs.declared.refusal.Outcome.TheVariants.{Refused}
+use Rattle.std.specs.Prelude.{Result, Ok, Err, IsErrAnd}
 use Rattle.base.specs.Number.{number_of, outcome_number}
 use Rattle.base.specs.Row.{first_of, outside, either, is_done, memory_over, no_edition}
 use Rattle.base.proofs.Ranges.{range-of, depth-inside, memory-inside, neither}
@@ -20,7 +19,12 @@ use Rattle.tree.specs.Walk.{nodes_in}
 use Rattle.tree.specs.Store.{store_size}
 use Rattle.run.specs.declared.Run.{Run}
 use Rattle.run.specs.Rows.{start_checks, impossible, start_row, continue_row}
-use Rattle.run.specs.Steps.{new_run, no_run, started, stamped, steps, labels_in, step_blocks, blocks_over, blocks_in, advanced, run_machine}
+use Rattle.run.specs.Steps.{stamped, steps, labels_in, step_blocks, blocks_over, blocks_in, advanced, run_machine}
+
+-- a refusal that `?` hands on keeps its number
+pub handed-on : {A : Type 0} (o : Result A Refusal) (r : Refusal) → IsErrAnd o (λ e. e ≡ r) → outcome_number o ≡ number_of r
+handed-on (Ok value) r e = absurd e
+handed-on (Err why) r e = ap number_of e
 
 module _ (n m store : ℕ) where
   pub start-depth : start_row n m store ≡ 0 → IsDepth n
@@ -28,7 +32,7 @@ module _ (n m store : ℕ) where
   start-depth e = range-of 1 max_depth n (none-holds (start_checks n m store) refl e).0
 
   -- a row that goes on with more conditions: refused by a start's, or left to the others
-  pub start-refuses : (o : Outcome) (r : Refusal) (more : List (Bool × ℕ)) → outcome_number o ≡ start_row n m store → o ≡ Refused r
+  pub start-refuses : {A : Type 0} (o : Result A Refusal) (r : Refusal) (more : List (Bool × ℕ)) → outcome_number o ≡ start_row n m store → o ≡ Err r
       → number_of r ≡ first_of (start_checks n m store ++ more)
   unfolding start_row
   start-refuses o r more e is =
@@ -80,16 +84,7 @@ may-go-on run store e =
       room = ltb-false store (store_size run.memory) b;
     }
 
--- what a start and a call give, by their answers
-module _ (statement : List ℕ) (n m store : ℕ) where
-  pub start-done : start_row n m store ≡ 0 → new_run new_edition statement n m ≡ started statement n m store
-  unfolding started
-  start-done e = rw e
-
-  pub start-refused : is_done (start_row n m store) ≡ false → no_run ≡ started statement n m store
-  unfolding started
-  start-refused e = rw e
-
+-- what a call gives, by its answer
 module _ (run : Run) (store : List ℕ) (budget : ℕ) where
   pub labels-done : continue_row run (length store) ≡ 0 → min budget (nodes_in run.depth - run.made) ≡ labels_in (stamped run store) budget
   unfolding run_machine
@@ -109,9 +104,6 @@ module _ (run : Run) (store : List ℕ) (budget : ℕ) where
   pub blocks-by : (k blocks : ℕ) → k ≡ labels_in (stamped run store) budget → blocks ≡ blocks_over k (stamped run store)
       → blocks ≡ blocks_in (stamped run store) budget
   blocks-by = machines.cost-by run_machine (stamped run store) budget step_blocks
-
-  pub no_blocks : 0 ≡ labels_in (stamped run store) budget → 0 ≡ blocks_in (stamped run store) budget
-  no_blocks e = sym (machines.costs-nothing run_machine (stamped run store) budget step_blocks (sym e))
 
   pub unchanged : 0 ≡ labels_in (stamped run store) budget
       → (run ≡ (advanced (stamped run store) budget).run) × (store ≡ (advanced (stamped run store) budget).store)

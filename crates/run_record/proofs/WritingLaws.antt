@@ -1,5 +1,5 @@
 -- Laws of writing a record: its numbers in their groups, its parts one behind the other, and what is answered and left in the buffer.
-use mathlib.Core.Path.{◌≡◌, ◌∙◌}
+use mathlib.Core.Path.{◌≡◌, sym, ◌∙◌}
 use mathlib.Core.Bool.{true, false}
 use mathlib.Core.List.{List, ◌++◌}
 use Prim.Native.Nat.{ℕ, ◌+◌, ◌^◌, ◌≤◌, ◌<◌}
@@ -7,15 +7,18 @@ use native.Mathlib.Omega.{arith}
 use borrow.Author.Tests.{lt-ltb, le-ltb}
 use lib.ListN.{length, take, drop, length-append}
 use lib.Seq.{take_at, length-take-le}
-use Rattle.base.specs.Limits.{max_edition, max_depth, max_memory}
+use Rattle.base.specs.Limits.{max_edition, max_depth, max_memory, held_size}
 use Rattle.base.specs.Bytes.{written}
 use Rattle.base.proofs.WrittenLaws.{written_next, written-three}
 use Rattle.groups.specs.Groups.{groups, groups_of, max_groups, number_groups}
 use Rattle.groups.proofs.Sizes.{groups-same}
 use Rattle.tree.specs.Walk.{nodes_in}
 use Rattle.run.specs.declared.Run.{Run}
+use Rattle.run.proofs.RowLaws.{possible}
 use Rattle.run.proofs.StepLaws.{small-nodes}
-use Rattle.run_record.specs.Layout.{made_groups, held_length, held_labels, record_numbers, record_of, no_such_run, record_row, record_size, record_written}
+use Rattle.run_record.proofs.HeldCounts.{held_fits}
+use Rattle.run_record.proofs.NumbersLaws.{numbers-length}
+use Rattle.run_record.specs.Layout.{made_groups, numbers_space, held_length, held_labels, record_numbers, record_of, no_such_run, record_row, record_size, record_written}
 
 -- ---- the four numbers, each in as many groups as it takes
 module _ (edition n m made : ℕ) (exists : edition ≤ max_edition) (depth : n ≤ max_depth) (memory : m ≤ max_memory)
@@ -36,6 +39,10 @@ module _ (edition n m made : ℕ) (exists : edition ≤ max_edition) (depth : n 
   pub numbers-size :
       length (record_numbers edition n m made) ≡ length (groups_of edition) + length (groups_of n) + length (groups_of m) + length (groups_of made)
   numbers-size = rw (numbers-are, length-append, length-append, length-append)
+
+  pub numbers-few :
+      length (groups_of edition) + length (groups_of n) + length (groups_of m) + length (groups_of made) ≤ numbers_space
+  numbers-few = omega (arith, numbers-size, numbers-length edition n m made)
 
   pub numbers-put : (out o1 o2 o3 o4 : List ℕ) (second third fourth : ℕ) → o1 ≡ written out 0 (groups_of edition)
       → o2 ≡ written o1 second (groups_of n) → o3 ≡ written o2 third (groups_of m) → o4 ≡ written o3 fourth (groups_of made)
@@ -65,6 +72,26 @@ pub record-size : (run : Run) → length run.statement ≡ 32 → held_length ru
     ≡ length (record_numbers run.edition run.depth run.memory run.made) + 32 + held_length run.depth run.made
 unfolding record_of
 record-size run s h = rw (length-append, length-append, s, length-take-le (held_length run.depth run.made) run.held h)
+
+-- the three lengths of a possible run's record
+pub record Sizes (r : Run) (count labels : ℕ) : Type 0 where
+  pub numbers-few : count ≤ numbers_space
+  pub labels-few : labels ≤ held_size
+  pub inside : labels ≤ length r.held
+  pub whole : count + 32 + labels ≡ length (record_of r)
+
+pub sizes : (r : Run) (count labels : ℕ) → no_such_run r.edition r.depth r.memory r.made ≡ false
+    → count ≡ length (record_numbers r.edition r.depth r.memory r.made) → labels ≡ held_length r.depth r.made
+    → length r.statement ≡ 32 → length r.held ≡ held_size → Sizes r count labels
+sizes r count labels can_be counted of_labels statement held =
+    let b = possible r.edition r.depth r.memory r.made can_be in
+    let fits = held_fits r.depth r.made b.depth b.made-few in
+    record {
+      numbers-few = omega (arith, counted, numbers-length r.edition r.depth r.memory r.made);
+      labels-few = omega (arith, of_labels, fits);
+      inside = omega (arith, of_labels, fits, held);
+      whole = rw (counted, of_labels) (sym (record-size r statement (omega (arith, held, fits))));
+    }
 
 -- numbers, statement and held labels make the record
 pub parts_are : (run : Run) (numbers labels : List ℕ) → numbers ≡ record_numbers run.edition run.depth run.memory run.made

@@ -1,6 +1,6 @@
 -- W-201: what reading gives back of any bytes. 'The order is 10 and 11 for each number, 12 after the edition, 4 after all four, then
 -- 18', the record's length is not what its numbers require.
-use Rattle.std.specs.Prelude.{ℕ, ◌+◌, ◌-◌, Bool, false, not, List, [], ◌∷◌, ◌++◌, eqb, length, take, drop}
+use Rattle.std.specs.Prelude.{ℕ, ◌+◌, ◌-◌, Bool, false, not, List, [], ◌∷◌, ◌++◌, eqb, length, take, drop, Result, Ok, Err}
 use Rattle.base.specs.Choice.{pick}
 use Rattle.base.specs.Bytes.{zeros}
 use Rattle.base.specs.Limits.{held_size}
@@ -11,7 +11,7 @@ use Rattle.groups.specs.Reading.{read_at, checked}
 use Rattle.run.specs.declared.Run.{Run}
 use Rattle.run.specs.Steps.{run_of, no_run}
 use Rattle.run_record.specs.declared.RecordNumbers.{RecordNumbers}
-use Rattle.run_record.specs.declared.RecordNumbers.TheVariants.{Numbers, NotRead}
+use Rattle.base.specs.declared.refusal.Refusal.{Refusal}
 use Rattle.run_record.specs.Layout.{made_groups, held_length, no_such_run}
 
 -- what reading the numbers answers: edition, depth, memory level, labels made and the place after them, or the refusal's number
@@ -19,9 +19,9 @@ pub data NumbersAnswer : Type 0 where
   numbers : ℕ → ℕ → ℕ → ℕ → ℕ → NumbersAnswer
   not_read : ℕ → NumbersAnswer
 
-abbrev pub numbers_answer : RecordNumbers → NumbersAnswer
-numbers_answer (Numbers e n m made c) = numbers e n m made c.at
-numbers_answer (NotRead r) = not_read (number_of r)
+abbrev pub numbers_answer : Result RecordNumbers Refusal → NumbersAnswer
+numbers_answer (Ok r) = numbers r.edition r.depth r.memory r.made r.end
+numbers_answer (Err r) = not_read (number_of r)
 
 -- a number is taken as it stands, since 4 comes after all four
 abbrev pub any_number : ℕ → Bool

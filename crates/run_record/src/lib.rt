@@ -5,8 +5,7 @@ mod numbers; // numbers.rt: the record's numbers read
 mod reading; // reading.rt: any bytes read as a run
 mod writing; // writing.rt: the record written
 
-use base::{Outcome, Refusal};
-use groups::{Cursor, NUMBER_GROUPS};
+use groups::NUMBER_GROUPS;
 pub use reading::read_record;
 pub use writing::write_record;
 
@@ -15,16 +14,12 @@ const MADE_GROUPS: usize = 6;
 
 const NUMBERS_SPACE: usize = 3 * NUMBER_GROUPS + MADE_GROUPS;
 
-// What reading the numbers gives: edition, depth, memory level, labels made and the place after them, or the refusal.
-#[derive(Clone, Copy)]
-pub enum RecordNumbers {
-    Numbers(u64, u64, u64, u64, Cursor),
-    NotRead(Refusal),
-}
-
-// What writing a record gives: done with the number of bytes written, or refused with 0.
-#[derive(Clone, Copy)]
-pub struct Recorded {
-    pub outcome: Outcome,
-    pub size: usize,
+// A record's four numbers, and the place after them.
+#[derive(Clone, Copy, Debug, PartialEq, Eq)]
+pub struct RecordNumbers {
+    pub edition: u64,
+    pub depth: u64,
+    pub memory: u64,
+    pub made: u64,
+    pub end: usize,
 }

@@ -2,22 +2,16 @@
 use mathlib.Core.Path.{◌≡◌, sym, ap, ◌∙◌}
 use Prim.Native.Nat.{ℕ, ◌+◌, ◌-◌, ◌^◌, ◌≤◌, ◌<◌}
 use native.Mathlib.Omega.{arith}
-use mathlib.Core.Bool.{Bool, true, false}
 use mathlib.Core.List.{List, ◌++◌, append_assoc, append-nil}
 use lib.ListN.{length, take, drop}
-use lib.Pow.{pow_pos}
 use lib.Seq.{drop-length}
 use Rattle.base.specs.Bytes.{written}
-use Rattle.base.specs.Choice.{pick}
-use Rattle.base.specs.Row.{is_done}
-use Rattle.base.specs.Limits.{max_depth, IsEdition}
+use Rattle.base.specs.Limits.{IsEdition}
 use Rattle.base.proofs.Parts as parts
 use Rattle.base.proofs.WrittenLaws.{written_over}
 use Rattle.tree.specs.Openings.{opening_size}
-use Rattle.file_head.specs.Challenge.{challenge_leaf, challenge_row, challenged}
+use Rattle.file_head.specs.Challenge.{challenge_leaf}
 use Rattle.file_head.specs.Layout.{head_size, opening_from, file_size}
-use Rattle.file_head.proofs.Leaves.{challenge_leaf-small}
-use Rattle.file_head.proofs.RowLaws.{challenge-done}
 use Rattle.run_theory.specs.Openings.{HoldsLabels, Openable}
 use Rattle.check_theory.specs.TreeFile.{root_of, opening_of, challenged_opening, tree_file}
 use Rattle.check_theory.proofs.TreeFile.{opening-size}
@@ -25,15 +19,6 @@ use Rattle.writing.specs.Possible.{Room}
 use Rattle.writing.proofs.PartLaws.{part-fits, part-back}
 use Rattle.writing_theory.specs.Filed.{Writable, laid, laid_size}
 use Rattle.writing_theory.proofs.Laid.{size-all, size-from, part-size, part-split, laid-length, laid_next, laid-all}
-
--- a challenge's leaf is in the tree, refused or not
-pub challenged-inside : (edition : ℕ) (statement root : List ℕ) (n i : ℕ) → n ≤ max_depth → challenged edition n statement root i < 2 ^ n
-unfolding challenged
-challenged-inside edition statement root n i shallow = by_row (is_done (challenge_row edition n i))
-  where
-    by_row : (b : Bool) → pick b (challenge_leaf edition n statement root i) 0 < 2 ^ n
-    by_row true = challenge_leaf-small edition n statement root i (omega arith)
-    by_row false = pow_pos n
 
 -- ---- the part of opening i
 module _ (edition n m t i : ℕ) (store file : List ℕ) (room : Room edition n m t i (length store) (length file)) (from : ℕ)
@@ -59,11 +44,7 @@ module _ (edition n m t i : ℕ) (store file : List ℕ) (room : Room edition n 
       }
 
   -- the opening of its challenge fills it
-  module _ (statement root : List ℕ) (leaf : ℕ) (is : leaf ≡ challenged edition n statement root i) where
-    picked : leaf ≡ challenge_leaf edition n statement root i
-    unfolding challenged
-    picked = is ∙ rw (challenge-done edition n i room.exists room.depth (omega (arith, room.number, room.count)))
-
+  module _ (statement root : List ℕ) (leaf : ℕ) (is : leaf ≡ challenge_leaf edition n statement root i) where
     pub part-opened : (opened : List ℕ) → opened ≡ opening_of edition statement n leaf ++ drop (opening_size n) part
         → take from file ++ (opened ++ drop (from + opening_size n - from) (drop from file))
         ≡ written file (opening_from n (head_size n t) i) (opening_of edition statement n (challenge_leaf edition n statement root i))
@@ -72,7 +53,7 @@ module _ (edition n m t i : ℕ) (store file : List ℕ) (room : Room edition n 
         let none = ap (λ (k : ℕ). drop k part) (sym part-whole) ∙ drop-length part in
         let all : opened ≡ opening_of edition statement n leaf =
         e ∙ ap (λ (l : List ℕ). opening_of edition statement n leaf ++ l) none ∙ append-nil (opening_of edition statement n leaf) in
-        rw (size, part-back file opened from (opening_size n) (ap length all ∙ opening-size edition statement n leaf), all, picked, at)
+        rw (size, part-back file opened from (opening_size n) (ap length all ∙ opening-size edition statement n leaf), all, is, at)
 
 -- ---- the file after i openings, if its root is the tree's, the store holds the labels and the file had the first of them
 abbrev pub LaidTo : ℕ → List ℕ → List ℕ → ℕ → ℕ → ℕ → ℕ → List ℕ → List ℕ → ℕ → List ℕ → Type 0

@@ -4,5 +4,5 @@ pub mod LabelLaws
 pub mod OpeningLaws
 pub mod FileLaws
 pub mod EndLaws
-pub mod Resumed
 pub mod ResumingLaws
+pub mod Resumed

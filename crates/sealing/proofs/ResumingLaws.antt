@@ -24,9 +24,9 @@ use Rattle.file_head.specs.Layout.{head_size, file_size}
 use Rattle.file_head.proofs.HeadLaws.{openings-small}
 use Rattle.file_head.proofs.WritingLaws.{size-three, size-four}
 use Rattle.checkpoint.specs.Layout as checkpoint
-use Rattle.checkpoint.specs.Reading.{memory_in, fault_of, run_found, count_found, size_found}
+use Rattle.checkpoint.specs.declared.Found.{Found}
+use Rattle.checkpoint.specs.Reading.{memory_in, fault_of, run_found, count_found, size_found, IsFoundIn}
 use Rattle.checkpoint.specs.Openings.{is_right, right_after, openings_taken}
-use Rattle.checkpoint.proofs.ReadingLaws.{store_bytes}
 use Rattle.checkpoint_theory.proofs.Openings.{any-openings-right}
 use Rattle.checkpoint_theory.proofs.Reading.{read, found-possible, found-order}
 use Rattle.sealing.specs.TakenUp.{openings_done, store_taken, file_taken}
@@ -99,79 +99,73 @@ module _ (bytes : List ℕ) (fault : is_done (fault_of bytes) ≡ false) where
   unfolding openings_done
   none_done = rw fault
 
-  pub store-left : (store : List ℕ) → store ≡ store_taken bytes store
+  pub store_left : (store : List ℕ) → store ≡ store_taken bytes store
   unfolding store_taken
-  store-left store = rw fault
+  store_left store = rw fault
 
-  pub file-left : (file : List ℕ) → file ≡ file_taken bytes file
+  pub file_left : (file : List ℕ) → file ≡ file_taken bytes file
   unfolding file_taken
-  file-left file = rw fault
+  file_left file = rw fault
 
 -- ---- of a whole checkpoint: its store, with at least a SHA-256 behind it
 module _ (bytes : List ℕ) (whole : fault_of bytes ≡ 0) where
   pub can-be : let run = run_found bytes in Possible run.edition run.depth run.memory run.made
   can-be = let run = run_found bytes in possible run.edition run.depth run.memory run.made (found-possible bytes whole)
 
-  module _ (m nodes : ℕ) (level : m ≡ (run_found bytes).memory) (all : nodes ≡ nodes_in m) where
-    pub store-there : checkpoint.head_size + 32 * nodes + 32 ≤ length bytes
+  module _ (m size : ℕ) (level : m ≡ (run_found bytes).memory) (all : size ≡ store_size m) where
+    pub store-there : checkpoint.head_size + size + 32 ≤ length bytes
     store-there =
-        let e : 32 * nodes ≡ store_size (memory_in bytes) = store_bytes m nodes all ∙ ap store_size (level ∙ (found-order bytes whole).memory) in
+        let e : size ≡ store_size (memory_in bytes) = all ∙ ap store_size (level ∙ (found-order bytes whole).memory) in
         omega (arith, (read bytes whole).enough)
 
     pub store-taken : (store : List ℕ) (from : ℕ) → from ≡ checkpoint.head_size
-        → written store 0 (take (from + 32 * nodes - from) (drop from bytes)) ≡ store_taken bytes store
+        → written store 0 (take (from + size - from) (drop from bytes)) ≡ store_taken bytes store
     unfolding store_taken
-    store-taken store from is =
-        rw (whole, part-size bytes from (32 * nodes), is, store_bytes m nodes all, level, (found-order bytes whole).memory)
+    store-taken store from is = rw (whole, part-size bytes from size, is, all, level, (found-order bytes whole).memory)
 
--- ---- and the openings behind it: where it ends, its run and its order's challenges are those that were found
-pub record IsFound (bytes : List ℕ) (from : ℕ) (run : Run) (t : ℕ) : Type 0 where
-  pub whole : fault_of bytes ≡ 0
-  pub size : from ≡ size_found bytes
-  pub same : run ≡ run_found bytes
-  pub count : t ≡ count_found bytes
+-- ---- and the openings behind it
+pub record Bounded (bytes : List ℕ) (found : Found) : Type 0 where
+  pub possible : Possible found.run.edition found.run.depth found.run.memory found.run.made
+  pub few : found.count ≤ max_challenges
+  pub inside : found.size ≤ length bytes
 
-pub record Bounded (bytes : List ℕ) (from : ℕ) (run : Run) (t : ℕ) : Type 0 where
-  pub possible : Possible run.edition run.depth run.memory run.made
-  pub few : t ≤ max_challenges
-  pub inside : from ≤ length bytes
+-- the openings that are done are there, no more than the order asks for
+pub record Counted (bytes : List ℕ) (found : Found) (done : ℕ) : Type 0 where
+  pub inside : found.size + done * opening_size found.run.depth ≤ length bytes
+  pub room : done * opening_size found.run.depth ≤ found.count * opening_size found.run.depth
+  pub short : found.count * opening_size found.run.depth ≤ max_openings
 
--- the openings that are done are there, no more than t of them
-pub record Counted (bytes : List ℕ) (from : ℕ) (run : Run) (t done : ℕ) : Type 0 where
-  pub inside : from + done * opening_size run.depth ≤ length bytes
-  pub room : done * opening_size run.depth ≤ t * opening_size run.depth
-  pub short : t * opening_size run.depth ≤ max_openings
-
-module _ {bytes : List ℕ} {from : ℕ} {run : Run} {t : ℕ} (f : IsFound bytes from run t) where
-  pub bounded : Bounded bytes from run t
+module _ {bytes : List ℕ} {found : Found} (whole : fault_of bytes ≡ 0) (f : IsFoundIn bytes found) where
+  pub bounded : Bounded bytes found
   bounded =
-      let order = found-order bytes f.whole in
+      let order = found-order bytes whole in
       record {
-        possible = rw f.same (can-be bytes f.whole);
+        possible = rw f.run (can-be bytes whole);
         few = omega (arith, f.count, order.count.1);
         inside = omega (arith, f.size, order.inside);
       }
 
-  module _ {done : ℕ} (is : done ≡ done_of run t (take (length bytes - from) (drop from bytes))) where
+  module _ {done : ℕ} (is : done ≡ done_of found.run found.count (take (length bytes - found.size) (drop found.size bytes))) where
     pub done-is : done ≡ openings_done bytes
     unfolding openings_done
-    done-is = rw (f.whole, ← f.same, ← f.size, ← f.count, ← part-rest bytes from) is
+    done-is = rw (whole, ← f.run, ← f.size, ← f.count, ← part-rest bytes found.size) is
 
-    pub counted : Counted bytes from run t done
+    pub counted : Counted bytes found done
     counted =
-        let e : length (take (length bytes - from) (drop from bytes)) ≡ length bytes - from = ap length (part-rest bytes from) ∙ length-drop from bytes in
-        let le : done * opening_size run.depth ≤ length (take (length bytes - from) (drop from bytes)) = rw is (done-there run t _) in
+        let e : length (take (length bytes - found.size) (drop found.size bytes)) ≡ length bytes - found.size =
+        ap length (part-rest bytes found.size) ∙ length-drop found.size bytes in
+        let le : done * opening_size found.run.depth ≤ length (take (length bytes - found.size) (drop found.size bytes)) = rw is (done-there found.run found.count _) in
         record {
           inside = omega (arith, bounded.inside);
-          room = mul-le-mul_right {m = done} {n = t} (opening_size run.depth) (omega (arith, done-is, done-few bytes, f.count));
-          short = openings-small run.depth t bounded.possible.depth bounded.few;
+          room = mul-le-mul_right {m = done} {n = found.count} (opening_size found.run.depth) (omega (arith, done-is, done-few bytes, f.count));
+          short = openings-small found.run.depth found.count bounded.possible.depth bounded.few;
         }
 
-    pub file-taken : (file : List ℕ) (at : ℕ) → at ≡ head_size run.depth t
-        → written file at (take (from + done * opening_size run.depth - from) (drop from bytes)) ≡ file_taken bytes file
+    pub file-taken : (file : List ℕ) (at : ℕ) → at ≡ head_size found.run.depth found.count
+        → written file at (take (found.size + done * opening_size found.run.depth - found.size) (drop found.size bytes)) ≡ file_taken bytes file
     unfolding file_taken
     file-taken file at e =
-        rw (f.whole, part-size bytes from (done * opening_size run.depth), e, done-is, f.same, f.size, f.count)
+        rw (whole, part-size bytes found.size (done * opening_size found.run.depth), e, done-is, f.run, f.size, f.count)
 
 -- ---- where the openings begin: as many before the file's end as there are
 pub openings-start : (n t size : ℕ) → size ≡ file_size n t → (t * opening_size n ≤ size) × (size - t * opening_size n ≡ head_size n t)

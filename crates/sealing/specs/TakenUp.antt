@@ -1,5 +1,5 @@
 -- What is taken up from the bytes of a checkpoint.
-use Rattle.std.specs.Prelude.{ℕ, ◌*◌, List, eqb, take, drop}
+use Rattle.std.specs.Prelude.{◌≡◌, ℕ, ◌*◌, List, eqb, take, drop}
 use Rattle.base.specs.Bytes.{written}
 use Rattle.base.specs.Choice.{pick, both}
 use Rattle.base.specs.Row.{is_done}
@@ -9,6 +9,7 @@ use Rattle.run.specs.declared.Run.{Run}
 use Rattle.file_head.specs.Layout.{head_size}
 use Rattle.checkpoint.specs.Reading.{fault_of, run_found, count_found, size_found, store_in}
 use Rattle.checkpoint.specs.Openings.{openings_taken}
+use Rattle.sealing.specs.declared.Seal.{Seal}
 
 -- the openings behind the checkpoint that are right, once all labels are made
 unfoldable pub openings_done : List ℕ → ℕ
@@ -29,3 +30,9 @@ file_taken bytes file =
     pick (is_done (fault_of bytes))
     (written file (head_size n (count_found bytes)) (take (openings_done bytes * opening_size n) (drop (size_found bytes) bytes)))
     file
+
+-- what is taken up of a whole checkpoint
+pub record IsTakenUp (bytes : List ℕ) (seal : Seal) : Type 0 where
+  pub run : seal.run ≡ run_found bytes
+  pub count : seal.count ≡ count_found bytes
+  pub done : seal.done ≡ openings_done bytes

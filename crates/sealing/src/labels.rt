@@ -6,47 +6,32 @@ ghost use Rattle.run_record_theory.specs.Pausing.{remaining_of};
 
 use crate::PORTION;
 use crate::saving::save_run;
-use base::smaller;
-use progress::{Progress, tick};
-use run::Run;
+use progress::Progress;
+use run::{Run, nodes};
 use std::fs::File;
 use std::rt::{Clock, Files};
 
-// The run at its end, and how far the seal is.
-#[derive(Clone, Copy)]
-pub struct Labelled<'a> {
-    pub run: Run,
-    pub progress: Progress<'a>,
-}
-
 // A run from where it is to its end, a portion a call. The order's count of challenges and the proof's name are for its checkpoints.
-pub fn label_on<'a, R: Files<File = File> + Clock>(
+pub fn label_on<R: Files<File = File> + Clock>(
     rt: &R,
-    run: Run,
+    run: &mut Run,
     count: u64,
     store: &mut [u8],
     proof: &[u8],
-    progress: Progress<'a>,
-) -> Labelled<'a>
-    requires { continue_row run (length store.old) ≡ 0 }
-    ensures run_value { result.run ≡ (steps (remaining_of (stamped run store.old)) (stamped run store.old)).run }
-    ensures store_after { store.new ≡ (steps (remaining_of (stamped run store.old)) (stamped run store.old)).store }
+    progress: &mut Progress<'_>,
+)
+    requires { continue_row run.old (length store.old) ≡ 0 }
+    ensures run_after { run.new ≡ (steps (remaining_of (stamped run.old store.old)) (stamped run.old store.old)).run }
+    ensures store_after { store.new ≡ (steps (remaining_of (stamped run.old store.old)) (stamped run.old store.old)).store }
 {
-    let mut state = run;
-    let mut current = progress;
-    let mut left = run::nodes(run.depth) - run.made;
+    let mut left = nodes(run.depth) - run.made;
+    // Not a `for`: the last portion is what is left.
     while 0 < left {
-        let budget = smaller(left, PORTION);
-        let call = state.advance(budget, store);
-        let next = call.run;
-        state = next;
+        let budget = left.min(PORTION);
+        // No call is refused: what is asked of the run holds at each turn.
+        let _ = run.advance(budget, store);
         left -= budget;
-        let ticked = tick(rt, current, budget);
-        let later = save_run(rt, ticked, next, count, store, proof);
-        current = later;
-    }
-    Labelled {
-        run: state,
-        progress: current,
+        progress.tick(rt, budget);
+        save_run(rt, run, count, store, proof, progress);
     }
 }

@@ -15,11 +15,12 @@ ghost use Rattle.sealing.specs.Front.{Seals};
 
 use base::label_at;
 use file_head::write_head;
+use labelling::Tree;
 use labels::label_on;
 use opening_all::open_rest;
 pub use portions::all_labels;
 use progress::Progress;
-pub use resuming::{TakenUp, take_up};
+pub use resuming::take_up;
 use run::Run;
 use saving::save_after_labels;
 use std::fs::File;
@@ -28,39 +29,53 @@ use std::rt::{Clock, Files};
 // How many labels are made between two looks at the clock.
 const PORTION: u64 = 16384;
 
-// The root, and how far the seal is.
-#[derive(Clone, Copy)]
-pub struct Made<'a> {
-    pub root: [u8; 32],
-    pub progress: Progress<'a>,
+// A seal where it is: the order's challenges, how many openings are finished, and the run.
+#[derive(Clone, Copy, Debug, PartialEq, Eq)]
+pub struct Seal {
+    pub count: u64,
+    pub done: u64,
+    pub run: Run,
 }
 
-// A seal from wherever it is to its end: the labels that the run has yet to make, then the openings after the first `done`, which stand in the
-// file. What is on the way of a start gives the tree's file in the run's edition, whatever the pauses were.
-pub fn seal_on<'a, R: Files<File = File> + Clock>(
+// The tree that a run labels.
+fn tree_of(run: &Run) -> Tree
+    ensures { result ≡ record { statement = run.now.statement; edition = run.now.edition; depth = run.now.depth } }
+{
+    Tree {
+        statement: run.statement,
+        edition: run.edition,
+        depth: run.depth,
+    }
+}
+
+// A seal from wherever it is to its end, and the root: the labels that the run has yet to make, then the openings that are not finished; those
+// that are stand in the file. What is on the way of a start gives the tree's file in the run's edition, whatever the pauses were.
+pub fn seal_on<R: Files<File = File> + Clock>(
     rt: &R,
-    run: Run,
-    done: u64,
-    count: u64,
+    seal: Seal,
     store: &mut [u8],
     file: &mut [u8],
     proof: &[u8],
-    progress: Progress<'a>,
-) -> Made<'a>
-    requires { (continue_row run (length store.old) ≡ 0) × IsCount count × (done ≤ count) × (file_size run.depth count ≤ length file.old) }
-    ensures { Seals run store.old count done file.old result.root file.new }
+    progress: &mut Progress<'_>,
+) -> [u8; 32]
+    requires run_goes_on { continue_row seal.run (length store.old) ≡ 0 }
+    requires count { IsCount seal.count × (seal.done ≤ seal.count) }
+    requires room { file_size seal.run.depth seal.count ≤ length file.old }
+    ensures { Seals seal.run store.old seal.count seal.done file.old result file.new }
 {
-    let labelled = label_on(rt, run, count, store, proof, progress);
-    let finished = labelled.run;
-    let current = labelled.progress;
-    let held = finished.held;
-    let root = label_at(&held, 0);
-    let statement = run.statement;
-    write_head(run.edition, statement, root, run.depth, count, file);
-    let opening = save_after_labels(rt, current, finished, count, done, store, file, proof);
-    let ended = open_rest(rt, finished, root, count, done, store, file, proof, opening);
-    Made {
+    let mut ending = seal;
+    label_on(rt, &mut ending.run, seal.count, store, proof, progress);
+    let root = label_at(&ending.run.held, 0);
+    let run = &seal.run;
+    let _ = write_head(
+        run.edition,
+        run.statement,
         root,
-        progress: ended,
-    }
+        run.depth,
+        seal.count,
+        file,
+    );
+    save_after_labels(rt, &ending, store, file, proof, progress);
+    open_rest(rt, &mut ending, root, store, file, proof, progress);
+    root
 }

@@ -1,14 +1,16 @@
 // Checkpoints written when they are due. What they are is `checkpoint_of` of checkpoint's specs; here is when and of what.
-ghost use Rattle.std.specs.Prelude.{◌≡◌};
+ghost use Rattle.std.specs.Prelude.{◌≡◌, ◌-◌, ◌*◌, ◌≤◌};
+ghost use Rattle.base.specs.Limits.{max_depth, max_challenges};
+ghost use Rattle.tree.specs.Openings.{opening_size};
 ghost use Rattle.tree.specs.Walk.{nodes_in};
+ghost use Rattle.file_head.specs.Layout.{file_size};
+ghost use Rattle.sealing.specs.Front.{Finished};
 
-use base::{MAX_CHALLENGES, MAX_DEPTH};
+use crate::Seal;
 use checkpoint::{MAX_CHECKPOINT, write_checkpoint};
 use descriptors::Stream;
 use file_head::file_size;
-use progress::{
-    Progress, appended, is_due, is_due_after_labels, is_due_at_end, is_sync_due, saved,
-};
+use progress::Progress;
 use run::Run;
 use std::fs::File;
 use std::rt::{Clock, Files};
@@ -17,27 +19,10 @@ fn empty_space() -> [u8; MAX_CHECKPOINT] {
     [0u8; MAX_CHECKPOINT]
 }
 
-// The front of some bytes; none where there are not so many.
-fn front(bytes: &[u8], size: usize) -> &[u8] {
-    if bytes.len() < size {
-        return &bytes[..0];
-    }
-    &bytes[..size]
-}
-
-// The bytes between two places; none where there are no such places.
-fn between(bytes: &[u8], from: usize, end: usize) -> &[u8] {
-    let whole = front(bytes, end);
-    if whole.len() < from {
-        return &whole[..0];
-    }
-    &whole[from..]
-}
-
 // The checkpoint of a run, with the openings that are finished behind it. Answers whether it is on the disk.
 fn save_all<R: Files<File = File>>(
     rt: &R,
-    run: Run,
+    run: &Run,
     count: u64,
     store: &[u8],
     openings: &[u8],
@@ -45,119 +30,101 @@ fn save_all<R: Files<File = File>>(
     err: Stream<'_>,
 ) -> bool {
     let mut space = empty_space();
-    let written = write_checkpoint(run, count, store, &mut space);
-    if written.size == 0 {
-        return false;
+    match write_checkpoint(*run, count, store, &mut space) {
+        Ok(size) => files::save(rt, proof, space.get(..size).unwrap_or(&[]), openings, err),
+        Err(_) => false,
     }
-    files::save(rt, proof, front(&space, written.size), openings, err)
 }
 
 // The checkpoint of a run under way, if it is due.
-pub fn save_run<'a, R: Files<File = File> + Clock>(
+pub fn save_run<R: Files<File = File> + Clock>(
     rt: &R,
-    progress: Progress<'a>,
-    run: Run,
+    run: &Run,
     count: u64,
     store: &[u8],
     proof: &[u8],
-) -> Progress<'a> {
-    if !is_due(rt, progress) {
-        return progress;
+    progress: &mut Progress<'_>,
+) {
+    if progress.is_due(rt) {
+        save_all(rt, run, count, store, b"", proof, progress.err);
+        progress.saved(rt, false);
     }
-    save_all(rt, run, count, store, b"", proof, progress.err);
-    saved(rt, progress, false)
 }
 
-// Where opening i ends in the file; 0 where there is none such. Opening 0 is the head.
-fn opening_end(depth: u64, count: u64, i: u64) -> usize {
-    if MAX_DEPTH < depth {
-        return 0;
-    }
-    if MAX_CHALLENGES < count {
-        return 0;
-    }
-    if count < i {
-        return 0;
-    }
+// Where opening i ends in the file. Opening 0 is the head.
+fn opening_end(depth: u64, count: u64, i: u64) -> usize
+    requires { (depth ≤ max_depth) × (count ≤ max_challenges) × (i ≤ count) }
+    ensures { result ≡ file_size depth count - (count - i) * opening_size depth }
+{
     file_size(depth, count) - ((count - i) * (32 * (depth + 1))) as usize
 }
 
-// Where opening i begins.
-fn opening_start(depth: u64, count: u64, i: u64) -> usize {
-    if i == 0 {
-        return 0;
-    }
-    opening_end(depth, count, i - 1)
+// The openings of a file after the first `done`, up to those that are finished.
+fn openings_after<'a>(seal: &Seal, done: u64, file: &'a [u8]) -> &'a [u8]
+    requires { Finished seal.now × (done ≤ seal.now.done) }
+{
+    let from = opening_end(seal.run.depth, seal.count, done);
+    let end = opening_end(seal.run.depth, seal.count, seal.done);
+    file.get(from..end).unwrap_or(&[])
 }
 
-// The checkpoint of the finished run with the first i openings, if it is due.
-fn save_finished<'a, R: Files<File = File> + Clock>(
+// The checkpoint of the finished run, with the openings that are finished.
+fn save_finished<R: Files<File = File> + Clock>(
     rt: &R,
-    due: bool,
-    progress: Progress<'a>,
-    run: Run,
-    count: u64,
-    i: u64,
+    seal: &Seal,
     store: &[u8],
     file: &[u8],
     proof: &[u8],
-) -> Progress<'a>
-    requires { run.made ≡ nodes_in run.depth }
+    progress: &mut Progress<'_>,
+)
+    requires { Finished seal.now }
 {
-    if !due {
-        return progress;
-    }
-    let from = opening_end(run.depth, count, 0);
-    let end = opening_end(run.depth, count, i);
-    let good = save_all(
+    let openings = openings_after(seal, 0, file);
+    let whole = save_all(
         rt,
-        run,
-        count,
+        &seal.run,
+        seal.count,
         store,
-        between(file, from, end),
+        openings,
         proof,
         progress.err,
     );
-    saved(rt, progress, good)
+    progress.saved(rt, whole);
 }
 
-// All labels are made, and i openings.
-pub fn save_after_labels<'a, R: Files<File = File> + Clock>(
+// All labels are made, and some openings.
+pub fn save_after_labels<R: Files<File = File> + Clock>(
     rt: &R,
-    progress: Progress<'a>,
-    run: Run,
-    count: u64,
-    i: u64,
+    seal: &Seal,
     store: &[u8],
     file: &[u8],
     proof: &[u8],
-) -> Progress<'a>
-    requires { run.made ≡ nodes_in run.depth }
+    progress: &mut Progress<'_>,
+)
+    requires { Finished seal.now }
 {
-    let due = is_due_after_labels(rt, progress);
-    save_finished(rt, due, progress, run, count, i, store, file, proof)
-}
-
-// Opening i goes behind the checkpoint of the finished run; where that is not there yet it is written when it is due.
-pub fn save_opening<'a, R: Files<File = File> + Clock>(
-    rt: &R,
-    progress: Progress<'a>,
-    run: Run,
-    count: u64,
-    i: u64,
-    store: &[u8],
-    file: &[u8],
-    proof: &[u8],
-) -> Progress<'a>
-    requires { run.made ≡ nodes_in run.depth }
-{
-    if !progress.ended {
-        let due = is_due_at_end(rt, progress);
-        return save_finished(rt, due, progress, run, count, i, store, file, proof);
+    if progress.is_due_after_labels(rt) {
+        save_finished(rt, seal, store, file, proof, progress);
     }
-    let from = opening_start(run.depth, count, i);
-    let end = opening_end(run.depth, count, i);
-    let sync = is_sync_due(rt, progress);
-    let good = files::save_opening(rt, proof, between(file, from, end), sync);
-    appended(rt, progress, good, sync)
+}
+
+// The last opening that is finished goes behind the checkpoint of the finished run; where that is not there yet it is written when it is due.
+pub fn save_opening<R: Files<File = File> + Clock>(
+    rt: &R,
+    seal: &Seal,
+    store: &[u8],
+    file: &[u8],
+    proof: &[u8],
+    progress: &mut Progress<'_>,
+)
+    requires { Finished seal.now × (1 ≤ seal.now.done) }
+{
+    if progress.ended {
+        let opening = openings_after(seal, seal.done - 1, file);
+        let sync = progress.is_sync_due(rt);
+        let good = files::save_opening(rt, proof, opening, sync);
+        progress.appended(rt, good, sync);
+    } else if progress.is_due_at_end(rt) {
+        save_finished(rt, seal, store, file, proof, progress);
+    }
 }

@@ -1,13 +1,15 @@
 -- The words of a block lie in its own 64 bytes, and what absorbing one block more gives.
-use Prim.Native.Nat.{ℕ, zero, suc, ◌+◌, ◌-◌, ◌*◌, ◌≤◌}
+use Prim.Native.Nat.{ℕ, zero, suc, ◌+◌, ◌-◌, ◌*◌, ◌<◌, ◌≤◌}
 use mathlib.Core.Path.{◌≡◌, refl, sym, ap, ◌∙◌}
-use mathlib.Core.List.{List, ◌++◌}
+use mathlib.Core.List.{List, [], ◌++◌}
 use native.Mathlib.Numerals.{add-one}
 use native.Mathlib.Omega.{arith}
-use lib.ListN.{length, take, drop, length-drop, take-append-drop, get_or-append}
+use lib.ListN.{length, get_or, take, drop, length-drop, take-append-drop, get_or-append}
 use lib.Seq.{take_all, drop-append-le, length-take-le}
 use Rattle.compression.specs.declared.Words.{Words}
+use Rattle.std.specs.Simd.{first_chunks}
 use Rattle.sha256.specs.Padding.{blocks, words}
+use Rattle.sha256.proofs.Gather.{get_or-first_chunks}
 use Rattle.compression.specs.Compression.{compressed}
 use Rattle.sha256.specs.Digest.{block, hash_after}
 
@@ -33,6 +35,14 @@ pub hash_after-more : (start v w : Words) (bytes b : List ℕ) (i : ℕ) → v �
     → w ≡ compressed v b → w ≡ hash_after start bytes (i + 1)
 unfolding hash_after
 hash_after-more start v w bytes b i p q r = rw (add-one i, ← p, ← q) r
+
+-- the words of one of the parts of 64 bytes
+pub block-from : (bytes : List ℕ) (parts : List (List ℕ)) (i : ℕ) → parts ≡ first_chunks 64 (blocks bytes) bytes → i < blocks bytes
+    → words 16 (get_or parts i []) ≡ block bytes i
+block-from bytes parts i e h =
+    ap (λ (l : List (List ℕ)). words 16 (get_or l i [])) e
+    ∙ ap (words 16) (get_or-first_chunks 64 (blocks bytes) bytes i [] h)
+    ∙ words_take (drop (64 * i) bytes) (rw length-drop (omega arith))
 
 -- 64 bytes are one block
 pub hash_after-one : (v : Words) (bytes : List ℕ) → length bytes ≡ 64 → hash_after v bytes (blocks bytes) ≡ compressed v (words 16 bytes)

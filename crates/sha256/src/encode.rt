@@ -1,6 +1,5 @@
 // The digest as bytes, and the end of a message: its last blocks, with the padding of FIPS 180-4, 5.1.1.
-ghost use Rattle.std.specs.Prelude.{◌%◌, ◌≤◌, ◌≡◌, length, [], ◌∷◌, ◌++◌};
-ghost use Rattle.base.specs.Bytes.{big_endian};
+ghost use Rattle.std.specs.Prelude.{◌%◌, ◌≤◌, ◌≡◌, length, ◌++◌};
 ghost use Rattle.sha256.specs.Padding.{padding, blocks, blocks_of};
 ghost use Rattle.sha256.specs.Digest.{hash_after, digest_of};
 ghost use Rattle.base.specs.Limits.{max_hashed};
@@ -9,43 +8,22 @@ use crate::absorb::absorb;
 use base::{big_endian, put};
 use compression::Words;
 
-// The four bytes of a word, highest first.
-#[derive(Clone, Copy)]
-struct FourBytes {
-    first: u8,
-    second: u8,
-    third: u8,
-    fourth: u8,
-}
-
-fn bytes_of(word: u32) -> FourBytes
-    ensures { result.first ∷ result.second ∷ result.third ∷ result.fourth ∷ [] ≡ big_endian 4 word }
-{
-    FourBytes {
-        first: ((word >> 24) % 256) as u8,
-        second: ((word >> 16) % 256) as u8,
-        third: ((word >> 8) % 256) as u8,
-        fourth: (word % 256) as u8,
-    }
-}
-
 // The hash words as bytes.
 pub fn digest_bytes(v: Words) -> [u8; 32]
     ensures { result ≡ digest_of v }
 {
-    let a = bytes_of(v.a);
-    let b = bytes_of(v.b);
-    let c = bytes_of(v.c);
-    let d = bytes_of(v.d);
-    let e = bytes_of(v.e);
-    let f = bytes_of(v.f);
-    let g = bytes_of(v.g);
-    let h = bytes_of(v.h);
+    let a = v.a.to_be_bytes();
+    let b = v.b.to_be_bytes();
+    let c = v.c.to_be_bytes();
+    let d = v.d.to_be_bytes();
+    let e = v.e.to_be_bytes();
+    let f = v.f.to_be_bytes();
+    let g = v.g.to_be_bytes();
+    let h = v.h.to_be_bytes();
     [
-        a.first, a.second, a.third, a.fourth, b.first, b.second, b.third, b.fourth, c.first,
-        c.second, c.third, c.fourth, d.first, d.second, d.third, d.fourth, e.first, e.second,
-        e.third, e.fourth, f.first, f.second, f.third, f.fourth, g.first, g.second, g.third,
-        g.fourth, h.first, h.second, h.third, h.fourth,
+        a[0], a[1], a[2], a[3], b[0], b[1], b[2], b[3], c[0], c[1], c[2], c[3], d[0], d[1], d[2],
+        d[3], e[0], e[1], e[2], e[3], f[0], f[1], f[2], f[3], g[0], g[1], g[2], g[3], h[0], h[1],
+        h[2], h[3],
     ]
 }
 

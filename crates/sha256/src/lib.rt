@@ -6,21 +6,21 @@ mod encode; // encode.rt: numbers as bytes, and the padding
 mod parse; // parse.rt: the sixteen words of a block
 mod push; // push.rt: bytes pushed into a state
 
-ghost use Rattle.std.specs.Prelude.{◌+◌, ◌≡◌, leb};
+ghost use Rattle.std.specs.Prelude.{◌+◌, ◌≡◌, [], ◌∷◌, leb, IfOk};
 ghost use Rattle.compression.specs.Constants.{initial};
 ghost use Rattle.sha256.specs.Padding.{blocks};
 ghost use Rattle.sha256.specs.Digest.{hash_after, digest_of};
 ghost use Rattle.base.specs.Limits.{max_hashed};
 ghost use Rattle.base.specs.Number.{outcome_number};
+ghost use Rattle.base.specs.Row.{first_of};
 ghost use Rattle.sha256.specs.Portions.{new_hash, update_row, update_state, digest_row, digest_blocks, digest_answer};
-ghost use Rattle.sha256.specs.Portions.{finish_row, finish_blocks, finish_digest, finish_state};
+ghost use Rattle.sha256.specs.Portions.{finish_row, finish_blocks, finish_digest};
 
 use absorb::absorb;
-use base::{Outcome, Refusal};
+use base::Refusal;
 use compression::{INITIAL, Words};
 pub use encode::block_count;
 use encode::{digest_after, digest_bytes};
-use push::{closed, pushed};
 
 // A hash under way: the hash words, the bytes that wait for their block to fill, and how many
 // bytes were taken in all.
@@ -32,44 +32,24 @@ pub struct Hash {
     pub taken: u64,
 }
 
-// A portion's outcome, and the state afterwards: the state as it was, if refused.
-#[derive(Clone, Copy)]
-pub struct Updated {
-    pub outcome: Outcome,
-    pub hash: Hash,
-}
-
-// The end's outcome, the blocks of the whole message, the digest, and the state as it was.
-#[derive(Clone, Copy)]
-pub struct Finished {
-    pub outcome: Outcome,
-    pub blocks: u64,
+// A message's digest, and the blocks that it fills when it is padded.
+#[derive(Clone, Copy, Debug, PartialEq, Eq)]
+pub struct Hashed {
     pub digest: [u8; 32],
-    pub hash: Hash,
-}
-
-// The outcome of one call, the message's blocks, and the digest: 0 and 32 zero bytes, if refused.
-#[derive(Clone, Copy)]
-pub struct Digested {
-    pub outcome: Outcome,
     pub blocks: u64,
-    pub digest: [u8; 32],
 }
 
 // The most bytes that can be hashed: their number in bits fits in 64.
 const LIMIT: u64 = 0x1fff_ffff_ffff_ffff;
 
-// Whether some bytes and more of them are too many.
-fn too_many(taken: u64, more: usize) -> bool
-    ensures { result ≡ leb (max_hashed + 1) (taken + more) }
+// Refuses some bytes and more of them where they are too many.
+fn check_count(taken: u64, more: usize) -> Result<(), Refusal>
+    ensures { outcome_number result ≡ first_of ((leb (max_hashed + 1) (taken + more), 5) ∷ []) }
 {
-    if LIMIT < taken {
-        return true;
+    if LIMIT < taken || LIMIT - taken < more as u64 {
+        return Err(Refusal::TooManyBytes);
     }
-    if LIMIT - taken < more as u64 {
-        return true;
-    }
-    false
+    Ok(())
 }
 
 impl Hash {
@@ -85,70 +65,44 @@ impl Hash {
         }
     }
 
-    // Takes a portion of the message, of any length.
-    pub fn update(self, part: &[u8]) -> Updated
-        ensures { (outcome_number result.outcome ≡ update_row self part.now) × (result.hash ≡ update_state self part.now) }
+    // Takes a portion of the message, of any length. A state that would have taken too many bytes stays as it was.
+    #[tactic(auto, unfolding(crate::specs::Portions::update_row, crate::specs::Portions::update_state))]
+    pub fn update(&mut self, part: &[u8]) -> Result<(), Refusal>
+        ensures outcome_value { outcome_number result ≡ update_row self.old part.now }
+        ensures state_after { self.new ≡ update_state self.old part.now }
     {
-        if too_many(self.taken, part.len()) {
-            return Updated {
-                outcome: Outcome::Refused(Refusal::TooManyBytes),
-                hash: self,
-            };
-        }
-        let hash = pushed(self, part);
-        Updated {
-            outcome: Outcome::Done,
-            hash,
-        }
+        check_count(self.taken, part.len())?;
+        *self = self.pushed(part);
+        Ok(())
     }
 
     // The digest of all that was taken, and its blocks.
-    pub fn finish(self) -> Finished
-        ensures outcome_value { (outcome_number result.outcome ≡ finish_row self) × (result.blocks ≡ finish_blocks self) }
-        ensures digest_value { (result.digest ≡ finish_digest self) × (result.hash ≡ finish_state self) }
+    #[tactic(auto, unfolding(crate::specs::Portions::finish_row, crate::specs::Portions::finish_digest, crate::specs::Portions::finish_blocks))]
+    pub fn finish(&self) -> Result<Hashed, Refusal>
+        ensures outcome_value { outcome_number result ≡ finish_row self.now }
+        ensures digest_value { IfOk result (λ h. (h.digest ≡ finish_digest self.now) × (h.blocks ≡ finish_blocks self.now)) }
     {
-        if too_many(self.taken, 0) {
-            let digest = [0u8; 32];
-            return Finished {
-                outcome: Outcome::Refused(Refusal::TooManyBytes),
-                blocks: 0,
-                digest,
-                hash: self,
-            };
-        }
-        let blocks = block_count(self.taken as usize) as u64;
-        let digest = closed(self);
-        Finished {
-            outcome: Outcome::Done,
-            blocks,
-            digest,
-            hash: self,
-        }
+        check_count(self.taken, 0)?;
+        Ok(Hashed {
+            digest: self.closed(),
+            blocks: block_count(self.taken as usize) as u64,
+        })
     }
 }
 
 // The digest of a whole message, and its blocks.
-pub fn digest(message: &[u8]) -> Digested
-    ensures outcome_value { (outcome_number result.outcome ≡ digest_row message.now) × (result.blocks ≡ digest_blocks message.now) }
-    ensures digest_value { result.digest ≡ digest_answer message.now }
+#[tactic(auto, unfolding(crate::specs::Portions::digest_row, crate::specs::Portions::digest_answer, crate::specs::Portions::digest_blocks))]
+pub fn digest(message: &[u8]) -> Result<Hashed, Refusal>
+    ensures outcome_value { outcome_number result ≡ digest_row message.now }
+    ensures digest_value { IfOk result (λ h. (h.digest ≡ digest_answer message.now) × (h.blocks ≡ digest_blocks message.now)) }
 {
-    if too_many(0, message.len()) {
-        let digest = [0u8; 32];
-        return Digested {
-            outcome: Outcome::Refused(Refusal::TooManyBytes),
-            blocks: 0,
-            digest,
-        };
-    }
+    check_count(0, message.len())?;
     let at = 64 * (message.len() / 64);
     let words = absorb(INITIAL, message);
-    let digest = digest_after(words, &message[at..], message.len() as u64);
-    let blocks = block_count(message.len()) as u64;
-    Digested {
-        outcome: Outcome::Done,
-        blocks,
-        digest,
-    }
+    Ok(Hashed {
+        digest: digest_after(words, &message[at..], message.len() as u64),
+        blocks: block_count(message.len()) as u64,
+    })
 }
 
 // The digest of bytes that are padded already. Bytes beyond the last whole block are ignored.

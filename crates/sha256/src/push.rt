@@ -27,56 +27,54 @@ fn aligned(words: Words, taken: u64, bytes: &[u8]) -> Hash
     }
 }
 
-// Bytes that do not fill the tail.
-fn within(state: Hash, bytes: &[u8]) -> Hash
-    requires { (state.taken % 64 + length bytes.now < 64) × (state.taken + length bytes.now < 2 ^ 64) }
-    ensures { result ≡ pushed_all state bytes.now }
-{
-    let at = (state.taken % 64) as usize;
-    let words = state.words;
-    let mut tail = state.tail;
-    put(&mut tail, at, bytes);
-    Hash {
-        words,
-        tail,
-        taken: state.taken + bytes.len() as u64,
+impl Hash {
+    // Bytes that do not fill the tail.
+    fn within(self, bytes: &[u8]) -> Hash
+        requires { (self.taken % 64 + length bytes.now < 64) × (self.taken + length bytes.now < 2 ^ 64) }
+        ensures { result ≡ pushed_all self bytes.now }
+    {
+        let mut tail = self.tail;
+        put(&mut tail, (self.taken % 64) as usize, bytes);
+        Hash {
+            words: self.words,
+            tail,
+            taken: self.taken + bytes.len() as u64,
+        }
     }
-}
 
-// Bytes that fill the tail.
-fn beyond(state: Hash, bytes: &[u8]) -> Hash
-    requires { (64 ≤ state.taken % 64 + length bytes.now) × (state.taken + length bytes.now < 2 ^ 64) }
-    ensures { result ≡ pushed_all state bytes.now }
-{
-    let at = (state.taken % 64) as usize;
-    let room = 64 - at;
-    let mut tail = state.tail;
-    put(&mut tail, at, &bytes[..room]);
-    let old = state.words;
-    let words = absorb(old, &tail);
-    aligned(words, state.taken + room as u64, &bytes[room..])
-}
-
-// The state after some bytes.
-pub fn pushed(state: Hash, bytes: &[u8]) -> Hash
-    requires { state.taken + length bytes.now < 2 ^ 64 }
-    ensures { result ≡ pushed_all state bytes.now }
-{
-    let at = (state.taken % 64) as usize;
-    if bytes.len() < 64 - at {
-        within(state, bytes)
-    } else {
-        beyond(state, bytes)
+    // Bytes that fill the tail.
+    fn beyond(self, bytes: &[u8]) -> Hash
+        requires { (64 ≤ self.taken % 64 + length bytes.now) × (self.taken + length bytes.now < 2 ^ 64) }
+        ensures { result ≡ pushed_all self bytes.now }
+    {
+        let at = (self.taken % 64) as usize;
+        let room = 64 - at;
+        let mut tail = self.tail;
+        put(&mut tail, at, &bytes[..room]);
+        let words = absorb(self.words, &tail);
+        aligned(words, self.taken + room as u64, &bytes[room..])
     }
-}
 
-// The digest of what a state has taken: the tail's bytes and the padding make whole blocks.
-pub fn closed(state: Hash) -> [u8; 32]
-    requires { state.taken ≤ max_hashed }
-    ensures { result ≡ digest_of (pushed_all state (padding state.taken)).words }
-{
-    let at = (state.taken % 64) as usize;
-    let tail = state.tail;
-    let words = state.words;
-    digest_after(words, &tail[..at], state.taken)
+    // The state after some bytes.
+    pub(crate) fn pushed(self, bytes: &[u8]) -> Hash
+        requires { self.taken + length bytes.now < 2 ^ 64 }
+        ensures { result ≡ pushed_all self bytes.now }
+    {
+        let room = 64 - (self.taken % 64) as usize;
+        if bytes.len() < room {
+            self.within(bytes)
+        } else {
+            self.beyond(bytes)
+        }
+    }
+
+    // The digest of what a state has taken: the tail's bytes and the padding make whole blocks.
+    pub(crate) fn closed(self) -> [u8; 32]
+        requires { self.taken ≤ max_hashed }
+        ensures { result ≡ digest_of (pushed_all self (padding self.taken)).words }
+    {
+        let at = (self.taken % 64) as usize;
+        let tail = self.tail;
+        digest_after(self.words, &tail[..at], self.taken)
+    }
 }

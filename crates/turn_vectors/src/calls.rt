@@ -1,60 +1,34 @@
 // A line's calls, one after another over a store of its length that held something else: the numbers that the line begins with, a line for each
 // call, and then where the stores lie and the digests of the unit and of all that was lent.
 use crate::answers::{answer_line, places, unit_digest};
-use crate::given::{number_at, unit_of};
+use crate::given::unit_of;
+use std::alloc::Global;
+use std::io;
 use std::io::Stdout;
 use unit::StampingUnit;
-use vector_helpers::{column, digest_column, named, text};
+use vector_helpers::{Hex, hash, number};
 
-// Room for most lines.
-fn space() -> [u8; 8192] {
-    [90u8; 8192]
-}
-
-// Room for two stores of memory level 14.
-fn large_space() -> [u8; 2097088] {
-    [90u8; 2097088]
-}
-
-// So many calls with the budgets from field 4 on. The unit as it then is.
-fn calls(to: Stdout, line: &[u8], before: StampingUnit, store: &mut [u8]) -> StampingUnit {
-    let mut unit = before;
-    let count = number_at(line, 3) % 100;
-    let mut i: u64 = 0;
-    while i < count {
-        let budget = number_at(line, 4 + i);
-        let served = unit.advance(budget, store);
-        answer_line(to, budget, served);
-        let next = served.unit;
-        unit = next;
-        i += 1;
+// So many calls with the budgets from field 4 on.
+fn calls(to: Stdout, line: &str, unit: &mut StampingUnit, store: &mut [u8]) -> io::Result<()> {
+    let count = (number(line, 3) % 100) as usize;
+    for i in 0..count {
+        let budget = number(line, 4 + i);
+        let answer = unit.advance(budget, store);
+        answer_line(to, budget, answer, unit)?;
     }
-    unit
+    Ok(())
 }
 
-fn over(to: Stdout, line: &[u8], store: &mut [u8]) {
-    let unit = unit_of(line);
-    named(to, b"unit ", unit.count);
-    column(to, unit.last);
-    column(to, store.len() as u64);
-    vector_helpers::end(to);
-    let after = calls(to, line, unit, store);
-    text(to, b"places");
-    places(to, after, store);
-    unit_digest(to, after);
-    digest_column(to, store);
-    vector_helpers::end(to);
+fn over(to: Stdout, line: &str, store: &mut [u8]) -> io::Result<()> {
+    let mut unit = unit_of(line);
+    println!(to; "unit {} {} {}", unit.count, unit.last, store.len())?;
+    calls(to, line, &mut unit, store)?;
+    print!(to; "places")?;
+    places(to, &unit, store)?;
+    println!(to; " {} {}", Hex(&unit_digest(&unit)), Hex(&hash(store)))
 }
 
-pub fn line_calls(to: Stdout, line: &[u8]) {
-    let len = number_at(line, 2) as usize;
-    if len <= 8192 {
-        let mut store = space();
-        over(to, line, &mut store[..len]);
-        return;
-    }
-    if len <= 2097088 {
-        let mut store = large_space();
-        over(to, line, &mut store[..len]);
-    }
+pub fn line_calls(to: Stdout, alloc: Global, line: &str) -> io::Result<()> {
+    let mut store = vec![in alloc; 90u8; number(line, 2) as usize]?;
+    over(to, line, &mut store)
 }

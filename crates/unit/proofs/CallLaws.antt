@@ -31,9 +31,6 @@ module _ (unit : StampingUnit) (store : List ℕ) (budget : ℕ) where
       → blocks ≡ blocks_in (carried unit store) budget
   blocks-by = machines.cost-by unit_machine (carried unit store) budget turn_blocks
 
-  pub no_blocks : 0 ≡ labels_in (carried unit store) budget → 0 ≡ blocks_in (carried unit store) budget
-  no_blocks e = sym (machines.costs-nothing unit_machine (carried unit store) budget turn_blocks (sym e))
-
   pub unchanged : 0 ≡ labels_in (carried unit store) budget
       → (unit ≡ (advanced (carried unit store) budget).unit) × (store ≡ (advanced (carried unit store) budget).store)
   unchanged e = let f = machines.unchanged unit_machine (carried unit store) budget (sym e) in (rw f, rw f)

@@ -5,13 +5,14 @@ use mathlib.Core.List.{List}
 use Prim.Native.Nat.{ℕ, suc, ◌-◌, ◌<◌}
 use native.Mathlib.Omega.{arith}
 use lib.Dec.{ltb}
-use lib.ListN.{get_or}
 use Rattle.base.specs.Choice.{pick}
+use Rattle.unit.specs.declared.checks.Lane.{Lane}
+use Rattle.unit.specs.Plans.{lane_at}
 use Rattle.unit.specs.Turns.{following, first_after}
 
 -- labels remain of run i
-abbrev pub has_labels : List ℕ → ℕ → Bool
-has_labels left i = ltb 0 (get_or left (i - 1) 0)
+abbrev pub has_labels : List Lane → ℕ → Bool
+has_labels lanes i = ltb 0 (lane_at lanes i).left
 
 pub first-none : (test : ℕ → Bool) (count i : ℕ) → first_after test count 0 i ≡ 0
 unfolding first_after

@@ -1,5 +1,5 @@
 -- The runs looked over in order: the row so far, and the arrays that are filled beside it.
-use mathlib.Core.Path.{◌≡◌, sym, ap, ap₂, subst, ◌∙◌}
+use mathlib.Core.Path.{◌≡◌, sym, ap, ap₂, ◌∙◌}
 use mathlib.Core.Logic.{⊎_elim}
 use mathlib.Core.Bool.{true, false}
 use mathlib.Core.List.{List}
@@ -10,12 +10,6 @@ use lib.Seq.{get_or-set_same, get_or-set_other}
 use Rattle.base.specs.Limits.{max_runs}
 use Rattle.base.specs.Choice.{pick}
 use Rattle.base.specs.Row.{outside, is_done}
-use Rattle.base.specs.Number.{outcome_number}
-use Rattle.base.specs.declared.refusal.Refusal.{Refusal}
-use Rattle.base.specs.declared.refusal.Outcome.{Outcome}
-use Rattle.base.specs.declared.refusal.Outcome.TheVariants.{Refused}
-use Rattle.base.proofs.Bounds.{number-some}
-use Rattle.base.proofs.RowLaws.{refused-number}
 use Rattle.base.proofs.ChoiceLaws.{lt-or-le}
 use Rattle.tree.specs.Walk.{nodes_in}
 use Rattle.run.specs.declared.Run.{Run}
@@ -26,13 +20,10 @@ use Rattle.unit.specs.declared.StampingUnit.{StampingUnit}
 use Rattle.unit.specs.Runs.{outside_run, run_at, left_of, sum_to, sum_of, size_of}
 use Rattle.unit.specs.Rows.{runs_row, named_row}
 use Rattle.unit.specs.Turns.{Carried}
-use Rattle.unit.specs.Plans.{Planned}
+use Rattle.unit.specs.declared.checks.Lane.{Lane}
+use Rattle.unit.specs.Plans.{Planned, outside_lane, lane_at}
 use Rattle.unit.proofs.SumLaws.{sum-empty, sum-last}
 use Rattle.unit.proofs.RowLaws.{runs_none, Sound, depth-fits}
-
--- a row that refuses is not 0
-pub refused-some : (o : Outcome) (row : ℕ) (r : Refusal) → outcome_number o ≡ row → o ≡ Refused r → row ≡ 0 → ⊥
-refused-some o row r e is none = omega (arith, number-some r, refused-number o row r e is, none)
 
 -- W-208's 21, by its two conditions
 module _ (unit : StampingUnit) (name end store : ℕ) where
@@ -44,34 +35,35 @@ module _ (unit : StampingUnit) (name end store : ℕ) where
   unfolding named_row
   not-among e f = rw (e, f)
 
--- an array that holds what belongs to 1 to i, with one more
+-- an array of lanes that hold what belongs to 1 to i, with one more
 one_more :
-    (xs : List ℕ) (of : ℕ → ℕ) (i x : ℕ) → i < length xs → ((j : ℕ) → 1 ≤ j → j ≤ i → get_or xs (j - 1) 0 ≡ of j)
-    → x ≡ of (i + 1) → (j : ℕ) → 1 ≤ j → j ≤ i + 1 → get_or (set xs i x) (j - 1) 0 ≡ of j
-one_more xs of i x room so_far is j some few =
+    (xs : List Lane) (field : Lane → ℕ) (of : ℕ → ℕ) (i : ℕ) (x : Lane) → i < length xs
+    → ((j : ℕ) → 1 ≤ j → j ≤ i → field (lane_at xs j) ≡ of j) → field x ≡ of (i + 1)
+    → (j : ℕ) → 1 ≤ j → j ≤ i + 1 → field (lane_at (set xs i x) j) ≡ of j
+one_more xs field of i x room so_far is j some few =
     ⊎_elim
-    (λ (low : j < i + 1). get_or-set_other xs i (j - 1) x 0 (λ (e : j - 1 ≡ i). omega arith) ∙ so_far j some (omega arith))
+    (λ (low : j < i + 1).
+    ap field (get_or-set_other xs i (j - 1) x outside_lane (λ (e : j - 1 ≡ i). omega arith)) ∙ so_far j some (omega arith))
     (λ (high : i + 1 ≤ j).
     let e : j ≡ i + 1 = omega arith in
     let f : i + 1 - 1 ≡ i = omega arith in
-    rw (e, f) (get_or-set_same xs i x 0 room ∙ is))
+    rw (e, f) (ap field (get_or-set_same xs i x outside_lane room) ∙ is))
     (lt-or-le j (i + 1))
 
 module _ (runs : List Run) (end store : ℕ) where
   -- runs 1 to i may be continued, and this is known of them
-  pub record LookedOver (from left : List ℕ) (all at i : ℕ) : Type 0 where
+  pub record LookedOver (lanes : List Lane) (all at i : ℕ) : Type 0 where
     pub few : i ≤ end
     pub rest : runs_row runs 1 end store ≡ runs_row runs (i + 1) (end - i) (store - at)
     pub place : at ≡ sum_of size_of runs i
     pub inside : at ≤ store
-    pub planned : Planned runs i from left
+    pub planned : Planned runs i lanes
     pub whole : all ≡ sum_of left_of runs i
     pub small : all ≤ i * 2 ^ 42
-    pub places : length from ≡ max_runs
-    pub labels : length left ≡ max_runs
+    pub places : length lanes ≡ max_runs
 
-  none-of-them : (from left : List ℕ) → length from ≡ max_runs → length left ≡ max_runs → LookedOver from left 0 0 0
-  none-of-them from left f l =
+  pub none_yet : (lanes : List Lane) → length lanes ≡ max_runs → LookedOver lanes 0 0 0
+  none_yet lanes f =
       let e : end - 0 ≡ end = omega arith in
       let s : store - 0 ≡ store = omega arith in
       record {
@@ -86,18 +78,14 @@ module _ (runs : List Run) (end store : ℕ) where
         whole = sym (sum-empty _);
         small = omega arith;
         places = f;
-        labels = l;
       }
 
-  pub none_yet : (from left : List ℕ) (i : ℕ) → length from ≡ max_runs → length left ≡ max_runs → 0 ≡ i → LookedOver from left 0 0 i
-  none_yet from left i f l e = subst (λ (j : ℕ). LookedOver from left 0 0 j) e (none-of-them from left f l)
-
-  module _ (from left : List ℕ) (all at i : ℕ) (looked : LookedOver from left all at i) where
-    pub all-looked : end ≤ i → (0 ≡ runs_row runs 1 end store) × Planned runs end from left × (all ≡ sum_of left_of runs end)
+  module _ (lanes : List Lane) (all at i : ℕ) (looked : LookedOver lanes all at i) where
+    pub all-looked : end ≤ i → (0 ≡ runs_row runs 1 end store) × Planned runs end lanes × (all ≡ sum_of left_of runs end)
     all-looked none =
         let e : i ≡ end = omega (arith, looked.few) in
         let n : end - i ≡ 0 = omega arith in
-        let planned : Planned runs end from left = rw e at looked.planned in
+        let planned : Planned runs end lanes = rw e at looked.planned in
         let whole : all ≡ sum_of left_of runs end = rw e at looked.whole in
         (sym (looked.rest ∙ rw n (runs_none runs (i + 1) (store - at))), planned, whole)
 
@@ -117,16 +105,18 @@ module _ (runs : List Run) (end store : ℕ) where
           → continue_row (get_or runs i outside_run) (store - at) ≡ runs_row runs 1 end store
       stops e = sym (here ∙ rw e)
 
-      one_further :
+      pub one_further :
           (nodes size : ℕ) → continue_row (get_or runs i outside_run) (store - at) ≡ 0 → i < max_runs
           → nodes ≡ nodes_in (get_or runs i outside_run).depth → size ≡ size_of (get_or runs i outside_run)
-          → LookedOver (set from i at) (set left i (nodes - (get_or runs i outside_run).made)) (all + (nodes - (get_or runs i outside_run).made)) (at + size) (i + 1)
+          → LookedOver (set lanes i (record { from = at; left = nodes - (get_or runs i outside_run).made }))
+          (all + (nodes - (get_or runs i outside_run).made)) (at + size) (i + 1)
       one_further nodes size done room n m =
           let run : Run = get_or runs i outside_run in
           let whole : Whole run (store - at) = may-go-on run (store - at) done in
           let back : i + 1 - 1 ≡ i = omega arith in
           let begins : at ≡ sum_of size_of runs (i + 1 - 1) = rw back looked.place in
           let remain : nodes - run.made ≡ left_of (get_or runs (i + 1 - 1) outside_run) = rw (back, n) in
+          let lane : Lane = record { from = at; left = nodes - run.made } in
           let gone : store - at - size_of run ≡ store - (at + size) = omega (arith, m) in
           let at_size : sum_of size_of runs (i + 1) ≡ sum_of size_of runs i + size_of (get_or runs (i + 1 - 1) outside_run) = sum-last _ i in
           let all-size : sum_of left_of runs (i + 1) ≡ sum_of left_of runs i + left_of (get_or runs (i + 1 - 1) outside_run) = sum-last _ i in
@@ -137,27 +127,16 @@ module _ (runs : List Run) (end store : ℕ) where
             inside = omega (arith, whole.room, m, looked.inside);
             planned = record {
               begins =
-                  one_more from (λ (j : ℕ). sum_of size_of runs (j - 1)) i at (omega (arith, looked.places)) looked.planned.begins begins;
+                  one_more lanes (λ (l : Lane). l.from) (λ (j : ℕ). sum_of size_of runs (j - 1)) i lane (omega (arith, looked.places))
+                  looked.planned.begins begins;
               remain =
-                  one_more left (λ (j : ℕ). left_of (get_or runs (j - 1) outside_run)) i (nodes - run.made) (omega (arith, looked.labels))
-                  looked.planned.remain remain;
+                  one_more lanes (λ (l : Lane). l.left) (λ (j : ℕ). left_of (get_or runs (j - 1) outside_run)) i lane
+                  (omega (arith, looked.places)) looked.planned.remain remain;
             };
             whole = ap₂ ◌+◌ looked.whole remain ∙ sym all-size;
             small = omega (arith, looked.small, n, small-nodes run.depth whole.possible.depth);
-            places = length-set from i at ∙ looked.places;
-            labels = length-set left i (nodes - run.made) ∙ looked.labels;
+            places = length-set lanes i lane ∙ looked.places;
           }
-
-      pub goes_on :
-          (nodes size i' : ℕ) → continue_row (get_or runs i outside_run) (store - at) ≡ 0 → i < max_runs
-          → nodes ≡ nodes_in (get_or runs i outside_run).depth → size ≡ size_of (get_or runs i outside_run) → i + 1 ≡ i'
-          → LookedOver (set from i at) (set left i (nodes - (get_or runs i outside_run).made)) (all + (nodes - (get_or runs i outside_run).made)) (at + size) i'
-      goes_on nodes size i' done room n m e =
-          subst
-          (λ (j : ℕ).
-          LookedOver (set from i at) (set left i (nodes - (get_or runs i outside_run).made)) (all + (nodes - (get_or runs i outside_run).made)) (at + size) j)
-          e
-          (one_further nodes size done room n m)
 
 -- the labels of all runs fit a number
 sum-small : (of : ℕ → ℕ) (k : ℕ) → ((i : ℕ) → 1 ≤ i → i ≤ k → of i ≤ 2 ^ 42) → sum_to of k ≤ k * 2 ^ 42

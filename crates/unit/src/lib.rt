@@ -4,38 +4,30 @@
 mod checks; // checks.rt: what may be served, and what is to be known of the runs
 mod turns; // turns.rt: whose turn it is, and the labels of a call
 
-ghost use Rattle.std.specs.Prelude.{◌≡◌, ◌*◌, ◌≤◌, length};
+ghost use Rattle.std.specs.Prelude.{◌≡◌, ◌*◌, ◌≤◌, length, is_some, IfOk};
+ghost use Rattle.std.specs.Option.{option_map_or};
+ghost use Rattle.base.specs.Row.{is_done};
 ghost use Rattle.base.specs.Number.{outcome_number};
 ghost use Rattle.labelling.specs.Blocks.{most_blocks};
-ghost use Rattle.unit.specs.Rows.{unit_row};
+ghost use Rattle.unit.specs.Rows.{unit_row, place_row};
 ghost use Rattle.unit.specs.Turns.{carried, labels_in, blocks_in, advanced, place_offset, place_length};
 
-use base::{MAX_RUNS, Outcome, smaller};
-use checks::plan_runs;
+use base::{MAX_RUNS, Refusal};
+use labelling::Work;
 use run::{Run, store_size};
-use turns::label_turns;
 
 // The first `count` of the runs are the unit's; they are named from 1, and `last` names the one served last.
 #[repr(C)]
-#[derive(Clone, Copy)]
+#[derive(Clone, Copy, Debug, PartialEq, Eq)]
 pub struct StampingUnit {
     pub count: u64,
     pub last: u64,
     pub runs: [Run; MAX_RUNS],
 }
 
-// What a call did: its outcome, the labels that it made of all runs, their blocks, and the unit as it now is.
-#[derive(Clone, Copy)]
-pub struct Served {
-    pub outcome: Outcome,
-    pub labels: u64,
-    pub blocks: u64,
-    pub unit: StampingUnit,
-}
-
-// A part of the slice; 0 and 0 where there is none.
+// A part of the slice.
 #[repr(C)]
-#[derive(Clone, Copy)]
+#[derive(Clone, Copy, Debug, PartialEq, Eq)]
 pub struct StorePlace {
     pub offset: usize,
     pub length: usize,
@@ -43,60 +35,30 @@ pub struct StorePlace {
 
 impl StampingUnit {
     // Makes exactly the smaller of the budget and all labels that remain, one at a time, in turn, beginning after the run served last.
-    pub fn advance(self, budget: u64, store: &mut [u8]) -> Served
-        ensures outcome_value { outcome_number result.outcome ≡ unit_row self (length store.old) }
-        ensures labels_value { result.labels ≡ labels_in (carried self store.old) budget }
-        ensures blocks_value { (result.blocks ≡ blocks_in (carried self store.old) budget) × (result.blocks ≤ most_blocks * result.labels) }
-        ensures unit_value { result.unit ≡ (advanced (carried self store.old) budget).unit }
-        ensures store_after { store.new ≡ (advanced (carried self store.old) budget).store }
+    pub fn advance(&mut self, budget: u64, store: &mut [u8]) -> Result<Work, Refusal>
+        ensures outcome_value { outcome_number result ≡ unit_row self.old (length store.old) }
+        ensures work_value { IfOk result (λ w. (w.labels ≡ labels_in (carried self.old store.old) budget)
+            × (w.blocks ≡ blocks_in (carried self.old store.old) budget) × (w.blocks ≤ most_blocks * w.labels)) }
+        ensures unit_after { self.new ≡ (advanced (carried self.old store.old) budget).unit }
+        ensures store_after { store.new ≡ (advanced (carried self.old store.old) budget).store }
     {
-        let plan = plan_runs(self, self.last, self.count, store.len());
-        let outcome = plan.outcome;
-        match outcome {
-            Outcome::Done => {
-                let labels = smaller(budget, plan.all);
-                let from = plan.from;
-                let left = plan.left;
-                let done = label_turns(self, from, left, labels, store);
-                let unit = done.unit;
-                Served {
-                    outcome,
-                    labels,
-                    blocks: done.blocks,
-                    unit,
-                }
-            }
-            Outcome::Refused(_) => Served {
-                outcome,
-                labels: 0,
-                blocks: 0,
-                unit: self,
-            },
-        }
+        let plan = self.plan_runs(self.last, self.count, store.len())?;
+        let labels = budget.min(plan.all);
+        let blocks = self.label_turns(plan.lanes, labels, store);
+        Ok(Work { labels, blocks })
     }
 
     // Where run i's store lies in the slice, for an opening of it.
-    pub fn store_place(self, i: u64, store: &[u8]) -> StorePlace
-        ensures offset_value { result.offset ≡ place_offset self i (length store.now) }
-        ensures length_value { result.length ≡ place_length self i (length store.now) }
+    pub fn store_place(&self, i: u64, store: &[u8]) -> Option<StorePlace>
+        ensures there { is_some result ≡ is_done (place_row self.now i (length store.now)) }
+        ensures offset_value { option_map_or (λ p. p.offset) result 0 ≡ place_offset self.now i (length store.now) }
+        ensures length_value { option_map_or (λ p. p.length) result 0 ≡ place_length self.now i (length store.now) }
     {
-        let plan = plan_runs(self, i, i, store.len());
-        let outcome = plan.outcome;
-        match outcome {
-            Outcome::Done => {
-                let at = (i - 1) as usize;
-                let runs = self.runs;
-                let run = runs[at];
-                let from = plan.from;
-                StorePlace {
-                    offset: from[at],
-                    length: store_size(run.memory) as usize,
-                }
-            }
-            Outcome::Refused(_) => StorePlace {
-                offset: 0,
-                length: 0,
-            },
-        }
+        let plan = self.plan_runs(i, i, store.len()).ok()?;
+        let at = (i - 1) as usize;
+        Some(StorePlace {
+            offset: plan.lanes[at].from,
+            length: store_size(self.runs[at].memory) as usize,
+        })
     }
 }

@@ -1,187 +1,125 @@
 // Openings of both editions checked upward to the root: as they were made, of a wrong length, by another edition, and with a byte of each
 // label changed.
-ghost use Rattle.std.specs.Prelude.{◌≤◌};
+ghost use Rattle.std.specs.Prelude.{◌≤◌, length};
 
 use base::{label_at, outcome_number};
+use labelling::Tree;
 use opening::Opening;
 use opening_check::check_opening;
+use std::io;
 use std::io::Stdout;
-use vector_helpers::{column, finished, hash, named};
+use vector_helpers::{Stamping, hash};
+
+// What an opening is checked against.
+#[derive(Clone, Copy)]
+struct Wanted {
+    tree: Tree,
+    leaf: u64,
+    root: [u8; 32],
+}
 
 // The opening of a leaf, over output bytes that held something else.
-fn opened(
-    edition: u64,
-    statement: [u8; 32],
-    depth: u64,
-    memory: u64,
-    leaf: u64,
-    store: &[u8],
-) -> [u8; 1313] {
+fn opened(of: Stamping, leaf: u64, store: &[u8]) -> [u8; 1313] {
     let mut out = [90u8; 1313];
-    let start = Opening::start(edition, statement, depth, memory, leaf, store, &mut out);
-    let opening = start.opening;
-    opening.advance(1000, store, &mut out);
+    if let Ok(mut opening) = Opening::start(of.tree(), of.memory, leaf, store, &mut out) {
+        let _ = opening.advance(1000, store, &mut out);
+    }
     out
 }
 
-// The number of the answer to so many of the bytes.
-fn answer(
-    to: Stdout,
-    edition: u64,
-    statement: [u8; 32],
-    depth: u64,
-    leaf: u64,
-    root: [u8; 32],
-    out: &[u8],
-    size: usize,
-) {
-    if size <= out.len() {
-        let outcome = check_opening(edition, statement, depth, leaf, root, &out[..size]);
-        column(to, outcome_number(outcome));
+impl Wanted {
+    // The number of the answer to so many of the bytes.
+    fn answer(self, to: Stdout, out: &[u8], size: usize) -> io::Result<()> {
+        let Some(bytes) = out.get(..size) else {
+            return Ok(());
+        };
+        let answer = check_opening(&self.tree, self.leaf, self.root, bytes);
+        print!(to; " {}", outcome_number(answer))
+    }
+
+    // The same with the tree of an edition.
+    fn answer_of(self, to: Stdout, edition: u64, out: &[u8], size: usize) -> io::Result<()> {
+        let tree = Tree {
+            edition,
+            ..self.tree
+        };
+        Wanted { tree, ..self }.answer(to, out, size)
+    }
+
+    // As it is, a byte short and a byte more; then for another leaf, with another root, by the other edition, and by one that does not exist.
+    fn answers(self, to: Stdout, other: u64, out: &[u8], size: usize) -> io::Result<()>
+        requires some { 1 ≤ size }
+        requires room { size ≤ 1312 }
+    {
+        self.answer(to, out, size)?;
+        self.answer(to, out, size - 1)?;
+        self.answer(to, out, size + 1)?;
+        let leaf = self.leaf ^ 1;
+        Wanted { leaf, ..self }.answer(to, out, size)?;
+        let root = self.tree.statement;
+        Wanted { root, ..self }.answer(to, out, size)?;
+        self.answer_of(to, other, out, size)?;
+        self.answer_of(to, 3, out, size)
+    }
+
+    // With a byte of the leaf's label changed, then of each sibling's from level n to level 1.
+    fn each_changed(self, to: Stdout, out: [u8; 1313], size: usize) -> io::Result<()>
+        requires { self.tree.depth ≤ 6 }
+    {
+        for label in 0..=self.tree.depth as usize {
+            let mut changed = out;
+            changed[33 * label + 5] ^= 4;
+            self.answer(to, &changed, size)?;
+        }
+        Ok(())
     }
 }
 
-// The same with a byte changed.
-fn changed(
-    to: Stdout,
-    edition: u64,
-    statement: [u8; 32],
-    depth: u64,
-    leaf: u64,
-    root: [u8; 32],
-    out: [u8; 1313],
-    size: usize,
-    at: usize,
-) {
-    let mut bytes = out;
-    if at < 1313 {
-        bytes[at] = bytes[at] ^ 4;
-        answer(to, edition, statement, depth, leaf, root, &bytes, size);
-    }
-}
-
-// With a byte of the leaf's label changed, then of each sibling's from level n to level 1.
-fn each_changed(
-    to: Stdout,
-    edition: u64,
-    statement: [u8; 32],
-    depth: u64,
-    leaf: u64,
-    root: [u8; 32],
-    out: [u8; 1313],
-)
-    requires { depth ≤ 6 }
+// One leaf's opening.
+fn leaf_checked(to: Stdout, of: Stamping, other: u64, leaf: u64, store: &[u8]) -> io::Result<()>
+    requires small { of.depth ≤ 6 }
+    requires root_in { 32 ≤ length store.now }
 {
-    let size = 32 * (depth + 1) as usize;
-    let mut at: usize = 5;
-    while at < size {
-        changed(to, edition, statement, depth, leaf, root, out, size, at);
-        at += 33;
-    }
-}
-
-// For another leaf, with another root, by the other edition, and by one that does not exist.
-fn with_others(
-    to: Stdout,
-    edition: u64,
-    other: u64,
-    statement: [u8; 32],
-    depth: u64,
-    leaf: u64,
-    root: [u8; 32],
-    out: &[u8],
-    size: usize,
-) {
-    answer(to, edition, statement, depth, leaf ^ 1, root, out, size);
-    answer(to, edition, statement, depth, leaf, statement, out, size);
-    answer(to, other, statement, depth, leaf, root, out, size);
-    answer(to, 3, statement, depth, leaf, root, out, size);
-}
-
-// One leaf's opening: as it is, a byte short, a byte more, with other numbers, and with a byte of each label changed.
-fn leaf_checked(
-    to: Stdout,
-    edition: u64,
-    other: u64,
-    statement: [u8; 32],
-    depth: u64,
-    memory: u64,
-    leaf: u64,
-    root: [u8; 32],
-    store: &[u8],
-)
-    requires { depth ≤ 6 }
-{
-    let size = 32 * (depth + 1) as usize;
-    let out = opened(edition, statement, depth, memory, leaf, store);
-    named(to, b"leaf ", leaf);
-    answer(to, edition, statement, depth, leaf, root, &out, size);
-    answer(to, edition, statement, depth, leaf, root, &out, size - 1);
-    answer(to, edition, statement, depth, leaf, root, &out, size + 1);
-    with_others(to, edition, other, statement, depth, leaf, root, &out, size);
-    vector_helpers::text(to, b" changed");
-    each_changed(to, edition, statement, depth, leaf, root, out);
-    vector_helpers::end(to);
-}
-
-// Every leaf.
-fn leaves_checked(
-    to: Stdout,
-    edition: u64,
-    other: u64,
-    statement: [u8; 32],
-    depth: u64,
-    memory: u64,
-    leaves: u64,
-    root: [u8; 32],
-    store: &[u8],
-)
-    requires { depth ≤ 6 }
-{
-    let mut leaf: u64 = 0;
-    while leaf < leaves {
-        leaf_checked(
-            to, edition, other, statement, depth, memory, leaf, root, store,
-        );
-        leaf += 1;
-    }
+    let size = 32 * (of.depth as usize + 1);
+    let out = opened(of, leaf, store);
+    let root = label_at(store, 0);
+    let tree = of.tree();
+    let wanted = Wanted { tree, leaf, root };
+    print!(to; "leaf {leaf}")?;
+    wanted.answers(to, other, &out, size)?;
+    print!(to; " changed")?;
+    wanted.each_changed(to, out, size)?;
+    println!(to; "")
 }
 
 // One depth and memory level.
-fn level_checked(to: Stdout, edition: u64, other: u64, depth: u64, memory: u64, leaves: u64)
-    requires { depth ≤ 6 }
+fn level_checked(to: Stdout, of: Stamping, other: u64, leaves: u64) -> io::Result<()>
+    requires { of.depth ≤ 6 }
 {
-    named(to, b"edition ", edition);
-    named(to, b" depth ", depth);
-    named(to, b" memory ", memory);
-    vector_helpers::end(to);
-    let statement = hash(b"openings");
-    let store = finished(edition, statement, depth, memory);
-    let root = label_at(&store, 0);
-    leaves_checked(
-        to, edition, other, statement, depth, memory, leaves, root, &store,
-    );
-}
-
-// Each memory level.
-fn depth_checked(to: Stdout, edition: u64, other: u64, n: u64, leaves: u64)
-    requires { n ≤ 6 }
-{
-    let mut memory: u64 = 0;
-    while memory <= n {
-        level_checked(to, edition, other, n, memory, leaves);
-        if memory == n {
-            return;
-        }
-        memory += 1;
+    println!(to;
+        "edition {} depth {} memory {}",
+        of.edition, of.depth, of.memory
+    )?;
+    let store = of.finished();
+    for leaf in 0..leaves {
+        leaf_checked(to, of, other, leaf, &store)?;
     }
+    Ok(())
 }
 
-pub fn checked(to: Stdout, edition: u64, other: u64) {
-    depth_checked(to, edition, other, 1, 2);
-    depth_checked(to, edition, other, 2, 4);
-    depth_checked(to, edition, other, 3, 8);
-    depth_checked(to, edition, other, 4, 16);
-    depth_checked(to, edition, other, 5, 32);
-    depth_checked(to, edition, other, 6, 64);
+// Every leaf of small trees at each memory level.
+pub fn checked(to: Stdout, edition: u64, other: u64) -> io::Result<()> {
+    let statement = hash(b"openings");
+    for (depth, leaves) in [(1, 2), (2, 4), (3, 8), (4, 16), (5, 32), (6, 64)] {
+        for memory in 0..=depth {
+            let of = Stamping {
+                edition,
+                statement,
+                depth,
+                memory,
+            };
+            level_checked(to, of, other, leaves)?;
+        }
+    }
+    Ok(())
 }

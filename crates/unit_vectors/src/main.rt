@@ -14,16 +14,17 @@ use digests::digests;
 use openings::{opening_edges, openings};
 use run_edges::run_edges;
 use runs::runs;
+use std::io;
 
-fn main(rt: HostRuntime) {
+fn main(rt: HostRuntime) -> io::Result<()> {
     let to = rt.stdout();
-    digests(to);
-    runs(to);
-    run_edges(to);
-    openings(to, 1);
-    openings(to, 2);
-    opening_edges(to);
-    checked(to, 1, 2);
-    checked(to, 2, 1);
-    blocks(to);
+    digests(to)?;
+    runs(to)?;
+    run_edges(to)?;
+    openings(to, 1)?;
+    openings(to, 2)?;
+    opening_edges(to)?;
+    checked(to, 1, 2)?;
+    checked(to, 2, 1)?;
+    blocks(to)
 }

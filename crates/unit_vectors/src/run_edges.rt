@@ -1,155 +1,170 @@
 // Starting and continuing a run at the edges of each refusal: the whole run and store before and after. The stored output has an
 // independent model's answers.
-use base::{big_endian, outcome_number};
-use run::{Advanced, Run};
+use base::outcome_number;
+use run::{Run, new_run};
 use sha256::Hash;
+use std::io;
 use std::io::Stdout;
-use vector_helpers::{LEVEL_EDGES, flag, hash, level_edge, named, named_hex};
+use vector_helpers::{
+    EDITIONS, Hex, IsSame, LEVEL_EDGES, NO_WORK, digest_of, hash, hash_run, level_edge,
+};
 
 // Room for memory level 14.
 fn dirty_store() -> [u8; 1048544] {
     [90u8; 1048544]
 }
 
-fn with_number(state: Hash, x: u64) -> Hash {
-    let step = state.update(&big_endian(x));
-    step.hash
+// What is printed where no run is started.
+fn no_run() -> Run {
+    new_run(0, [0u8; 32], 0, 0)
 }
 
-fn with_places(state: Hash, held: [u8; 1312]) -> Hash {
-    let step = state.update(&held);
-    step.hash
-}
-
-// The digest of a whole run: statement, edition, depth, memory level, labels made, and places.
-fn run_digest(run: Run) -> [u8; 32] {
-    let statement = run.statement;
-    let held = run.held;
-    let first = Hash::new().update(&statement);
-    let edition = with_number(first.hash, run.edition);
-    let depth = with_number(edition, run.depth);
-    let memory = with_number(depth, run.memory);
-    let made = with_number(memory, run.made);
-    let end = with_places(made, held).finish();
-    end.digest
-}
-
-fn same_run(a: Run, b: Run) -> bool {
-    check::same(&run_digest(a), &run_digest(b))
-}
-
-// The store's digest, and whether it is the one before.
-fn store_line(to: Stdout, before: [u8; 32], store: &[u8]) {
-    let after = hash(store);
-    named_hex(to, b" store ", &after);
-    flag(to, check::same(&before, &after));
-}
-
-fn run_line(to: Stdout, run: Run) {
-    named_hex(to, b" run ", &run_digest(run));
-}
-
-// What starting answers, the run beside it, and whether the store is changed.
-fn starts(to: Stdout, depth: u64, memory: u64, store: &[u8]) {
-    let before = hash(store);
-    let start = Run::start([7u8; 32], depth, memory, store);
-    let outcome = start.outcome;
-    let run = start.run;
-    named(to, b": start ", outcome_number(outcome));
-    run_line(to, run);
-    store_line(to, before, store);
-}
-
-fn answered(to: Stdout, before: Run, step: Advanced) {
-    let outcome = step.outcome;
-    let after = step.run;
-    named(to, b" continue ", outcome_number(outcome));
-    named(to, b" labels ", step.labels);
-    named(to, b" blocks ", step.blocks);
-    run_line(to, after);
-    flag(to, same_run(before, after));
-}
-
-// The same of continuing by one label, with whether the run is changed.
-fn continues(to: Stdout, edition: u64, depth: u64, memory: u64, made: u64, store: &mut [u8]) {
-    let before = hash(store);
-    let held = [9u8; 1312];
-    let run = Run {
-        statement: [7u8; 32],
-        edition,
-        depth,
-        memory,
-        made,
-        held,
-    };
-    let step = run.advance(1, store);
-    answered(to, run, step);
-    store_line(to, before, store);
+// The digest of a whole run.
+fn run_digest(run: &Run) -> [u8; 32] {
+    let mut state = Hash::new();
+    hash_run(&mut state, run);
+    digest_of(&state)
 }
 
 // Starting, which takes no edition, and continuing with these numbers and a store of this length.
-fn edge(to: Stdout, edition: u64, depth: u64, memory: u64, made: u64, store: &mut [u8]) {
-    named(to, b"edition ", edition);
-    named(to, b" n ", depth);
-    named(to, b" m ", memory);
-    named(to, b" made ", made);
-    named(to, b" store ", store.len() as u64);
-    starts(to, depth, memory, store);
-    continues(to, edition, depth, memory, made, store);
-    vector_helpers::end(to);
+#[derive(Clone, Copy)]
+struct Edge {
+    edition: u64,
+    depth: u64,
+    memory: u64,
+    made: u64,
+    store: usize,
 }
 
-// The same with a store of this length.
-fn edge_at(to: Stdout, edition: u64, depth: u64, memory: u64, made: u64, len: usize) {
-    if len <= 1048544 {
-        let mut space = dirty_store();
-        edge(to, edition, depth, memory, made, &mut space[..len]);
+impl Edge {
+    // What starting answers, the run beside it, and whether the store is changed.
+    fn starts(self, to: Stdout, store: &[u8]) -> io::Result<()> {
+        let before = hash(store);
+        let start = Run::start([7u8; 32], self.depth, self.memory, store);
+        let run = start.unwrap_or(no_run());
+        print!(to;
+            ": start {} run {}",
+            outcome_number(start),
+            Hex(&run_digest(&run))
+        )?;
+        let after = hash(store);
+        print!(to; " store {} {}", Hex(&after), IsSame(before == after))
     }
+
+    // The same of continuing by one label, with whether the run is changed.
+    fn continues(self, to: Stdout, store: &mut [u8]) -> io::Result<()> {
+        let before = hash(store);
+        let mut run = Run {
+            statement: [7u8; 32],
+            edition: self.edition,
+            depth: self.depth,
+            memory: self.memory,
+            made: self.made,
+            held: [9u8; 1312],
+        };
+        let before_run = run_digest(&run);
+        let answer = run.advance(1, store);
+        let work = answer.unwrap_or(NO_WORK);
+        print!(to;
+            " continue {} labels {}",
+            outcome_number(answer),
+            work.labels
+        )?;
+        let after_run = run_digest(&run);
+        print!(to;
+            " blocks {} run {} {}",
+            work.blocks,
+            Hex(&after_run),
+            IsSame(before_run == after_run)
+        )?;
+        let after = hash(store);
+        print!(to; " store {} {}", Hex(&after), IsSame(before == after))
+    }
+
+    // Both, if there is room for the store.
+    fn line(self, to: Stdout) -> io::Result<()> {
+        let mut space = dirty_store();
+        let Some(store) = space.get_mut(..self.store) else {
+            return Ok(());
+        };
+        print!(to;
+            "edition {} n {} m {}",
+            self.edition, self.depth, self.memory
+        )?;
+        print!(to; " made {} store {}", self.made, self.store)?;
+        self.starts(to, store)?;
+        self.continues(to, store)?;
+        println!(to; "")
+    }
+}
+
+fn edges(to: Stdout) -> io::Result<()> {
+    let edition = 2;
+    for (depth, memory, made, store) in [
+        (0, 0, 0, 32),
+        (1, 0, 0, 32),
+        (40, 0, 0, 32),
+        (41, 0, 0, 32),
+        (u64::MAX, 0, 0, 32),
+        (3, 3, 0, 480),
+        (3, 4, 0, 992),
+        (3, 1, 0, 96),
+        (3, 1, 0, 95),
+        (3, 1, 14, 96),
+        (3, 1, 15, 96),
+        (3, 1, 15, 95),
+        (3, 1, 16, 96),
+        (3, 1, 16, 95),
+        (3, 1, u64::MAX, 96),
+        (41, 42, u64::MAX, 0),
+    ] {
+        let edge = Edge {
+            edition,
+            depth,
+            memory,
+            made,
+            store,
+        };
+        edge.line(to)?;
+    }
+    Ok(())
 }
 
 // The edges of the memory level's limit.
-fn level_edges(to: Stdout) {
-    let mut i: usize = 0;
-    while i < LEVEL_EDGES {
+fn level_edges(to: Stdout) -> io::Result<()> {
+    for i in 0..LEVEL_EDGES {
         let at = level_edge(i);
-        edge_at(to, 2, at.depth, at.memory, 0, at.store);
-        i += 1;
+        let edge = Edge {
+            edition: 2,
+            depth: at.depth,
+            memory: at.memory,
+            made: 0,
+            store: at.store,
+        };
+        edge.line(to)?;
     }
+    Ok(())
 }
 
-// Editions that exist or not, with other numbers that are right, with a store that is short, and with more labels made than there are.
-fn edition_edges(to: Stdout, edition: u64) {
-    edge_at(to, edition, 3, 1, 14, 96);
-    edge_at(to, edition, 3, 1, 14, 95);
-    edge_at(to, edition, 3, 1, 16, 95);
+// Each edition with other numbers that are right, with a store that is short, and with more labels made than there are.
+fn editions(to: Stdout) -> io::Result<()> {
+    for edition in EDITIONS {
+        for (made, store) in [(14, 96), (14, 95), (16, 95)] {
+            let edge = Edge {
+                edition,
+                depth: 3,
+                memory: 1,
+                made,
+                store,
+            };
+            edge.line(to)?;
+        }
+    }
+    Ok(())
 }
 
-fn editions(to: Stdout) {
-    edition_edges(to, 0);
-    edition_edges(to, 1);
-    edition_edges(to, 2);
-    edition_edges(to, 3);
-    edition_edges(to, 4294967298);
-    edition_edges(to, 18446744073709551615);
-}
-
-pub fn run_edges(to: Stdout) {
-    edge_at(to, 2, 0, 0, 0, 32);
-    edge_at(to, 2, 1, 0, 0, 32);
-    edge_at(to, 2, 40, 0, 0, 32);
-    edge_at(to, 2, 41, 0, 0, 32);
-    edge_at(to, 2, 18446744073709551615, 0, 0, 32);
-    edge_at(to, 2, 3, 3, 0, 480);
-    edge_at(to, 2, 3, 4, 0, 992);
-    edge_at(to, 2, 3, 1, 0, 96);
-    edge_at(to, 2, 3, 1, 0, 95);
-    edge_at(to, 2, 3, 1, 14, 96);
-    edge_at(to, 2, 3, 1, 15, 96);
-    edge_at(to, 2, 3, 1, 15, 95);
-    edge_at(to, 2, 3, 1, 16, 96);
-    edge_at(to, 2, 3, 1, 16, 95);
-    edge_at(to, 2, 3, 1, 18446744073709551615, 96);
-    edge_at(to, 2, 41, 42, 18446744073709551615, 0);
-    level_edges(to);
-    editions(to);
+pub fn run_edges(to: Stdout) -> io::Result<()> {
+    edges(to)?;
+    level_edges(to)?;
+    editions(to)
 }

@@ -1,71 +1,47 @@
 // Runs of both editions to their end at several budgets and memory levels. The stored output has the roots and store digests of the
 // shared vectors, and of an independent model.
-use base::{NEW_EDITION, wide};
-use run::{Run, new_run};
+use base::NEW_EDITION;
+use run::Run;
+use std::io;
 use std::io::Stdout;
-use vector_helpers::{hash, named, named_digest, run_to_end};
+use vector_helpers::{Hex, Stamping, hash, run_to_end};
 
 // Room for memory level 14 and a byte more, which no run may touch.
 fn dirty_store() -> [u8; 1048545] {
     [90u8; 1048545]
 }
 
-// The first bytes of the held labels, and the digest of all places.
-fn first_bytes(to: Stdout, held: &[u8], count: usize) {
-    if count <= held.len() {
-        vector_helpers::hex(to, &held[..count]);
+// A new run: of edition 2 as a start gives it; of edition 1, which no call starts, by its fields.
+fn begun(of: Stamping, store: &[u8]) -> Run {
+    if of.edition == NEW_EDITION {
+        Run::start(of.statement, of.depth, of.memory, store).unwrap_or(of.run())
+    } else {
+        of.run()
     }
-    named_digest(to, b" held ", held);
 }
 
 // The root, the digest of the held labels, of the store, and the byte behind the store.
-fn line(to: Stdout, run: Run, store: &[u8]) {
-    let held = run.held;
-    named(to, b" made ", run.made);
-    vector_helpers::text(to, b" root ");
-    first_bytes(to, &held, 32);
-    named_digest(to, b" store ", store);
+fn line(to: Stdout, run: &Run, store: &[u8], behind: u8) -> io::Result<()> {
+    let root = base::label_at(&run.held, 0);
+    print!(to;
+        " made {} root {} held {}",
+        run.made,
+        Hex(&root),
+        Hex(&hash(&run.held))
+    )?;
+    println!(to; " store {} behind {behind}", Hex(&hash(store)))
 }
 
-// A new run: of edition 2 as a start gives it; of edition 1, which no call starts, by its fields.
-fn begun(edition: u64, statement: [u8; 32], depth: u64, memory: u64, store: &[u8]) -> Run {
-    if edition == NEW_EDITION {
-        let started = Run::start(statement, depth, memory, store);
-        return started.run;
-    }
-    new_run(edition, statement, depth, memory)
-}
-
-fn to_end(
-    to: Stdout,
-    edition: u64,
-    statement: [u8; 32],
-    depth: u64,
-    memory: u64,
-    budget: u64,
-    size: usize,
-) {
-    if 1048544 < size {
-        return;
-    }
+// A run to its end, whose store is so long.
+fn to_end(to: Stdout, of: Stamping, budget: u64, size: usize) -> io::Result<()> {
     let mut space = dirty_store();
-    named(to, b"budget ", budget);
-    let run = begun(edition, statement, depth, memory, &space);
-    let end = run_to_end(run, 131071, budget, &mut space);
-    line(to, end, &space[..size]);
-    named(to, b" behind ", wide(space[size]));
-    vector_helpers::end(to);
-}
-
-fn vector(to: Stdout, edition: u64, report: &[u8], depth: u64, memory: u64, size: usize) {
-    let statement = hash(report);
-    named(to, b"edition ", edition);
-    named(to, b" depth ", depth);
-    named(to, b" memory ", memory);
-    vector_helpers::end(to);
-    to_end(to, edition, statement, depth, memory, 1000000, size);
-    to_end(to, edition, statement, depth, memory, 1000, size);
-    to_end(to, edition, statement, depth, memory, 1, size);
+    let mut run = begun(of, &space);
+    run_to_end(&mut run, 131071, budget, &mut space);
+    print!(to; "budget {budget}")?;
+    match space.get(size) {
+        Some(behind) => line(to, &run, &space[..size], *behind),
+        None => Ok(()),
+    }
 }
 
 // The store's size at each memory level that there is room for.
@@ -90,76 +66,96 @@ fn store_size(memory: u64) -> usize {
     }
 }
 
-fn largest(depth: u64) -> u64 {
-    if depth < 14 { depth } else { 14 }
-}
-
-// At the vector's own memory level, at the smallest and at the largest.
-fn three_levels(to: Stdout, edition: u64, report: &[u8], depth: u64, memory: u64) {
-    vector(to, edition, report, depth, memory, store_size(memory));
-    vector(to, edition, report, depth, 0, store_size(0));
-    let most = largest(depth);
-    vector(to, edition, report, depth, most, store_size(most));
+// A report at a depth: at the vector's own memory level, at the smallest and at the largest that there is room for.
+fn three_levels(to: Stdout, edition: u64, report: &[u8], depth: u64, own: u64) -> io::Result<()> {
+    let statement = hash(report);
+    for memory in [own, 0, depth.min(14)] {
+        println!(to; "edition {edition} depth {depth} memory {memory}")?;
+        for budget in [1000000, 1000, 1] {
+            let of = Stamping {
+                edition,
+                statement,
+                depth,
+                memory,
+            };
+            to_end(to, of, budget, store_size(memory))?;
+        }
+    }
+    Ok(())
 }
 
 // The report is `hull` and the depth, at most 19.
-fn hull(to: Stdout, edition: u64, depth: u64, memory: u64) {
-    let last = (48 + depth % 10) as u8;
+fn hull(to: Stdout, edition: u64, depth: u64, memory: u64) -> io::Result<()> {
+    let last = b'0' + (depth % 10) as u8;
     if depth < 10 {
-        return three_levels(to, edition, &[104, 117, 108, 108, 32, last], depth, memory);
+        three_levels(
+            to,
+            edition,
+            &[b'h', b'u', b'l', b'l', b' ', last],
+            depth,
+            memory,
+        )
+    } else {
+        three_levels(
+            to,
+            edition,
+            &[b'h', b'u', b'l', b'l', b' ', b'1', last],
+            depth,
+            memory,
+        )
     }
-    three_levels(
+}
+
+// Two reports at each depth, each at its memory level: the empty one, and `hull` and the depth.
+fn edition_runs(to: Stdout, edition: u64, levels: &[(u64, u64, u64)]) -> io::Result<()> {
+    for (depth, empty, named) in levels {
+        three_levels(to, edition, b"", *depth, *empty)?;
+        hull(to, edition, *depth, *named)?;
+    }
+    Ok(())
+}
+
+pub fn runs(to: Stdout) -> io::Result<()> {
+    edition_runs(
         to,
-        edition,
-        &[104, 117, 108, 108, 32, 49, last],
-        depth,
-        memory,
+        1,
+        &[
+            (1, 0, 0),
+            (2, 1, 0),
+            (3, 3, 3),
+            (4, 3, 3),
+            (5, 1, 0),
+            (6, 3, 0),
+            (7, 6, 6),
+            (8, 0, 7),
+            (9, 4, 3),
+            (10, 9, 1),
+            (11, 5, 0),
+            (12, 0, 0),
+            (13, 10, 8),
+            (14, 0, 14),
+            (15, 12, 6),
+            (16, 13, 0),
+        ],
+    )?;
+    edition_runs(
+        to,
+        2,
+        &[
+            (1, 1, 1),
+            (2, 2, 0),
+            (3, 0, 3),
+            (4, 2, 3),
+            (5, 3, 5),
+            (6, 1, 0),
+            (7, 7, 5),
+            (8, 7, 8),
+            (9, 5, 5),
+            (10, 5, 8),
+            (11, 1, 3),
+            (12, 0, 5),
+            (13, 10, 8),
+            (14, 2, 11),
+        ],
     )
-}
-
-// Both reports at a depth, each at its memory level: the empty one, and `hull` and the depth.
-fn both(to: Stdout, edition: u64, depth: u64, empty: u64, named: u64) {
-    three_levels(to, edition, b"", depth, empty);
-    hull(to, edition, depth, named);
-}
-
-fn edition_1(to: Stdout) {
-    both(to, 1, 1, 0, 0);
-    both(to, 1, 2, 1, 0);
-    both(to, 1, 3, 3, 3);
-    both(to, 1, 4, 3, 3);
-    both(to, 1, 5, 1, 0);
-    both(to, 1, 6, 3, 0);
-    both(to, 1, 7, 6, 6);
-    both(to, 1, 8, 0, 7);
-    both(to, 1, 9, 4, 3);
-    both(to, 1, 10, 9, 1);
-    both(to, 1, 11, 5, 0);
-    both(to, 1, 12, 0, 0);
-    both(to, 1, 13, 10, 8);
-    both(to, 1, 14, 0, 14);
-    both(to, 1, 15, 12, 6);
-    both(to, 1, 16, 13, 0);
-}
-
-fn edition_2(to: Stdout) {
-    both(to, 2, 1, 1, 1);
-    both(to, 2, 2, 2, 0);
-    both(to, 2, 3, 0, 3);
-    both(to, 2, 4, 2, 3);
-    both(to, 2, 5, 3, 5);
-    both(to, 2, 6, 1, 0);
-    both(to, 2, 7, 7, 5);
-    both(to, 2, 8, 7, 8);
-    both(to, 2, 9, 5, 5);
-    both(to, 2, 10, 5, 8);
-    both(to, 2, 11, 1, 3);
-    both(to, 2, 12, 0, 5);
-    both(to, 2, 13, 10, 8);
-    both(to, 2, 14, 2, 11);
-}
-
-pub fn runs(to: Stdout) {
-    edition_1(to);
-    edition_2(to);
 }

@@ -1,37 +1,8 @@
 -- Texts read one byte, one blank or one pair of digits further.
-use Rattle.std.proofs.Common.{◌≡◌, ℕ, zero, suc, ◌+◌, ◌-◌, ◌*◌, ◌%◌, ◌<◌, ◌≤◌, List, [], ◌∷◌, ◌++◌, length, get_or, drop, set, sym, refl, ap, ◌∙◌, add-zero, zero-add, add-one, arith, length-append, drop_of_length-le, drop-cons, eq-eqb, ne_eqb}
+use Rattle.std.proofs.Common.{◌≡◌, ℕ, zero, suc, ◌+◌, ◌*◌, ◌<◌, List, [], ◌∷◌, ◌++◌, length, get_or, drop, set, refl, ◌∙◌, zero-add, add-one, length-append, drop-cons}
 use lib.Seq.{set_at, append_snoc}
 use Rattle.base.specs.Bytes.{written}
-use Rattle.vector_helpers.specs.Text.{before_mark, end_from, field_start, digit_value, spelled, decimal_from}
-
-module _ (text : List ℕ) (i mark : ℕ) where
-  pub mark-here : i < length text → get_or text i 0 ≡ mark → end_from text i mark ≡ i
-  unfolding end_from before_mark
-  mark-here h e = rw (drop-cons text i 0 h, eq-eqb (get_or text i 0) mark e) (add-zero i)
-
-  pub mark-later : i < length text → (get_or text i 0 ≡ mark → ⊥) → end_from text i mark ≡ end_from text (i + 1) mark
-  unfolding end_from before_mark
-  mark-later h e = rw (drop-cons text i 0 h, ne_eqb (get_or text i 0) mark e, add-one i) (omega arith)
-
-  pub mark-nowhere : length text ≤ i → end_from text i mark ≡ i
-  unfolding end_from before_mark
-  mark-nowhere h = rw (drop_of_length-le text h) (add-zero i)
-
-module _ (line : List ℕ) (at left end : ℕ) (some : 0 < left) (e : end ≡ end_from line at 32) where
-  one_less : suc (left - 1) ≡ left
-  one_less = omega arith
-
-  pub field-none : end ≡ length line → field_start line at left ≡ end
-  unfolding field_start
-  field-none h = rw (← one_less, ← e, eq-eqb end (length line) h)
-
-  pub field-later : (end ≡ length line → ⊥) → field_start line at left ≡ field_start line (end + 1) (left - 1)
-  unfolding field_start
-  field-later h = ap (λ (k : ℕ). field_start line at k) (sym one_less) ∙ rw (← e, ne_eqb end (length line) h)
-
-pub field-here : (line : List ℕ) (at left : ℕ) → left ≤ 0 → field_start line at left ≡ at
-unfolding field_start
-field-here line at left h = let e : left ≡ 0 = omega arith in rw e
+use Rattle.vector_helpers.specs.Text.{digit_value, spelled}
 
 pub length-spelled : (text : List ℕ) (k : ℕ) → length (spelled text k) ≡ k
 unfolding spelled
@@ -52,12 +23,3 @@ spelled-more text out₀ out i high low h e f g =
     let m : length (spelled text i ++ (16 * high + low) ∷ []) ≡ suc i = length-append (spelled text i) ((16 * high + low) ∷ []) ∙ rw n (add-one i) in
     rw (e, add-one i, ← f, ← g, zero-add, zero-add, n, m, drop-cons out₀ i 0 h)
     (set_at (spelled text i) (get_or out₀ i 0) (drop (suc i) out₀) (16 * high + low) i n ∙ simp append_snoc)
-
-pub decimal-more : (text : List ℕ) (i value next x : ℕ) → i < length text → x ≡ get_or text i 0
-    → next ≡ 10 * (value % 100000000000000000) + x % 16 → decimal_from value (drop i text) ≡ decimal_from next (drop (i + 1) text)
-unfolding decimal_from
-decimal-more text i value next x h e f = rw (drop-cons text i 0 h, add-one i, f, e)
-
-pub decimal-all : (text : List ℕ) (i value : ℕ) → length text ≤ i → decimal_from value (drop i text) ≡ value
-unfolding decimal_from
-decimal-all text i value h = rw (drop_of_length-le text h)

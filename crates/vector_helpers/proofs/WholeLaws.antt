@@ -1,5 +1,6 @@
 -- A run and a file by a start and one call; leaves written, and places hashed, one after another.
-use Rattle.std.proofs.Common.{◌≡◌, ℕ, ◌+◌, ◌<◌, ◌≤◌, List, [], map, length, get_or, take, drop, set, sym, refl, ap, ◌∙◌, ap₂, add-one, arith, drop_of_length-le, take_all, drop-cons, take-suc-set}
+use Rattle.std.proofs.Common.{◌≡◌, false, ℕ, ◌+◌, ◌<◌, ◌≤◌, List, [], map, length, get_or, take, drop, set, sym, refl, ap, ◌∙◌, ap₂, add-one, arith, drop_of_length-le, take_all, drop-cons, take-suc-set}
+use Rattle.base.specs.Row.{is_done}
 use Rattle.base.specs.Limits.{max_challenges}
 use Rattle.base.specs.Bytes.{big_endian}
 use Rattle.sha256.specs.declared.Hash.{Hash}
@@ -9,7 +10,11 @@ use Rattle.run.specs.Steps as runs
 use Rattle.file_head.specs.Challenge.{challenged}
 use Rattle.writing.specs.declared.Writing.{Writing}
 use Rattle.writing.specs.Possible.{written_of}
+use Rattle.machine.proofs.StepLaws.{advanced-refused}
+use Rattle.writing.specs.Rows.{write_row, rewrite_row}
 use Rattle.writing.specs.Steps as writings
+use Rattle.writing.specs.Steps.{Written, no_writing, writing_machine}
+use Rattle.writing.proofs.RowLaws.{start-refused}
 use Rattle.vector_helpers.specs.Whole.{whole_run, whole_file, leaves_to}
 
 pub run-whole : (edition : ℕ) (statement : List ℕ) (n m : ℕ) (store after : List ℕ) (run : Run) → run ≡ runs.new_run edition statement n m
@@ -25,6 +30,18 @@ module _ (edition : ℕ) (statement root : List ℕ) (n m t : ℕ) (store file b
   unfolding whole_file
   file-whole e f g =
       g ∙ ap₂ (λ (w : Writing) (x : List ℕ). (writings.advanced store (written_of w x) 18446744073709551615).file) e f
+
+-- where a writing is not begun nothing is written, and its call is refused
+module _ (edition : ℕ) (statement root : List ℕ) (n m t : ℕ) (store file : List ℕ) where
+  pub file-refused :
+      is_done (write_row edition n m t (length store) (length file)) ≡ false
+      → (writings.started edition statement root n m t store file).file ≡ whole_file edition statement root n m t store file
+  unfolding whole_file writing_machine rewrite_row
+  file-refused e =
+      let begun = start-refused edition statement root n m t store file e in
+      let idle = advanced-refused (writing_machine store) (written_of no_writing file) 18446744073709551615 refl in
+      sym begun.1 ∙ sym (ap (λ (w : Written). w.file) idle)
+      ∙ ap₂ (λ (w : Writing) (x : List ℕ). (writings.advanced store (written_of w x) 18446744073709551615).file) begun.0 begun.1
 
 pub leaves_none : (edition n : ℕ) (statement root : List ℕ) → [] ≡ leaves_to edition n statement root 0
 unfolding leaves_to

@@ -1,8 +1,14 @@
 -- What the vector programs make of an edition and a statement: the store of a finished run, the file written whole, its leaves.
-use Rattle.std.specs.Prelude.{ℕ, zero, suc, ◌+◌, List, [], ◌∷◌, ◌++◌}
+use Rattle.std.specs.Prelude.{ℕ, zero, suc, ◌+◌, List, [], ◌∷◌, ◌++◌, map}
+use Rattle.base.specs.Bytes.{big_endian}
+use Rattle.run.specs.declared.Run.{Run}
 use Rattle.run.specs.Steps as runs
 use Rattle.file_head.specs.Challenge.{challenged}
 use Rattle.writing.specs.Steps as writings
+
+-- the parts of a run as they are hashed: statement, edition, depth, memory level, labels made, and places
+abbrev pub run_parts : Run → List (List ℕ)
+run_parts r = r.statement ∷ map (big_endian 8) (r.edition ∷ r.depth ∷ r.memory ∷ r.made ∷ []) ++ r.held ∷ []
 
 -- the store after a new run is called with the greatest budget
 unfoldable pub whole_run : ℕ → List ℕ → ℕ → ℕ → List ℕ → List ℕ

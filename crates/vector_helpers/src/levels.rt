@@ -2,12 +2,15 @@
 ghost use Rattle.std.specs.Prelude.{◌≡◌, ◌/◌, ◌%◌, [], ◌∷◌, slice_index};
 
 // A depth, a memory level and a store's length.
-#[derive(Clone, Copy)]
+#[derive(Clone, Copy, Debug, PartialEq, Eq)]
 pub struct LevelEdge {
     pub depth: u64,
     pub memory: u64,
     pub store: usize,
 }
+
+// Editions that exist or not.
+pub const EDITIONS: [u64; 6] = [0, 1, 2, 3, 4294967298, u64::MAX];
 
 pub const LEVEL_EDGES: usize = 60;
 

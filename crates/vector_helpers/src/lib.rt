@@ -2,15 +2,15 @@
 #![tactic(auto)]
 
 mod carried; // carried.rt: runs and openings
-mod filled; // filled.rt: files, and the leaves of challenges
+mod filled; // filled.rt: the leaves of challenges, and digests of chains
 mod levels; // levels.rt: the edges of the memory level's limit
-mod show; // show.rt: text, numbers and bytes printed
+mod show; // show.rt: bytes and sameness printed
+mod stamping; // stamping.rt: what is stamped, and its store and file
 mod vectors; // vectors.rt: the fields of a line of vectors
 
-pub use carried::{
-    digest_column, finished, flag_digest, hash, named_digest, open_to_end, run_to_end,
-};
-pub use filled::{challenged, most, places_digest, write_file};
-pub use levels::{LEVEL_EDGES, LevelEdge, level_edge};
-pub use show::{column, end, flag, hex, named, named_hex, number, text};
-pub use vectors::{decimal, decode, digest, field, is_comment, line_end};
+pub use carried::{NO_WORK, digest_of, hash, hash_run, open_to_end, run_to_end};
+pub use filled::{challenged, places_digest};
+pub use levels::{EDITIONS, LEVEL_EDGES, LevelEdge, level_edge};
+pub use show::{Hex, IsSame};
+pub use stamping::Stamping;
+pub use vectors::{decoded, digest, each_vector, field, is_comment, number};

@@ -1,114 +1,78 @@
 // The shared vectors as text: lines of fields, which are parted by blanks, in hexadecimal or decimal. For the programs of the gate.
-ghost use Rattle.std.specs.Prelude.{◌≡◌, ◌/◌, ◌<◌, ◌≤◌, min, length};
+ghost use Rattle.std.specs.Prelude.{◌≡◌, ◌/◌, ◌<◌, min, length, IfOk};
 ghost use Rattle.base.specs.Bytes.{zeros, written};
-ghost use Rattle.vector_helpers.specs.Text.{end_from, is_comment, field_start, field_of, digit_value, spelled, decimal_from};
+ghost use Rattle.vector_helpers.specs.Text.{is_comment, field_of, digit_value, spelled};
 
-use base::wide;
+use std::alloc::{AllocError, Global};
+use std::io;
 
 // The value of a hexadecimal digit.
-fn digit(byte: u8) -> u64
-    ensures { (result ≡ digit_value byte) × (result < 16) }
+fn digit(byte: u8) -> u8
+    ensures value { result ≡ digit_value byte }
+    ensures small { result < 16 }
 {
-    if byte < 97 {
-        return wide(byte) % 16;
+    if byte < b'a' {
+        byte % 16
+    } else {
+        (byte - 87) % 16
     }
-    (wide(byte) - 87) % 16
 }
 
-// Where a mark stands, from a place on; the text's end if it does not.
-fn end_of(text: &[u8], at: usize, mark: u8) -> usize
-    requires { at ≤ length text.now }
-    ensures { (result ≡ end_from text.now at mark) × (at ≤ result) × (result ≤ length text.now) }
+// The bytes that a text of hexadecimal digits spells, over the front of `out`, as far as they go. A text that is `-` spells none.
+fn decode(text: &[u8], out: &mut [u8])
+    ensures { out.new ≡ written out.old 0 (spelled text.now (min (length text.now / 2) (length out.old))) }
 {
-    let mut end = at;
-    while end < text.len() {
-        if text[end] == mark {
-            return end;
-        }
-        end += 1;
+    let size = out.len().min(text.len() / 2);
+    for i in 0..size {
+        out[i] = 16 * digit(text[2 * i]) + digit(text[2 * i + 1]);
     }
-    end
 }
 
-// Where the line ends that begins at a place.
-pub fn line_end(text: &[u8], at: usize) -> usize
-    requires { at ≤ length text.now }
-    ensures { (result ≡ end_from text.now at 10) × (at ≤ result) × (result ≤ length text.now) }
+// The bytes that a text of hexadecimal digits spells. A text that is `-` spells none.
+pub fn decoded(alloc: Global, text: &str) -> Result<Vec<u8>, AllocError>
+    ensures { IfOk result (λ bytes. bytes.items ≡ spelled text.now (length text.now / 2)) }
 {
-    end_of(text, at, 10)
-}
-
-// Whether a line has no vector.
-pub fn is_comment(line: &[u8]) -> bool
-    ensures { result ≡ is_comment line.now }
-{
-    if line.len() == 0 {
-        return true;
-    }
-    line[0] == 35
-}
-
-// Where a field begins, from 0, after so many blanks; the line's end if there is none.
-fn field_start(line: &[u8], number: u64) -> usize
-    ensures { (result ≡ field_start line.now 0 number) × (result ≤ length line.now) }
-{
-    let mut at: usize = 0;
-    let mut left = number;
-    while 0 < left {
-        let end = end_of(line, at, 32);
-        if end == line.len() {
-            return end;
-        }
-        at = end + 1;
-        left -= 1;
-    }
-    at
-}
-
-// A field of a line, from 0; empty if there is none.
-pub fn field(line: &[u8], number: u64) -> &[u8]
-    ensures { result.now ≡ field_of line.now number }
-{
-    let start = field_start(line, number);
-    let end = end_of(line, start, 32);
-    &line[start..end]
-}
-
-// The bytes that a text of hexadecimal digits spells, over the front of `out`; how many they are. A text that is `-` spells none.
-pub fn decode(text: &[u8], out: &mut [u8]) -> usize
-    ensures value { (result ≡ min (length text.now / 2) (length out.old)) × (result ≤ length out.old) }
-    ensures out_after { out.new ≡ written out.old 0 (spelled text.now result) }
-    ensures out_len_unchanged { length out.new ≡ length out.old }
-{
-    let mut i: usize = 0;
-    while i < out.len() {
-        if text.len() / 2 <= i {
-            return i;
-        }
-        out[i] = (16 * digit(text[2 * i]) + digit(text[2 * i + 1])) as u8;
-        i += 1;
-    }
-    i
+    let mut bytes = vec![in alloc; 0u8; text.len() / 2]?;
+    decode(text.as_bytes(), &mut bytes);
+    Ok(bytes)
 }
 
 // A field of 32 bytes; zeros where it spells fewer.
-pub fn digest(text: &[u8]) -> [u8; 32]
+pub fn digest(text: &str) -> [u8; 32]
     ensures { result ≡ written (zeros 32) 0 (spelled text.now (min (length text.now / 2) 32)) }
 {
     let mut bytes = [0u8; 32];
-    decode(text, &mut bytes);
+    decode(text.as_bytes(), &mut bytes);
     bytes
 }
 
-// A field in decimal, of at most 18 digits.
-pub fn decimal(text: &[u8]) -> u64
-    ensures { result ≡ decimal_from 0 text.now }
+// A field of a line, from 0; empty if there is none.
+pub fn field(line: &str, number: usize) -> &str
+    ensures { result.now ≡ field_of line.now number }
 {
-    let mut value: u64 = 0;
-    let mut i: usize = 0;
-    while i < text.len() {
-        value = 10 * (value % 100000000000000000) + wide(text[i]) % 16;
-        i += 1;
+    line.split(' ').nth(number).unwrap_or("")
+}
+
+// A field in decimal; 0 if there is none.
+pub fn number(line: &str, i: usize) -> u64 {
+    field(line, i).parse().unwrap_or(0)
+}
+
+// Whether a line has no vector.
+pub fn is_comment(line: &str) -> bool
+    ensures { result ≡ is_comment line.now }
+{
+    line.is_empty() || line.starts_with('#')
+}
+
+// Does something with every line that has a vector.
+pub fn each_vector<F: FnMut(&str) -> io::Result<()>>(text: &str, mut visit: F) -> io::Result<()>
+    requires { F.IsAlwaysCallable visit }
+{
+    for line in text.lines() {
+        if !is_comment(line) {
+            visit(line)?;
+        }
     }
-    value
+    Ok(())
 }

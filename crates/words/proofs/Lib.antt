@@ -1,4 +1,4 @@
 pub mod WordLaws
-pub mod ValueLaws
 pub mod PartsLaws
+pub mod ValueLaws
 pub mod OrderLaws

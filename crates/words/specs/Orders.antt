@@ -1,43 +1,55 @@
 -- What the words ask for, and the first thing that is wrong with them. The words are those of specs/Parts.antt.
-use Rattle.std.specs.Prelude.{ℕ, ◌+◌, min, Bool, List, [], ◌∷◌, ltb, eqb, length}
+use Rattle.std.specs.Prelude.{ℕ, ◌+◌, min, Bool, true, false, List, [], ◌∷◌, Option, Some, None, Result, Ok, Err, is_none, ltb, eqb, length}
 use Rattle.base.specs.Choice.{pick, both}
 use Rattle.base.specs.Limits.{max_depth, max_memory, max_challenges}
-use Rattle.base.specs.Row.{outside, memory_over, either}
+use Rattle.base.specs.Row.{outside, either}
 use Rattle.words.specs.Parting.{word_at}
-use Rattle.words.specs.Parts.{seal_kind, verify_kind, chain_kind, info_kind, version_kind, asks_help, parts_of, report_in, proof_in}
+use Rattle.words.specs.Parts.{asks_help, parts_of, report_in, proof_in}
 use Rattle.words.specs.Values.{value_of}
+use Rattle.words.specs.declared.Kind.{Kind}
+use Rattle.words.specs.declared.Kind.TheVariants as kind
 use Rattle.words.specs.declared.Parts.{Parts}
 use Rattle.words.specs.declared.Problem.{Problem}
 use Rattle.words.specs.declared.Problem.TheVariants.{NoWord, UnknownWord, Missing, Surplus, NoPath, LongPath, Depth, Challenges, Memory}
 use Rattle.words.specs.declared.Problem.TheVariants.{Seconds}
-use Rattle.words.specs.declared.Words.{Words}
-use Rattle.words.specs.declared.Words.TheVariants.{Right, Wrong}
+use Rattle.words.specs.declared.Wanted.{Wanted}
 use Rattle.words.specs.declared.Order.{Order}
-use Rattle.words.specs.declared.Order.TheVariants.{Seal, Verify, VerifyAs, VerifyAtLeast, Chain, Info, Help, Version, Refuse}
+use Rattle.words.specs.declared.Order.TheVariants.{Seal, Verify, VerifyAs, VerifyAtLeast, Chain, Info, Help, Version}
 
 -- the first condition of a row that holds gives its problem
-abbrev pub first_of : List (Bool × Problem) → Words
-first_of [] = Right
-first_of (check ∷ row) = pick check.0 (Wrong check.1) (first_of row)
+abbrev pub first_of : List (Bool × Problem) → Result Unit Problem
+first_of [] = Ok tt
+first_of (check ∷ row) = pick check.0 (Err check.1) (first_of row)
+
+-- what comes next, or the problem that was found
+abbrev pub then : {A B : Type 0} → Result A Problem → (A → Result B Problem) → Result B Problem
+then (Ok x) next = next x
+then (Err problem) next = Err problem
 
 -- ---- how many operands: `seal` has 3 to 5, `verify` 2 or 4, and 2 with `--at-least`, `chain` 2, `info` 1
-unfoldable pub fewest : ℕ → ℕ
-fewest kind = pick (eqb kind seal_kind) 3 (pick (eqb kind info_kind) 1 2)
+abbrev pub fewest : Option Kind → ℕ
+fewest (Some kind.Seal) = 3
+fewest (Some kind.Info) = 1
+fewest kind = 2
 
-unfoldable pub most : ℕ → ℕ → ℕ
-most kind option =
-    pick (eqb kind seal_kind) 5
-    (pick (eqb kind info_kind) 1
-    (pick (both (eqb kind verify_kind) (eqb option 0)) 4 2))
+abbrev pub most : Option Kind → Option ℕ → ℕ
+most (Some kind.Seal) option = 5
+most (Some kind.Info) option = 1
+most (Some kind.Verify) None = 4
+most kind option = 2
 
-unfoldable pub word_row : Parts → Words
+abbrev pub is_verify : Option Kind → Bool
+is_verify (Some kind.Verify) = true
+is_verify kind = false
+
+unfoldable pub word_row : Parts → Result Unit Problem
 word_row p =
     first_of
     ((eqb p.all 0, NoWord)
-    ∷ (eqb p.kind 0, UnknownWord)
+    ∷ (is_none p.kind, UnknownWord)
     ∷ (ltb p.count (fewest p.kind), Missing)
     ∷ (ltb (most p.kind p.option) p.count, Surplus)
-    ∷ (both (eqb p.kind verify_kind) (eqb p.count 3), Missing)
+    ∷ (both (is_verify p.kind) (eqb p.count 3), Missing)
     ∷ []
     )
 
@@ -45,85 +57,82 @@ word_row p =
 abbrev pub max_path : ℕ
 max_path = 4090
 
-unfoldable pub path_row : ℕ → ℕ → Words
+unfoldable pub path_row : ℕ → ℕ → Result Unit Problem
 path_row report proof =
     first_of
     ((either (eqb report 0) (eqb proof 0), NoPath) ∷ (either (ltb max_path report) (ltb max_path proof), LongPath) ∷ [])
 
 -- `info` has a PROOF alone
-unfoldable pub paths_row : ℕ → ℕ → ℕ → Words
-paths_row kind report proof = pick (eqb kind info_kind) (path_row proof proof) (path_row report proof)
+abbrev pub paths_row : Option Kind → ℕ → ℕ → Result Unit Problem
+paths_row (Some kind.Info) report proof = path_row proof proof
+paths_row kind report proof = path_row report proof
 
 -- ---- the numbers
-unfoldable pub seal_row : ℕ → ℕ → ℕ → Words
-seal_row n t m =
-    first_of
-    ((outside 1 max_depth n, Depth)
-    ∷ (outside 1 max_challenges t, Challenges)
-    ∷ (memory_over n m, Memory)
-    ∷ []
-    )
+-- a word's number, if it is from low to high
+abbrev pub within : ℕ → ℕ → Problem → Option ℕ → Result ℕ Problem
+within low high problem None = Err problem
+within low high problem (Some x) = pick (outside low high x) (Err problem) (Ok x)
+
+unfoldable pub number_in : ℕ → ℕ → Problem → ℕ → List ℕ → Result ℕ Problem
+number_in low high problem i line = within low high problem (value_of (word_at i line))
+
+-- ---- `seal`: 'challenges default to 150, the paper's figure, the memory level to the smaller of depth and 14', its limit (W-209);
+-- 60 seconds between checkpoints
+unfoldable pub challenges_in : List ℕ → Parts → Result ℕ Problem
+challenges_in line p = pick (ltb p.count 4) (Ok 150) (number_in 1 max_challenges Challenges (p.first + 3) line)
+
+unfoldable pub memory_in : List ℕ → Parts → ℕ → Result ℕ Problem
+memory_in line p n = pick (ltb p.count 5) (Ok (min n max_memory)) (number_in 0 (min n max_memory) Memory (p.first + 4) line)
 
 abbrev pub max_seconds : ℕ
 max_seconds = 3600
 
-unfoldable pub seconds_row : ℕ → Words
-seconds_row s = first_of ((ltb max_seconds s, Seconds) ∷ [])
+abbrev pub seconds_by : Option ℕ → List ℕ → Result ℕ Problem
+seconds_by None line = Ok 60
+seconds_by (Some at) line = number_in 0 max_seconds Seconds (at + 1) line
 
-unfoldable pub wanted_row : ℕ → ℕ → Words
-wanted_row n t = first_of ((outside 1 max_depth n, Depth) ∷ (outside 1 max_challenges t, Challenges) ∷ [])
+unfoldable pub seconds_in : List ℕ → Parts → Result ℕ Problem
+seconds_in line p = seconds_by p.option line
 
-abbrev pub order_if : Words → Order → Order
-order_if Right order = order
-order_if (Wrong problem) order = Refuse problem
-
--- ---- `seal`: 'challenges default to 150, the paper's figure, the memory level to the smaller of depth and 14', its limit (W-209);
--- 60 seconds between checkpoints
-unfoldable pub depth_in : List ℕ → Parts → ℕ
-depth_in line p = value_of (word_at (p.first + 2) line)
-
-unfoldable pub challenges_in : List ℕ → Parts → ℕ
-challenges_in line p = pick (ltb p.count 4) 150 (value_of (word_at (p.first + 3) line))
-
-unfoldable pub memory_in : List ℕ → Parts → ℕ → ℕ
-memory_in line p n = pick (ltb p.count 5) (min n max_memory) (value_of (word_at (p.first + 4) line))
-
-unfoldable pub seconds_in : List ℕ → Parts → ℕ
-seconds_in line p = pick (eqb p.option 0) 60 (value_of (word_at (p.option + 1) line))
-
-unfoldable pub timed : ℕ → ℕ → ℕ → ℕ → Order
-timed n t m s = order_if (seconds_row s) (Seal n t m s)
-
-unfoldable pub sealed : ℕ → ℕ → ℕ → ℕ → Order
-sealed n t m s = order_if (seal_row n t m) (timed n t m s)
-
-unfoldable pub seal_order : List ℕ → Parts → Order
+-- the problem of the first number that has one
+unfoldable pub seal_order : List ℕ → Parts → Result Order Problem
 seal_order line p =
-    sealed (depth_in line p) (challenges_in line p) (memory_in line p (depth_in line p)) (seconds_in line p)
+    then (number_in 1 max_depth Depth (p.first + 2) line)
+    (λ n. then (challenges_in line p)
+    (λ t. then (memory_in line p n)
+    (λ m. then (seconds_in line p)
+    (λ s. Ok (Seal (record { depth = n; challenges = t; memory = m; seconds = s }))))))
 
 -- ---- `verify`: 'depth and count wanted default to those of the head'; `--at-least` says the least of both
-unfoldable pub wanted : ℕ → ℕ → Order
-wanted n t = order_if (wanted_row n t) (VerifyAs n t)
+unfoldable pub wanted_at : ℕ → List ℕ → Result Wanted Problem
+wanted_at i line =
+    then (number_in 1 max_depth Depth i line)
+    (λ n. then (number_in 1 max_challenges Challenges (i + 1) line) (λ t. Ok (record { depth = n; challenges = t })))
 
-unfoldable pub wanted_least : ℕ → ℕ → Order
-wanted_least n t = order_if (wanted_row n t) (VerifyAtLeast n t)
+abbrev pub verify_by : Option ℕ → List ℕ → Parts → Result Order Problem
+verify_by None line p = pick (ltb p.count 3) (Ok Verify) (then (wanted_at (p.first + 2) line) (λ w. Ok (VerifyAs w)))
+verify_by (Some at) line p = then (wanted_at (at + 1) line) (λ w. Ok (VerifyAtLeast w))
 
-unfoldable pub verify_order : List ℕ → Parts → Order
-verify_order line p =
-    pick (eqb p.option 0)
-    (pick (ltb p.count 3) Verify (wanted (depth_in line p) (value_of (word_at (p.first + 3) line))))
-    (wanted_least (value_of (word_at (p.option + 1) line)) (value_of (word_at (p.option + 2) line)))
+unfoldable pub verify_order : List ℕ → Parts → Result Order Problem
+verify_order line p = verify_by p.option line p
 
-unfoldable pub asked : List ℕ → Parts → Order
-asked line p =
-    pick (eqb p.kind seal_kind) (seal_order line p)
-    (pick (eqb p.kind verify_kind) (verify_order line p)
-    (pick (eqb p.kind chain_kind) Chain Info))
+abbrev pub asked_by : Option Kind → List ℕ → Parts → Result Order Problem
+asked_by (Some kind.Seal) line p = seal_order line p
+asked_by (Some kind.Verify) line p = verify_order line p
+asked_by (Some kind.Chain) line p = Ok Chain
+asked_by kind line p = Ok Info
+
+unfoldable pub asked : List ℕ → Parts → Result Order Problem
+asked line p = asked_by p.kind line p
 
 -- all that the words say
-unfoldable pub order_of : List ℕ → Order
+abbrev pub is_version : Option Kind → Bool
+is_version (Some kind.Version) = true
+is_version kind = false
+
+unfoldable pub order_of : List ℕ → Result Order Problem
 order_of line =
     let p : Parts = parts_of line in
-    pick (asks_help line p.kind) Help
-    (pick (eqb p.kind version_kind) Version
-    (order_if (word_row p) (order_if (paths_row p.kind (length (report_in line)) (length (proof_in line))) (asked line p))))
+    pick (asks_help line p.kind) (Ok Help)
+    (pick (is_version p.kind) (Ok Version)
+    (then (word_row p) (λ _. then (paths_row p.kind (length (report_in line)) (length (proof_in line))) (λ _. asked line p))))

@@ -1,5 +1,5 @@
 -- The number that a word says.
-use Rattle.std.specs.Prelude.{ℕ, ◌-◌, ◌^◌, List, ltb, eqb, length, get_or}
+use Rattle.std.specs.Prelude.{ℕ, List, Option, Some, None, ltb, eqb, length, get_or}
 use mathlib.Core.Bool.{Bool, not}
 use Rattle.base.specs.Choice.{pick, both, every}
 use Rattle.decimal.specs.Numbers.{is_digit, numbers}
@@ -17,9 +17,5 @@ is_plain word = both (every is_digit word) (not (leading_zero word))
 unfoldable pub is_number : List ℕ → Bool
 is_number word = both (is_plain word) (both (all_fit mathlib.Core.Bool.false 0 word) (eqb (length (numbers word)) 1))
 
--- the value of a word that is no number: it is outside of every range that the program asks for
-abbrev pub no_number : ℕ
-no_number = 2 ^ 64 - 1
-
-unfoldable pub value_of : List ℕ → ℕ
-value_of word = pick (is_number word) (get_or (numbers word) 0 0) no_number
+unfoldable pub value_of : List ℕ → Option ℕ
+value_of word = pick (is_number word) (Some (get_or (numbers word) 0 0)) None

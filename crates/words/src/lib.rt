@@ -13,8 +13,19 @@ pub use orders::read_order;
 pub use parting::{join, word, word_count};
 pub use values::value;
 
+// What the first word asks for.
+#[derive(Clone, Copy, Debug, PartialEq, Eq)]
+pub enum Kind {
+    Seal,
+    Verify,
+    Chain,
+    Info,
+    Help,
+    Version,
+}
+
 // What is wrong with the words.
-#[derive(Clone, Copy)]
+#[derive(Clone, Copy, Debug, PartialEq, Eq)]
 pub enum Problem {
     NoWord,
     UnknownWord,
@@ -28,35 +39,42 @@ pub enum Problem {
     Seconds,
 }
 
-// The answer of a row of tests.
-#[derive(Clone, Copy)]
-pub enum Words {
-    Right,
-    Wrong(Problem),
-}
-
-// The parts of a line: the first word's kind, how many words there are, the place of the option or 0, the place of the first operand, and
-// how many operands there are.
-#[derive(Clone, Copy)]
+// The parts of a line: what the first word asks for, how many words there are, the place of the option, the place of the first operand,
+// and how many operands there are.
+#[derive(Clone, Copy, Debug, PartialEq, Eq)]
 pub struct Parts {
-    pub kind: u64,
-    pub all: u64,
-    pub option: u64,
-    pub first: u64,
-    pub count: u64,
+    pub kind: Option<Kind>,
+    pub all: usize,
+    pub option: Option<usize>,
+    pub first: usize,
+    pub count: usize,
 }
 
-// Seal with depth, challenges, memory level and the seconds between checkpoints; verify with what the head says, with depth and count wanted,
-// or with the least of both; chain; info; help; version.
-#[derive(Clone, Copy)]
+// What is to be sealed: depth, challenges, memory level, and the seconds between checkpoints.
+#[derive(Clone, Copy, Debug, PartialEq, Eq)]
+pub struct SealOrder {
+    pub depth: u64,
+    pub challenges: u64,
+    pub memory: u64,
+    pub seconds: u64,
+}
+
+// The depth and count that `verify` is to want.
+#[derive(Clone, Copy, Debug, PartialEq, Eq)]
+pub struct Wanted {
+    pub depth: u64,
+    pub challenges: u64,
+}
+
+// What is to be done; `verify` with what the head says, with depth and count wanted, or with the least of both.
+#[derive(Clone, Copy, Debug, PartialEq, Eq)]
 pub enum Order {
-    Seal(u64, u64, u64, u64),
+    Seal(SealOrder),
     Verify,
-    VerifyAs(u64, u64),
-    VerifyAtLeast(u64, u64),
+    VerifyAs(Wanted),
+    VerifyAtLeast(Wanted),
     Chain,
     Info,
     Help,
     Version,
-    Refuse(Problem),
 }

@@ -4,62 +4,39 @@ ghost use Rattle.base.specs.Choice.{every};
 ghost use Rattle.decimal.specs.Numbers.{is_digit};
 ghost use Rattle.words.specs.Values.{leading_zero, is_plain, value_of};
 
-fn is_digit(byte: u8) -> bool
-    ensures { result ≡ is_digit byte }
-{
-    if byte < 48 {
-        return false;
-    }
-    byte <= 57
-}
-
 fn all_digits(word: &[u8]) -> bool
     ensures { result ≡ every is_digit word.now }
 {
-    let mut i: usize = 0;
-    while i < word.len() {
-        if !is_digit(word[i]) {
-            return false;
-        }
-        i += 1;
-    }
-    true
+    word.iter().all(u8::is_ascii_digit)
 }
 
 // Whether a 0 stands before other bytes.
+#[tactic(auto, unfolding(crate::specs::Values::leading_zero))]
 fn leading_zero(word: &[u8]) -> bool
     ensures { result ≡ leading_zero word.now }
 {
-    if word.len() <= 1 {
-        return false;
-    }
-    word[0] == 48
+    word.len() > 1 && word[0] == b'0'
 }
 
+#[tactic(auto, unfolding(crate::specs::Values::is_plain))]
 fn is_plain(word: &[u8]) -> bool
     ensures { result ≡ is_plain word.now }
 {
-    if !all_digits(word) {
-        return false;
-    }
-    !leading_zero(word)
+    all_digits(word) && !leading_zero(word)
 }
 
-// The word's number, or 2^64 − 1 where it is none.
-pub fn value(word: &[u8]) -> u64
+// The word's number, if it is one of 64 bits.
+#[tactic(auto, unfolding(crate::specs::Values::value_of, crate::specs::Values::is_number))]
+pub fn value(word: &[u8]) -> Option<u64>
     ensures { result ≡ value_of word.now }
 {
-    if !is_plain(word) {
-        return 18446744073709551615;
-    }
-    if !decimal::is_readable(word) {
-        return 18446744073709551615;
+    if !is_plain(word) || !decimal::is_readable(word) {
+        return None;
     }
     let numbers = decimal::read_numbers(word);
-    let list = numbers.list;
-    let count = numbers.count;
-    if count != 1 {
-        return 18446744073709551615;
+    if numbers.count == 1 {
+        Some(numbers.list[0])
+    } else {
+        None
     }
-    list[0]
 }

@@ -8,15 +8,15 @@ use Rattle.base.specs.Bytes.{written}
 use Rattle.base.proofs.Parts.{part-size, part_length}
 use Rattle.tree.specs.Openings.{opening_size}
 use Rattle.opening.specs.declared.Opening.{Opening}
-use Rattle.opening.specs.Rows.{nodes_anew}
+use Rattle.opening.specs.Rows.{nodes_anew, open_row, reopen_row}
 use Rattle.opening.specs.Steps as openings
 use Rattle.opening.specs.Names.{open_of}
-use Rattle.file_head.specs.Challenge.{challenge_leaf, challenged}
+use Rattle.file_head.specs.Challenge.{challenge_leaf}
 use Rattle.file_head.specs.Layout.{head, head_size, opening_from, head_written}
 use Rattle.run_theory.specs.Openings.{Openable}
-use Rattle.run_theory.proofs.OpeningCalls.{started-fits, started_out-fits}
+use Rattle.run_theory.proofs.OpeningCalls.{open-fits, reopen-fits, started-fits, started_out-fits}
 use Rattle.file_head.proofs.Leaves.{challenge_leaf-small}
-use Rattle.file_head.proofs.RowLaws.{challenge-done, head_done}
+use Rattle.file_head.proofs.RowLaws.{head_done}
 use Rattle.writing.specs.declared.Writing.{Writing}
 use Rattle.writing.specs.Possible.{Room, Ready, writing_of, written_of, labelled, labelled_blocks}
 use Rattle.writing.specs.Steps.{Written, begun, followed, new_writing}
@@ -42,12 +42,8 @@ part-openable edition n m t i store file leaf room inside =
           );
     }
 
--- the challenge of an opening that can be written is not refused
+-- the leaf of an opening that can be written is one of the tree
 module _ (edition : ℕ) (statement root : List ℕ) (n m t i store file : ℕ) (room : Room edition n m t i store file) where
-  leaf-picked : challenged edition n statement root i ≡ challenge_leaf edition n statement root i
-  unfolding challenged
-  leaf-picked = rw (challenge-done edition n i room.exists room.depth (omega (arith, room.number, room.count)))
-
   leaf-inside : challenge_leaf edition n statement root i < 2 ^ n
   leaf-inside = challenge_leaf-small edition n statement root i (omega (arith, room.depth))
 
@@ -58,41 +54,40 @@ module _ (edition : ℕ) (statement root : List ℕ) (n m t i store file : ℕ) 
 
 module _
     (edition : ℕ) (statement root : List ℕ) (n m t i : ℕ) (store file : List ℕ) (room : Room edition n m t i (length store) (length file))
-    (leaf from : ℕ) (is : leaf ≡ challenged edition n statement root i) (at : from ≡ opening_from n (head_size n t) i)
-    (part : List ℕ) (lent : part ≡ take (from + opening_size n - from) (drop from file))
-    (o : Opening) (part' : List ℕ) (made : o ≡ openings.started edition statement n m leaf (length store) (length part))
-    (put : part' ≡ openings.started_out edition n m leaf store part) (same : length part' ≡ length part) where
+    (leaf from : ℕ) (is : leaf ≡ challenge_leaf edition n statement root i) (at : from ≡ opening_from n (head_size n t) i)
+    (part : List ℕ) (lent : part ≡ take (from + opening_size n - from) (drop from file)) where
   there : part ≡ take (opening_size n) (drop (opening_from n (head_size n t) i) file)
   there = lent ∙ part-size file from (opening_size n) ∙ rw at
 
-  picked : leaf ≡ challenge_leaf edition n statement root i
-  picked = is ∙ leaf-picked edition statement root n m t i (length store) (length file) room
-
   openable : Openable edition n m leaf (length store) (length part)
   openable =
-      rw there (part-openable edition n m t i store file leaf room (rw picked (leaf-inside edition statement root n m t i (length store) (length file) room)))
+      rw there (part-openable edition n m t i store file leaf room (rw is (leaf-inside edition statement root n m t i (length store) (length file) room)))
 
-  pub begun-opening : o ≡ (begun edition statement root n m t store i file).writing.opening
+  pub begun-done : open_row edition n m leaf (length store) (length part) ≡ 0
+  begun-done = open-fits edition n m leaf (length store) (length part) openable
+
+  pub begun-opening :
+      (o : Opening) → o ≡ openings.started edition statement n m leaf (length store) (length part)
+      → o ≡ (begun edition statement root n m t store i file).writing.opening
   unfolding begun
-  begun-opening = made ∙ started-fits edition statement n m leaf (length store) (length part) openable ∙ rw picked
+  begun-opening o made = made ∙ started-fits edition statement n m leaf (length store) (length part) openable ∙ rw is
 
   pub begun-file :
-      take from file ++ (part' ++ drop (from + opening_size n - from) (drop from file)) ≡ (begun edition statement root n m t store i file).file
+      (part' : List ℕ) → part' ≡ openings.started_out edition n m leaf store part → length part' ≡ length part
+      → take from file ++ (part' ++ drop (from + opening_size n - from) (drop from file)) ≡ (begun edition statement root n m t store i file).file
   unfolding begun
-  begun-file =
+  begun-file part' put same =
       let size : from + opening_size n - from ≡ opening_size n = omega arith in
       let whole : length part' ≡ opening_size n =
       same ∙ ap length there ∙ part_length file (opening_from n (head_size n t) i) (opening_size n)
       (part-fits n t i room.number.0 room.number.1 (length file) room.file_fits) in
-      rw (size, part-back file part' from (opening_size n) whole, put, started_out-fits edition n m leaf store part openable, there, picked, at)
+      rw (size, part-back file part' from (opening_size n) whole, put, started_out-fits edition n m leaf store part openable, there, is, at)
 
 module _
     (w : Writing) (store file : List ℕ) (ready : Ready w (length store) (length file)) (k from : ℕ)
     (few : w.opening.made + k ≤ nodes_anew w.opening.depth w.opening.memory)
     (at : from ≡ opening_from w.opening.depth (head_size w.opening.depth w.count) w.number)
-    (part : List ℕ) (lent : part ≡ take (from + opening_size w.opening.depth - from) (drop from file))
-    (o : Opening) (part' : List ℕ) (made : o ≡ (openings.advanced store (open_of w.opening part) k).opening)
-    (put : part' ≡ (openings.advanced store (open_of w.opening part) k).out) (same : length part' ≡ length part) where
+    (part : List ℕ) (lent : part ≡ take (from + opening_size w.opening.depth - from) (drop from file)) where
   abbrev n : ℕ
   n = w.opening.depth
 
@@ -107,6 +102,9 @@ module _
   all_made : openings.advanced store (open_of w.opening part) k ≡ openings.steps store k (open_of w.opening part)
   all_made = advanced-all store w.opening part k under-openable few
 
+  pub labelled-done : reopen_row w.opening (length store) (length part) ≡ 0
+  labelled-done = reopen-fits w.opening (length store) (length part) under-openable (omega arith)
+
   pub labelled-count : openings.labels_in store (open_of w.opening part) k ≡ k
   labelled-count = labels-all store w.opening part k under-openable few
 
@@ -115,14 +113,17 @@ module _
       blocks-all store w.opening part k under-openable few
       ∙ ap (λ (x : List ℕ). openings.blocks_over store k (open_of w.opening x)) under-there
 
-  pub labelled-writing : writing_of w.root w.count w.number o ≡ (labelled store k (written_of w file)).writing
+  pub labelled-writing :
+      (o : Opening) → o ≡ (openings.advanced store (open_of w.opening part) k).opening
+      → writing_of w.root w.count w.number o ≡ (labelled store k (written_of w file)).writing
   unfolding labelled
-  labelled-writing = rw (made, all_made, under-there)
+  labelled-writing o made = rw (made, all_made, under-there)
 
   pub labelled-file :
-      take from file ++ (part' ++ drop (from + opening_size n - from) (drop from file)) ≡ (labelled store k (written_of w file)).file
+      (part' : List ℕ) → part' ≡ (openings.advanced store (open_of w.opening part) k).out → length part' ≡ length part
+      → take from file ++ (part' ++ drop (from + opening_size n - from) (drop from file)) ≡ (labelled store k (written_of w file)).file
   unfolding labelled
-  labelled-file =
+  labelled-file part' put same =
       let size : from + opening_size n - from ≡ opening_size n = omega arith in
       let whole : length part' ≡ opening_size n =
       same ∙ ap length under-there ∙ part_length file (opening_from n (head_size n w.count) w.number) (opening_size n)

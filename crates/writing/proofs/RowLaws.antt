@@ -1,13 +1,13 @@
 -- What is known of a writing that may be started or continued, and what a call gives by its answer.
 use mathlib.Core.Path.{◌≡◌, refl, sym}
-use mathlib.Core.Bool.{Bool, true, false}
+use mathlib.Core.Bool.{Bool, false}
 use mathlib.Core.List.{List, ◌∷◌, ◌++◌}
 use Prim.Native.Nat.{ℕ, ◌^◌, ◌≤◌, ◌<◌, min}
 use borrow.Author.Tests.{ltb-false, leb-false}
 use lib.Dec.{leb}
 use lib.ListN.{length}
 use Rattle.base.specs.Limits.{max_edition, max_depth, max_memory, max_challenges, IsEdition, IsDepth, IsCount}
-use Rattle.base.specs.Row.{outside, no_edition, either, is_done}
+use Rattle.base.specs.Row.{outside, no_edition, is_done}
 use Rattle.base.proofs.RowLaws.{NoneHolds, none-holds}
 use Rattle.run.specs.Rows.{start_checks, start_row, impossible}
 use Rattle.run.proofs.RowLaws.{not-impossible}
@@ -106,29 +106,7 @@ module _ (w : Writing) (store file : List ℕ) (budget : ℕ) where
       → blocks ≡ blocks_in store (written_of w file) budget
   blocks-by = machines.cost-by (writing_machine store) (written_of w file) budget (step_blocks store)
 
-  pub no_blocks : 0 ≡ labels_in store (written_of w file) budget → 0 ≡ blocks_in store (written_of w file) budget
-  no_blocks e = sym (machines.costs-nothing (writing_machine store) (written_of w file) budget (step_blocks store) (sym e))
-
   pub unchanged :
       0 ≡ labels_in store (written_of w file) budget
       → (w ≡ (advanced store (written_of w file) budget).writing) × (file ≡ (advanced store (written_of w file) budget).file)
   unchanged e = let f = machines.unchanged (writing_machine store) (written_of w file) budget (sym e) in (rw f, rw f)
-
--- ---- the first condition of continuing, one law for each return
-module _ (a b c d f : Bool) where
-  pub state-first : either a b ≡ true → true ≡ either a (either b (either c (either d f)))
-  state-first e = go a b e
-    where
-      go : (a b : Bool) → either a b ≡ true → true ≡ either a (either b (either c (either d f)))
-      go true b e = refl
-      go false b e = rw e
-
-  module _ (e : either a b ≡ false) where
-    pub state-second : c ≡ true → true ≡ either a (either b (either c (either d f)))
-    state-second p = let (x, y) = neither a b e in rw (x, y, p)
-
-    pub state-third : c ≡ false → d ≡ true → true ≡ either a (either b (either c (either d f)))
-    state-third p q = let (x, y) = neither a b e in rw (x, y, p, q)
-
-    pub state-last : c ≡ false → d ≡ false → f ≡ either a (either b (either c (either d f)))
-    state-last p q = let (x, y) = neither a b e in rw (x, y, p, q)

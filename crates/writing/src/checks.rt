@@ -5,68 +5,58 @@ ghost use Rattle.writing.specs.Rows.{write_row, rewrite_row};
 ghost use Rattle.writing.specs.Possible.{state_outside};
 
 use crate::Writing;
-use crate::labels::may_follow;
-use base::{MAX_CHALLENGES, MAX_EDITION, Outcome, Refusal, beyond};
+use base::{MAX_CHALLENGES, MAX_EDITION, Refusal, beyond};
 use file_head::{file_size, may_write};
-use opening::{nodes_anew, not_possible};
-use run::store_short;
+use labelling::Tree;
+use opening::not_possible;
+use run::check_store;
 
+// Starting: 12, then as a run's start, then as the head.
 pub fn may_start(
-    edition: u64,
-    depth: u64,
+    tree: &Tree,
     memory: u64,
     count: u64,
     store: usize,
     file: usize,
-) -> Outcome
-    ensures { outcome_number result ≡ write_row edition depth memory count store file }
+) -> Result<(), Refusal>
+    ensures { outcome_number result ≡ write_row tree.now.edition tree.now.depth memory count store file }
 {
-    if beyond(MAX_EDITION, edition) {
-        return Outcome::Refused(Refusal::Edition);
+    if beyond(MAX_EDITION, tree.edition) {
+        return Err(Refusal::Edition);
     }
-    let checked = run::may_start(depth, memory, store);
-    match checked {
-        Outcome::Refused(why) => Outcome::Refused(why),
-        Outcome::Done => may_write(edition, depth, count, file),
-    }
+    run::may_start(tree.depth, memory, store)?;
+    may_write(tree.edition, tree.depth, count, file)
 }
 
-// The first condition of continuing.
-fn state_outside(writing: Writing) -> bool
-    ensures { result ≡ state_outside writing }
-{
-    let opening = writing.opening;
-    if not_possible(
-        opening.edition,
-        opening.depth,
-        opening.memory,
-        opening.made,
-        opening.leaf,
-    ) {
-        return true;
+impl Writing {
+    // Whether no start or call leaves a writing with these numbers.
+    fn is_outside(&self) -> bool
+        ensures { result ≡ state_outside self.now }
+    {
+        let opening = &self.opening;
+        not_possible(
+            opening.edition,
+            opening.depth,
+            opening.memory,
+            opening.made,
+            opening.leaf,
+        ) || beyond(MAX_CHALLENGES, self.count)
+            || beyond(self.count, self.number)
+            || self.may_follow()
     }
-    if beyond(MAX_CHALLENGES, writing.count) {
-        return true;
-    }
-    if beyond(writing.count, writing.number) {
-        return true;
-    }
-    let anew = nodes_anew(opening.depth, opening.memory);
-    may_follow(opening.made, anew, writing.number, writing.count)
-}
 
-pub fn may_continue(writing: Writing, store: usize, file: usize) -> Outcome
-    ensures { outcome_number result ≡ rewrite_row writing store file }
-{
-    if state_outside(writing) {
-        return Outcome::Refused(Refusal::State);
+    // Continuing: 4, 3, 7.
+    #[tactic(auto, unfolding(crate::specs::Rows::rewrite_row))]
+    pub(crate) fn may_continue(&self, store: usize, file: usize) -> Result<(), Refusal>
+        ensures { outcome_number result ≡ rewrite_row self.now store file }
+    {
+        if self.is_outside() {
+            return Err(Refusal::State);
+        }
+        check_store(self.opening.memory, store)?;
+        if file < file_size(self.opening.depth, self.count) {
+            return Err(Refusal::ShortOutput);
+        }
+        Ok(())
     }
-    let opening = writing.opening;
-    if store_short(opening.memory, store) {
-        return Outcome::Refused(Refusal::ShortStore);
-    }
-    if file < file_size(opening.depth, writing.count) {
-        return Outcome::Refused(Refusal::ShortOutput);
-    }
-    Outcome::Done
 }

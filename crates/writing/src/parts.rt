@@ -9,10 +9,20 @@ ghost use Rattle.writing.specs.Possible.{Room, Ready, written_of, labelled, labe
 ghost use Rattle.writing.specs.Steps.{begun};
 
 use crate::Writing;
-use file_head::{challenge, file_size};
+use file_head::{challenge_leaf, file_size};
+use labelling::Tree;
 use opening::Opening;
 
-// Where opening i begins: t + 1 − i openings before the file's end.
+// What the openings of a file have in common.
+#[derive(Clone, Copy, Debug, PartialEq, Eq)]
+pub struct Order {
+    pub tree: Tree,
+    pub root: [u8; 32],
+    pub memory: u64,
+    pub count: u64,
+}
+
+// Where opening i's part begins: the openings from number i on end the file.
 fn part_start(n: u64, t: u64, i: u64) -> usize
     requires { (n ≤ max_depth) × (1 ≤ i) × (i ≤ t) × (t ≤ max_challenges) }
     ensures value { result ≡ opening_from n (head_size n t) i }
@@ -21,69 +31,40 @@ fn part_start(n: u64, t: u64, i: u64) -> usize
     file_size(n, t) - ((t + 1 - i) * (32 * (n + 1))) as usize
 }
 
-// Begins opening `number` at the leaf of its challenge.
-pub fn begin(
-    edition: u64,
-    statement: [u8; 32],
-    root: [u8; 32],
-    depth: u64,
-    memory: u64,
-    count: u64,
-    number: u64,
-    store: &[u8],
-    file: &mut [u8],
-) -> Opening
-    requires { Room edition depth memory count number (length store.now) (length file.old) }
-    ensures value { result ≡ (begun edition statement root depth memory count store.now number file.old).writing.opening }
-    ensures file_after { file.new ≡ (begun edition statement root depth memory count store.now number file.old).file }
-{
-    let picked = challenge(edition, depth, statement, root, number);
-    let from = part_start(depth, count, number);
-    let end = from + (32 * (depth + 1)) as usize;
-    let started = Opening::start(
-        edition,
-        statement,
-        depth,
-        memory,
-        picked.leaf,
-        store,
-        &mut file[from..end],
-    );
-    started.opening
+impl Order {
+    // Begins an opening: its challenge picks the leaf, and what the store holds of it is copied to its part. Its callers know that it has
+    // room.
+    pub fn begin(&self, number: u64, store: &[u8], file: &mut [u8]) -> Opening
+        requires { Room self.now.tree.edition self.now.tree.depth self.now.memory self.now.count number (length store.now) (length file.old) }
+        ensures value { result ≡ (begun self.now.tree.edition self.now.tree.statement self.now.root self.now.tree.depth self.now.memory
+            self.now.count store.now number file.old).writing.opening }
+        ensures file_after { file.new ≡ (begun self.now.tree.edition self.now.tree.statement self.now.root self.now.tree.depth
+            self.now.memory self.now.count store.now number file.old).file }
+    {
+        let tree = self.tree;
+        let leaf = challenge_leaf(tree.edition, tree.depth, tree.statement, self.root, number);
+        let from = part_start(tree.depth, self.count, number);
+        let end = from + (32 * (tree.depth + 1)) as usize;
+        Opening::start(tree, self.memory, leaf, store, &mut file[from..end]).unwrap()
+    }
 }
 
-// A writing, and the blocks of the labels that were made.
-#[derive(Clone, Copy)]
-pub struct Stepped {
-    pub writing: Writing,
-    pub blocks: u64,
-}
-
-// Makes labels of the opening under way. Its caller knows that they are left.
-pub fn label_part(writing: Writing, labels: u64, store: &[u8], file: &mut [u8]) -> Stepped
-    requires ready { Ready writing (length store.now) (length file.old) }
-    requires labels_bound { writing.opening.made + labels ≤ nodes_anew writing.opening.depth writing.opening.memory }
-    ensures writing_value { result.writing ≡ (labelled store.now labels (written_of writing file.old)).writing }
-    ensures file_after { file.new ≡ (labelled store.now labels (written_of writing file.old)).file }
-    ensures blocks_value { (result.blocks ≡ labelled_blocks store.now labels (written_of writing file.old))
-        × (result.blocks ≤ most_blocks * labels) }
-{
-    let root = writing.root;
-    let count = writing.count;
-    let number = writing.number;
-    let under = writing.opening;
-    let from = part_start(under.depth, count, number);
-    let end = from + (32 * (under.depth + 1)) as usize;
-    let done = under.advance(labels, store, &mut file[from..end]);
-    let opening = done.opening;
-    let writing = Writing {
-        root,
-        count,
-        number,
-        opening,
-    };
-    Stepped {
-        writing,
-        blocks: done.blocks,
+impl Writing {
+    // Labels of the opening under way, at most as many as it has left, and their blocks.
+    pub(crate) fn label_part(&mut self, labels: u64, store: &[u8], file: &mut [u8]) -> u64
+        requires ready { Ready self.old (length store.now) (length file.old) }
+        requires labels_bound { self.old.opening.made + labels ≤ nodes_anew self.old.opening.depth self.old.opening.memory }
+        ensures writing_after { self.new ≡ (labelled store.now labels (written_of self.old file.old)).writing }
+        ensures file_after { file.new ≡ (labelled store.now labels (written_of self.old file.old)).file }
+        ensures blocks_value { (result ≡ labelled_blocks store.now labels (written_of self.old file.old)) × (result ≤ most_blocks * labels) }
+    {
+        let depth = self.opening.depth;
+        let from = part_start(depth, self.count, self.number);
+        let end = from + (32 * (depth + 1)) as usize;
+        let work = self
+            .opening
+            .advance(labels, store, &mut file[from..end])
+            .unwrap();
+        work.blocks
     }
 }

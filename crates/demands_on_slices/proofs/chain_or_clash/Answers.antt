@@ -2,9 +2,5 @@
 use Rattle.demands.proofs.Demand3.{demand3}
 use Rattle.demands_on_slices.proofs.chain_or_clash.Goals as goal
 
-pub returns : goal.returns
-returns c =
-    record {
-      drawing_value = c.draw.ensures.drawing_value;
-      drawn = demand3.drawn _ _ _ _ _ (λ j. (c.type_inv.file j).fits);
-    }
+pub returns-clause-drawn : goal.returns-clause-drawn
+returns-clause-drawn c = demand3.drawn _ _ _ _ _ (λ j. (c.type_inv.file j).fits)

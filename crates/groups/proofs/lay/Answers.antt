@@ -21,35 +21,3 @@ returns c =
     laid-last l.bytes l.i l.rest c.args.value (omega arith) _ (9 - l.i) (omega arith)
     c.loop-rest-test.false l.invariant.2 in
     (laid, taken-count _ _ _ (simp length-set (omega arith)) laid)
-
-pub overflow_add-bytes : goal.overflow_add-bytes
-overflow_add-bytes c =
-    omega arith
-
-pub overflow_cast-bytes : goal.overflow_cast-bytes
-overflow_cast-bytes c =
-    omega arith
-
-pub bounds-bytes-i : goal.bounds-bytes-i
-bounds-bytes-i c =
-    omega arith
-
-pub overflow_add-i : goal.overflow_add-i
-overflow_add-i c =
-    omega arith
-
-pub loop-rest-smaller : goal.loop-rest-smaller
-loop-rest-smaller c =
-    omega arith
-
-pub overflow_cast-bytes-2 : goal.overflow_cast-bytes-2
-overflow_cast-bytes-2 c =
-    omega arith
-
-pub bounds-bytes-i-2 : goal.bounds-bytes-i-2
-bounds-bytes-i-2 c =
-    omega arith
-
-pub overflow_add-result : goal.overflow_add-result
-overflow_add-result c =
-    omega arith

@@ -1,12 +1,14 @@
-use mathlib.Core.Path.{◌∙◌}
+-- `capi::hashes::mastdock_hash_finish` meets its contract: zeros stand beside a refusal.
+use Rattle.capi.proofs.Numbers.{value_or}
+use Rattle.capi.proofs.RefusedHashes.{not-finished}
 use Rattle.capi.proofs.hashes.mastdock_hash_finish.Goals as goal
 
-pub returns : goal.returns
-returns c =
-    let e = c.finish-f.ensures in
-    record {
-      refusal_value = c.outcome_number.ensures ∙ e.outcome_value.0;
-      blocks_value = e.outcome_value.1;
-      digest_value = e.digest_value.0;
-      hash_value = e.digest_value.1;
-    }
+pub returns-clause-digest_value : goal.returns-clause-digest_value
+returns-clause-digest_value c =
+    let e = c.finish-finished.ensures in
+    rw c.unwrap_or-hashed.ensures (value_or _ _ _ _ e.outcome_value e.digest_value (not-finished c.args.hash)).0
+
+pub returns-clause-blocks_value : goal.returns-clause-blocks_value
+returns-clause-blocks_value c =
+    let e = c.finish-finished.ensures in
+    rw c.unwrap_or-hashed.ensures (value_or _ _ _ _ e.outcome_value e.digest_value (not-finished c.args.hash)).1

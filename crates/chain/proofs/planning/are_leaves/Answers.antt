@@ -1,33 +1,15 @@
-use Rattle.chain_theory.proofs.Lists.{at_every, not-every}
+-- `chain::planning::are_leaves` meets its contract: std's test of all elements is the definition's.
+use Rattle.std.proofs.Common.{rules, tests, ltb, ap, ◌∙◌, ℕ}
+use Rattle.std.proofs.lemmas.Iterator.{YieldsList-from_slice}
+use Rattle.std.proofs.lemmas.Iterator.Search.{all_from_yields_List}
+use Rattle.base.specs.Choice.{every}
 use Rattle.chain_theory.specs.Planning.{is_leaf}
-use borrow.Author.Tests.{lt-ltb, le-ltb}
-use borrow.Author.Count.{below_more}
-use lib.ListN.{get_or}
-use native.Mathlib.Omega.{arith}
-use Prim.Native.Nat.{◌^◌}
-use mathlib.Core.Path.{sym}
+use Rattle.chain.proofs.Rows.{every_all}
 use Rattle.chain.proofs.planning.are_leaves.Goals as goal
 
-pub loop-i-init : goal.loop-i-init
-loop-i-init c = (omega arith, λ k h. absurd (omega arith))
-
-pub returns-then-end-leaves : goal.returns-then-end-leaves
-unfolding is_leaf
-returns-then-end-leaves c =
-    let l = c.loop-i in
-    let w = c.width-end in
-    let a = c.args in
-    sym
-    (not-every (is_leaf a.depth) a.leaves.now 0 l.i (omega arith)
-    (le-ltb (get_or a.leaves.now l.i 0) (2 ^ a.depth) (omega (arith, w.ensures.0, c.if-end-leaves.true))))
-
-pub loop-i-preserved : goal.loop-i-preserved
-unfolding is_leaf
-loop-i-preserved c =
-    let l = c.loop-i in
-    let w = c.width-end in
-    let a = c.args in
-    (omega arith, below_more _ _ l.invariant.1 (lt-ltb (get_or a.leaves.now l.i 0) (2 ^ a.depth) (omega (arith, w.ensures.0, c.if-end-leaves.false))))
-
 pub returns : goal.returns
-returns c = let l = c.loop-i in sym (at_every (is_leaf _) 0 _ (λ k h. l.invariant.1 k (omega arith)))
+unfolding is_leaf
+returns c =
+    all_from_yields_List (λ x. ltb x c.width-end.result) _ _ _ c.all.ensures.ran (YieldsList-from_slice c.args.leaves.now cc) (λ x b q k. search (rules, tests))
+    ∙ every_all (λ x. ltb x c.width-end.result) c.args.leaves.now
+    ∙ ap (λ (end : ℕ). every (λ x. ltb x end) c.args.leaves.now) c.width-end.ensures.0

@@ -10,8 +10,8 @@ use Rattle.base.proofs.WrittenLaws.{written-three}
 use Rattle.checkpoint.proofs.WritingLaws.{hashed}
 use Rattle.checkpoint.proofs.writing.put_parts.Goals as goal
 
-pub slice_bounds-digest-end-2 : goal.slice_bounds-digest-end-2
-slice_bounds-digest-end-2 c =
+pub slice_bounds-digest_of-end-2 : goal.slice_bounds-digest_of-end-2
+slice_bounds-digest_of-end-2 c =
     sym (length-take-le _ _ (omega (arith, c.requires.laid_in_bounds, c.put.auto.dst, c.put-2.auto.dst, c.put-3.auto.dst)))
 
 pub slice_bounds-put-end : goal.slice_bounds-put-end
@@ -33,4 +33,4 @@ returns c =
     hashed a.out.now (a.head.now ++ a.store.now ++ a.laid.now) _ _ _ _
     (written-three a.out.now a.head.now a.store.now a.laid.now _ _ _ _ _ c.put.ensures c.put-2.ensures
     c.put-3.ensures refl refl)
-    (size c) (omega (arith, size c, c.requires.laid_len_bound)) c.digest-hashed.ensures.digest_value c.put-4.ensures
+    (size c) c.digest_of-digest.ensures c.put-4.ensures

@@ -1,41 +1,32 @@
--- `compare::compare` meets its contract: refused, or compared.
+-- `compare::compare` meets its contract: what the table shows is what the openings are.
 use mathlib.Core.Path.{sym, ◌∙◌}
-use Rattle.base.proofs.RowLaws.{is-done, refused-number, not_done}
-use Rattle.compare.proofs.Checks.{compared-done, compared-refused}
+use Rattle.compare.proofs.Checks.{sized, compared-done}
+use Rattle.compare.proofs.Lookup.{clash-none, clash-some}
+use borrow.Author.Rules.{rules}
 use Rattle.compare.proofs.whole.compare.Goals as goal
 
-pub compare_all-requires : goal.compare_all-requires
-compare_all-requires c = is-done _ _ c.check-checked.ensures c.in-Done.is
+pub fill_table-requires : goal.fill_table-requires
+fill_table-requires c = (sized _ _ c.args.leaves.now c.args.openings.now (sym c.in_ok-check.ensures), search rules)
 
-pub returns-in-Refused : goal.returns-in-Refused
-returns-in-Refused c =
-    let n = c.args.depth in
-    let leaves = c.args.leaves.now in
-    let openings = c.args.openings.now in
-    let row = refused-number _ _ _ c.check-checked.ensures c.in-Refused.is in
-    let e = compared-refused c.args.edition c.args.statement n leaves openings (not_done c.in-Refused.why _ row) in
-    rw c.no_pair.ensures (record {
-      outcome_value = row;
-      pair_value = sym e;
-      first_value = rw e;
-      second_value = rw e;
-    })
+pub invariant_of-table : goal.invariant_of-table
+invariant_of-table c =
+    let z = sized _ _ c.args.leaves.now c.args.openings.now (sym c.in_ok-check.ensures) in
+    record { inside = record { most = z.most; few = z.few; wide = search rules } }
 
-pub returns-in-Done : goal.returns-in-Done
-returns-in-Done c =
-    let n = c.args.depth in
-    let leaves = c.args.leaves.now in
-    let openings = c.args.openings.now in
-    let row = is-done _ _ c.check-checked.ensures c.in-Done.is in
-    let e = compared-done c.args.edition c.args.statement n leaves openings row in
-    let r = c.compare_all.ensures in
-    record {
-      outcome_value = r.outcome_value ∙ sym row;
-      pair_value = r.pair_value ∙ sym e;
-      first_value = rw e r.first_value;
-      second_value = rw e r.second_value;
-    }
+pub returns-in_default-clause-clash_value : goal.returns-in_default-clause-clash_value
+returns-in_default-clause-clash_value c =
+    let t = c.args.tree.now in
+    let done = sym c.in_ok-check.ensures in
+    let z = sized _ _ c.args.leaves.now c.args.openings.now done in
+    rw (compared-done t.edition t.statement t.depth c.args.leaves.now c.args.openings.now done)
+    (clash-none t.edition t.statement t.depth c.args.leaves.now c.args.openings.now _ c.fill_table.new.table z (search rules) c.fill_table.ensures
+    (sym c.in_default.is ∙ c.first_pair.ensures.value))
 
-pub no_pair-requires : goal.no_pair-requires
-no_pair-requires c =
-    tt
+pub returns-clause-clash_value : goal.returns-clause-clash_value
+returns-clause-clash_value c =
+    let t = c.args.tree.now in
+    let done = sym c.in_ok-check.ensures in
+    let z = sized _ _ c.args.leaves.now c.args.openings.now done in
+    rw (compared-done t.edition t.statement t.depth c.args.leaves.now c.args.openings.now done)
+    (clash-some t.edition t.statement t.depth c.args.leaves.now c.args.openings.now _ c.fill_table.new.table z (search rules) c.fill_table.ensures
+    c.in-Some.pair _ _ c.in-Some.ensures.value c.in-Some.ensures.lies c.input.ensures c.input-2.ensures)

@@ -1,32 +1,26 @@
+use Rattle.std.proofs.Common.{unwrap_or, get_or, refl, sym, ◌∙◌}
 use Rattle.decimal.proofs.ReadLaws.{all_start, all_end, all-turn, all-stop, next_fits}
-use borrow.Author.Tests.{not-true, not-false}
-use native.Mathlib.Omega.{arith}
-use mathlib.Core.Path.{refl, sym, ◌∙◌}
 use Rattle.decimal.proofs.reading.is_readable.Goals as goal
 
-pub loop-i-init : goal.loop-i-init
-loop-i-init c = (omega arith, refl, all_start _)
+pub loop-byte-init : goal.loop-byte-init
+loop-byte-init c = (refl, all_start _)
 
-pub returns-then-not-s : goal.returns-then-not-s
-returns-then-not-s c =
-    let l = c.loop-i in
-    let b = c.wide in
+pub returns-in_default : goal.returns-in_default
+returns-in_default c =
+    let l = c.loop-byte in
     sym
-    (all-stop c.args.input.now l.i b.result l.value (omega arith) b.ensures.0
-    (sym c.step-s.ensures.right ∙ not-true _ c.if-not-s.true)) ∙ l.invariant.2
+    (all-stop c.args.input.now l.byte-index _ (unwrap_or l.number 0) c.loop-byte-test.true refl (sym c.in_default.ensures.readable))
+    ∙ l.invariant.1
 
-pub loop-i-preserved : goal.loop-i-preserved
-loop-i-preserved c =
-    let l = c.loop-i in
-    let b = c.wide in
-    let step = c.step-s in
-    let good = not-false _ c.if-not-s.false in
-    let on = sym step.ensures.right ∙ good in (
-      omega arith,
-      next_fits b.result l.value _ on (step.ensures.after good),
-      all-turn c.args.input.now l.i b.result l.value (omega arith) b.ensures.0 _ l.invariant.1 on
-          (step.ensures.after good) ∙ l.invariant.2,
+pub loop-byte-preserved : goal.loop-byte-preserved
+loop-byte-preserved c =
+    let l = c.loop-byte in
+    let bytes = c.args.input.now in
+    let step = c.in-Ok.ensures in
+    let on = sym step.readable in (
+      next_fits (get_or bytes l.byte-index 0) (unwrap_or l.number 0) _ on step.next.1,
+      all-turn bytes l.byte-index _ (unwrap_or l.number 0) c.loop-byte-test.true refl _ l.invariant.0 on step.next.1 ∙ l.invariant.1,
     )
 
 pub returns : goal.returns
-returns c = let l = c.loop-i in sym (all_end l.value _ l.i c.loop-i-test.false l.invariant.1) ∙ l.invariant.2
+returns c = let l = c.loop-byte in sym (all_end (unwrap_or l.number 0) _ l.byte-index c.loop-byte-test.false l.invariant.0) ∙ l.invariant.1

@@ -4,6 +4,4 @@ use Rattle.drawing_text.proofs.differing.differ.Goals as goal
 
 pub returns : goal.returns
 returns c =
-    let a = c.args in
-    differ-told a.found a.depth a.count c.add_line.ensures c.add_line-2.ensures
-    c.report_line-report.ensures c.depth_line-depths.ensures c.count_line-counts.ensures
+    differ-told _ _ _ c.add_line.ensures c.add_line-2.ensures c.report_line-report.ensures c.depth_line-depths.ensures c.count_line-counts.ensures

@@ -1,10 +1,14 @@
 -- `drawing_text::facts::end_lines` meets its contract.
+use Rattle.std.proofs.Common.{arith, refl, ap, ◌∙◌}
+use Rattle.base.proofs.Bounds.{number-some}
+use Rattle.lines.specs.Texts.{rejected_text}
 use Rattle.drawing_text.proofs.InfoLaws.{end_none, end_refused}
 use Rattle.drawing_text.proofs.facts.end_lines.Goals as goal
 
-pub returns-then-number-eq0 : goal.returns-then-number-eq0
-returns-then-number-eq0 c = end_none _ _ _ c.if-number-eq0.true c.empty.ensures
+pub returns-in-Ok : goal.returns-in-Ok
+returns-in-Ok c = rw c.in-Ok.is (end_none 0 c.args.size _ refl c.new.ensures)
 
-pub returns : goal.returns
-returns c =
-    end_refused _ _ c.if-number-eq0.false c.add_line.ensures c.plain.ensures c.rejected.ensures
+pub returns-in-Err : goal.returns-in-Err
+returns-in-Err c =
+    rw c.in-Err.is (end_refused _ c.args.size (λ e. omega (arith, number-some c.in-Err.why, e)) c.add_line.ensures c.plain.ensures
+    (c.rejected.ensures ∙ ap (λ k. rejected_text k 0) c.number.ensures))

@@ -4,5 +4,5 @@ use Rattle.drawing_text.proofs.facts.numbers_lines.Goals as goal
 
 pub returns : goal.returns
 returns c =
-    numbers-told _ _ _ c.add_line-first.ensures c.add_line.ensures c.fact.ensures
+    numbers-told _ _ _ c.add_line.ensures c.add_line-2.ensures c.fact.ensures
     c.fact-2.ensures c.fact-3.ensures

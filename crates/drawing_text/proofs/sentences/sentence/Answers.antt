@@ -3,4 +3,4 @@ use Rattle.drawing_text.proofs.TwoLines.{one}
 use Rattle.drawing_text.proofs.sentences.sentence.Goals as goal
 
 pub returns : goal.returns
-returns c = one c.empty.ensures c.add.ensures c.requires
+returns c = one c.new.ensures c.add.ensures c.requires

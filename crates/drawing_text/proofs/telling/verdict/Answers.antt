@@ -4,5 +4,5 @@ use Rattle.drawing_text.proofs.telling.verdict.Goals as goal
 
 pub returns : goal.returns
 returns c =
-    verdict-told _ _ _ _ _ c.add_line-asked.ensures c.add_line.ensures c.edition_line-edition.ensures c.wanted.ensures
+    verdict-told _ _ _ _ _ c.add_line.ensures c.add_line-2.ensures c.edition_line.ensures c.wanted.ensures
     c.judged.ensures

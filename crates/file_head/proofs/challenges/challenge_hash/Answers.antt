@@ -2,9 +2,13 @@
 use mathlib.Core.Path.{◌≡◌, ap, ◌∙◌}
 use borrow.Author.Rules.{rules}
 use lib.ListN.{length}
+use Rattle.file_head.proofs.ChallengeLaws.{done-ok}
 use Rattle.sha256.specs.Digest.{digest}
-use Rattle.file_head.proofs.ChallengeLaws.{input-laid, short-digest}
+use Rattle.file_head.proofs.ChallengeLaws.{input-laid, short-row, short-digest}
 use Rattle.file_head.proofs.challenges.challenge_hash.Goals as goal
+
+pub unwrap-hashed-requires : goal.unwrap-hashed-requires
+unwrap-hashed-requires c = done-ok _ (c.digest.ensures.outcome_value ∙ short-row _ (search rules))
 
 pub returns : goal.returns
 returns c =
@@ -13,4 +17,5 @@ returns c =
     let laid =
     input-laid a.edition a.depth a.statement a.root a.i _ _ _ _ _ sizes.0 sizes.1 c.big_endian-number.ensures
     c.put.ensures c.put-2.ensures c.put-3.ensures c.put-4.ensures in
-    c.digest-hashed.ensures.digest_value ∙ short-digest _ (search rules) ∙ ap digest laid
+    let hashed = rw c.unwrap-hashed.ensures at c.digest.ensures.digest_value in
+    hashed.0 ∙ short-digest _ (search rules) ∙ ap digest laid

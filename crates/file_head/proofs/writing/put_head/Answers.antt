@@ -1,8 +1,6 @@
 -- `file_head::writing::put_head` meets its contract: numbers, statement and root one behind the other.
-use Prim.Native.Nat.{◌+◌, ◌≤◌}
 use native.Mathlib.Omega.{arith}
 use borrow.Author.Rules.{rules}
-use lib.ListN.{length}
 use Rattle.file_head.proofs.WritingLaws.{head-put, size-numbers}
 use Rattle.file_head.proofs.writing.put_head.Goals as goal
 
@@ -14,22 +12,13 @@ put_numbers-at-requires c =
 -- statement and root fit behind the numbers
 
 pub put-requires : goal.put-requires
-put-requires c =
-    let room : c.put_numbers-at.result + 64 ≤ length c.args.out.now = let a = c.args in
-    omega (arith, c.requires.3, size-numbers a.edition a.n a.t c.requires.0, c.put_numbers-at.ensures.value) in
-    omega (arith, room)
+put-requires c = omega (arith, size-numbers c.args.edition c.args.n c.args.t c.requires.0)
 
 pub overflow_add-at : goal.overflow_add-at
-overflow_add-at c =
-    let room : c.put_numbers-at.result + 64 ≤ length c.args.out.now = let a = c.args in
-    omega (arith, c.requires.3, size-numbers a.edition a.n a.t c.requires.0, c.put_numbers-at.ensures.value) in
-    omega (arith, room)
+overflow_add-at c = omega (arith, size-numbers c.args.edition c.args.n c.args.t c.requires.0)
 
 pub put-requires-2 : goal.put-requires-2
-put-requires-2 c =
-    let room : c.put_numbers-at.result + 64 ≤ length c.args.out.now = let a = c.args in
-    omega (arith, c.requires.3, size-numbers a.edition a.n a.t c.requires.0, c.put_numbers-at.ensures.value) in
-    omega (arith, room)
+put-requires-2 c = omega (arith, size-numbers c.args.edition c.args.n c.args.t c.requires.0)
 
 pub returns : goal.returns
 returns c =

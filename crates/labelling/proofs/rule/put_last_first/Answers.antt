@@ -1,35 +1,30 @@
-use mathlib.Core.Path.{◌≡◌, refl, ◌∙◌}
-use Prim.Native.Nat.{◌≤◌}
 use native.Mathlib.Omega.{arith}
-use borrow.Author.Rules.{rules}
-use Rattle.labelling.proofs.LastFirst.{written-no-label, written-label}
+use Rattle.labelling.proofs.LastFirst.{none-written, one-written, all-written}
 use Rattle.labelling.proofs.rule.put_last_first.Goals as goal
 
-pub loop-left-init : goal.loop-left-init
-loop-left-init c =
-    (refl, omega arith, c.requires.0, refl, written-no-label c.args.dst.now c.args.src.now c.args.at)
-
-pub slice_bounds-put-end : goal.slice_bounds-put-end
-slice_bounds-put-end c = search rules
+pub loop-label-init : goal.loop-label-init
+loop-label-init c =
+    rw c.into_iter-label-iterator.ensures.into_iter_gives
+    (c.rchunks-label-items.ensures.size, rw c.rchunks-label-items.ensures.rest (none-written c.args.dst.now c.args.src.now c.args.at c.requires.0))
 
 pub put-requires : goal.put-requires
-put-requires c = search rules
+put-requires c =
+    let s = c.in-Some.ensures.steps in
+    omega (arith, s.1.1, s.1.2, c.loop-label.invariant.0, c.loop-label.invariant.1, c.requires.1)
 
-pub loop-left-preserved : goal.loop-left-preserved
-loop-left-preserved c =
-    let l = c.loop-left in
-    let some : 32 ≤ l.left = omega (arith, l.invariant) in (
-      l.invariant.0,
-      omega (arith, l.invariant),
-      omega (arith, l.invariant),
-      search rules,
-      c.put.ensures
-          ∙ written-label c.args.dst.now l.dst c.args.src.now c.args.at l.left _ l.invariant.4 (omega (arith, l.invariant.0)) some
-          l.invariant.1 l.invariant.2 c.requires.0 c.requires.1,
+pub overflow_add-to : goal.overflow_add-to
+overflow_add-to c =
+    let s = c.in-Some.ensures.steps in
+    omega (arith, s.1.1, s.1.2, c.loop-label.invariant.0, c.loop-label.invariant.1, c.requires.1)
+
+pub loop-label-preserved : goal.loop-label-preserved
+loop-label-preserved c =
+    let s = c.in-Some.ensures.steps in
+    let w = c.loop-label.invariant.1 in (
+      omega (arith, s.0, c.loop-label.invariant.0),
+      one-written _ _ _ _ _ _ _ _ _ w s.1.0 (omega (arith, s.1.1, s.1.2, c.loop-label.invariant.0, w.whole)) c.requires.0 c.requires.1
+          c.put.ensures (omega arith),
     )
 
 pub returns : goal.returns
-returns c =
-    let l = c.loop-left in
-    let none : l.left ≡ 0 = omega arith in
-    rw none at l.invariant.4
+returns c = all-written _ _ _ _ _ _ c.loop-label.invariant.1 (omega (arith, c.in-None.ensures.steps))

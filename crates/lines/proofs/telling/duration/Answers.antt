@@ -1,41 +1,46 @@
 -- `lines::telling::duration` meets its contract.
 use borrow.Author.Tests.{lt-ltb, le-ltb}
 use native.Mathlib.Omega.{arith}
-use Rattle.lines.proofs.LineLaws.{first, more}
+use Rattle.lines.proofs.LineLaws.{first, more, numbers_laid}
 use Rattle.decimal.proofs.Laying.{decimal-short}
 use Rattle.lines.specs.Texts.{duration_text}
 use Rattle.lines.proofs.telling.duration.Goals as goal
 
-pub returns-then-seconds-lt60 : goal.returns-then-seconds-lt60
+pub returns-then-seconds-lt-MINUTE : goal.returns-then-seconds-lt-MINUTE
 unfolding duration_text
-returns-then-seconds-lt60 c =
+returns-then-seconds-lt-MINUTE c =
     let x = c.args.seconds in
-    let s =
-    first _ _ _ 20 c.empty.ensures c.add_number.ensures (decimal-short x) (omega arith) in
-    rw (lt-ltb x 60 (omega (arith, c.if-seconds-lt60.true))) (more _ 2 s c.add.ensures (omega arith) (omega arith)).out
+    let number = first _ _ _ 20 c.new-line.ensures c.add_number.ensures (decimal-short x) (omega arith) in
+    rw (lt-ltb x 60 (omega (arith, c.if-seconds-lt-MINUTE.true))) (more _ 2 number c.add.ensures (omega arith) (omega arith)).out
 
-pub returns-then-seconds-lt3600 : goal.returns-then-seconds-lt3600
+pub returns-then-seconds-lt-HOUR : goal.returns-then-seconds-lt-HOUR
 unfolding duration_text
-returns-then-seconds-lt3600 c =
+returns-then-seconds-lt-HOUR c =
     let x = c.args.seconds in
-    rw (le-ltb x 60 (omega (arith, c.if-seconds-lt60.false)), lt-ltb x 3600 (omega (arith, c.if-seconds-lt3600.true))) c.two.ensures
+    rw (le-ltb x 60 (omega (arith, c.if-seconds-lt-MINUTE.false)), lt-ltb x 3600 (omega (arith, c.if-seconds-lt-HOUR.true)))
+    (numbers_laid _ _ _ _ c.new-line.ensures c.add_number-then-seconds-lt-HOUR.ensures c.add_field.ensures
+    c.add-then-seconds-lt-HOUR.ensures (omega arith) (omega arith))
 
-pub returns-then-seconds-lt86400 : goal.returns-then-seconds-lt86400
+pub returns-then-seconds-lt-DAY : goal.returns-then-seconds-lt-DAY
 unfolding duration_text
-returns-then-seconds-lt86400 c =
+returns-then-seconds-lt-DAY c =
     let x = c.args.seconds in
     rw (
-      le-ltb x 60 (omega (arith, c.if-seconds-lt60.false)),
-      le-ltb x 3600 (omega (arith, c.if-seconds-lt3600.false)),
-      lt-ltb x 86400 (omega (arith, c.if-seconds-lt86400.true)),
-    ) c.two-then-seconds-lt86400.ensures
+      le-ltb x 60 (omega (arith, c.if-seconds-lt-MINUTE.false)),
+      le-ltb x 3600 (omega (arith, c.if-seconds-lt-HOUR.false)),
+      lt-ltb x 86400 (omega (arith, c.if-seconds-lt-DAY.true)),
+    )
+    (numbers_laid _ _ _ _ c.new-line.ensures c.add_number-then-seconds-lt-DAY.ensures c.add_field-then-seconds-lt-DAY.ensures
+    c.add-then-seconds-lt-DAY.ensures (omega arith) (omega arith))
 
-pub returns : goal.returns
+pub returns-else-seconds-lt-DAY : goal.returns-else-seconds-lt-DAY
 unfolding duration_text
-returns c =
+returns-else-seconds-lt-DAY c =
     let x = c.args.seconds in
     rw (
-      le-ltb x 60 (omega (arith, c.if-seconds-lt60.false)),
-      le-ltb x 3600 (omega (arith, c.if-seconds-lt3600.false)),
-      le-ltb x 86400 (omega (arith, c.if-seconds-lt86400.false)),
-    ) c.two-2.ensures
+      le-ltb x 60 (omega (arith, c.if-seconds-lt-MINUTE.false)),
+      le-ltb x 3600 (omega (arith, c.if-seconds-lt-HOUR.false)),
+      le-ltb x 86400 (omega (arith, c.if-seconds-lt-DAY.false)),
+    )
+    (numbers_laid _ _ _ _ c.new-line.ensures c.add_number-else-seconds-lt-DAY.ensures c.add_field-else-seconds-lt-DAY.ensures
+    c.add-else-seconds-lt-DAY.ensures (omega arith) (omega arith))

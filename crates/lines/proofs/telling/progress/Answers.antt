@@ -10,12 +10,11 @@ use Rattle.lines.proofs.telling.progress.Goals as goal
 
 pub returns-then-rate-eq0 : goal.returns-then-rate-eq0
 unfolding progress_text
-returns-then-rate-eq0 c =
-    rw (eq-eqb _ 0 c.if-rate-eq0.true) (c.share-told.ensures ∙ sym (append-nil _))
+returns-then-rate-eq0 c = rw (eq-eqb _ 0 c.if-rate-eq0.true) (c.share-told.ensures ∙ sym (append-nil _))
 
-pub returns : goal.returns
+pub returns-else-rate-eq0 : goal.returns-else-rate-eq0
 unfolding progress_text
-returns c =
+returns-else-rate-eq0 c =
     let a = c.args in
     rw (ne_eqb _ 0 c.if-rate-eq0.false)
     (more _ 100 (record { out = c.share-told.ensures; size = share-short a.made a.all })

@@ -1,7 +1,13 @@
 -- `lines::telling::resumed_opening` meets its contract.
+use mathlib.Core.Path.{sym, ◌∙◌}
+use mathlib.Core.List.{append-nil}
+use native.Mathlib.Omega.{arith}
+use Rattle.lines.proofs.LineLaws.{first-field, more-field}
 use Rattle.lines.specs.Texts.{opening_text}
 use Rattle.lines.proofs.telling.resumed_opening.Goals as goal
 
 pub returns : goal.returns
 unfolding opening_text
-returns c = c.two.ensures
+returns c =
+    (more-field _ _ (first-field _ _ c.new.ensures c.add_field.ensures (omega arith)) c.add_field-2.ensures (omega arith) (omega arith)).out
+    ∙ sym (append-nil _)

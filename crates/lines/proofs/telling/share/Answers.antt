@@ -1,7 +1,12 @@
 -- `lines::telling::share` meets its contract.
+use native.Mathlib.Omega.{arith}
+use Rattle.lines.proofs.LineLaws.{three_laid}
 use Rattle.lines.specs.Texts.{share_text}
 use Rattle.lines.proofs.telling.share.Goals as goal
 
 pub returns : goal.returns
 unfolding share_text
-returns c = rw (← c.percent-percent.ensures) c.three.ensures
+returns c =
+    rw (← c.percent.ensures)
+    (three_laid _ _ _ _ _ _ _ c.new.ensures c.add_field.ensures c.add_field-2.ensures c.add_field-3.ensures c.add.ensures (omega arith)
+    (omega arith) (omega arith) (omega arith))

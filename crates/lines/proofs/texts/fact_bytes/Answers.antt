@@ -7,8 +7,5 @@ use Rattle.lines.proofs.texts.fact_bytes.Goals as goal
 pub returns : goal.returns
 unfolding bytes_text
 returns c =
-    let s =
-    first _ _ _ 1000 c.empty.ensures c.add-named.ensures
-    c.requires.0 (omega arith) in
-    (more _ 1 (more-hex _ 1000 s c.add_hex-shown.ensures c.requires.1 (omega arith)) c.add.ensures (omega arith)
-    (omega arith)).out
+    let named = first _ _ _ 1000 c.new.ensures c.add.ensures c.requires.0 (omega arith) in
+    (more _ 1 (more-hex _ 1000 named c.add_hex.ensures c.requires.1 (omega arith)) c.add-2.ensures (omega arith) (omega arith)).out

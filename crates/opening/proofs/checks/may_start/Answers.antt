@@ -1,12 +1,8 @@
 -- `opening::checks::may_start` meets its contract: the edition does not exist, or refused as a run's start would be, or left to the leaf and
 -- the output.
-use mathlib.Core.Path.{◌≡◌, sym, ◌∙◌}
-use mathlib.Core.Bool.{Bool, false}
-use mathlib.Core.List.{List}
-use Prim.Native.Nat.{ℕ}
-use Rattle.base.specs.Row.{no_edition}
+use mathlib.Core.Path.{sym, ◌∙◌}
 use Rattle.base.proofs.RowLaws.{is-done}
-use Rattle.run.proofs.RowLaws.{start-depth, start-refuses, start-passes}
+use Rattle.run.proofs.RowLaws.{handed-on, start-depth, start-refuses, start-passes}
 use Rattle.opening.specs.Rows.{leaf_checks, open_row}
 use Rattle.opening.proofs.checks.may_start.Goals as goal
 
@@ -14,31 +10,19 @@ pub returns-then-beyond : goal.returns-then-beyond
 unfolding open_row
 returns-then-beyond c = rw (sym c.beyond.ensures ∙ c.if-beyond.true)
 
+pub returns-in_err-may_start : goal.returns-in_err-may_start
+unfolding open_row
+returns-in_err-may_start c =
+    let a = c.args in
+    let e = start-refuses _ _ _ _ _ (leaf_checks a.depth a.leaf a.out) c.may_start.ensures c.in_err-may_start.was in
+    rw (sym c.beyond.ensures ∙ c.if-beyond.false) (handed-on _ _ c.from_residual.ensures.1 ∙ e)
+
 pub leaf_fits-requires : goal.leaf_fits-requires
-leaf_fits-requires c =
-    (start-depth _ _ _ (is-done _ _ c.may_start-checked.ensures c.in-Done.is)).1
+leaf_fits-requires c = (start-depth _ _ _ (is-done _ _ _ c.may_start.ensures c.in_ok-may_start.was)).1
 
-exists : (c : goal.In-Refused) → no_edition c.args.edition ≡ false
-exists c = sym c.beyond.ensures ∙ c.if-beyond.false
-
-abbrev rest : goal.In-Refused → List (Bool × ℕ)
-rest s = leaf_checks s.args.depth s.args.leaf s.args.out
-
-pub returns-in-Refused : goal.returns-in-Refused
+pub returns : goal.returns
 unfolding open_row
-returns-in-Refused c =
-    rw (exists c)
-    (start-refuses _ _ _ _ _ (rest c) c.may_start-checked.ensures c.in-Refused.is)
-
-exists-at-after-leaf_fits : (c : goal.After-leaf_fits) → no_edition c.args.edition ≡ false
-exists-at-after-leaf_fits c = sym c.beyond.ensures ∙ c.if-beyond.false
-
-abbrev rest-at-after-leaf_fits : goal.After-leaf_fits → List (Bool × ℕ)
-rest-at-after-leaf_fits s = leaf_checks s.args.depth s.args.leaf s.args.out
-
-pub returns-in-Done : goal.returns-in-Done
-unfolding open_row
-returns-in-Done c =
-    rw (exists-at-after-leaf_fits c)
-    (start-passes _ _ _ (rest-at-after-leaf_fits c) _ (is-done _ _ c.may_start-checked.ensures c.in-Done.is)
-    c.leaf_fits.ensures)
+returns c =
+    let a = c.args in
+    rw (sym c.beyond.ensures ∙ c.if-beyond.false)
+    (start-passes _ _ _ (leaf_checks a.depth a.leaf a.out) _ (is-done _ _ _ c.may_start.ensures c.in_ok-may_start.was) c.leaf_fits.ensures)

@@ -1,7 +1,5 @@
--- `opening_check::climb` meets its contract. The invariant: the label is the computed one of this height. The measure is what is
--- left of the way.
+-- `opening_check::climb` meets its contract. The invariant: the label is the computed one of this height.
 use mathlib.Core.Path.{◌≡◌}
-use Prim.Native.Nat.{◌-◌, ◌≤◌}
 use lib.ListN.{length}
 use Rattle.labelling.specs.Rule.{stamp_rule}
 use Rattle.tree.specs.Openings.{computed}
@@ -10,7 +8,5 @@ use Rattle.opening_check.proofs.way.climb.Given as goal
 
 abbrev pub invariant-loop-height : goal.invariant-loop-height
 invariant-loop-height l =
-    (l.height ≤ l.n) × (length l.label ≡ 32) × (l.label ≡ computed (stamp_rule l.edition l.n l.statement) l.n l.leaf (given_by l.bytes) l.height)
-
-abbrev pub decreases-loop-height : goal.decreases-loop-height
-decreases-loop-height l = l.n - l.height
+    (length l.label ≡ 32)
+    × (l.label ≡ computed (stamp_rule l.tree.edition l.tree.depth l.tree.statement) l.tree.depth l.leaf (given_by l.bytes) l.height)

@@ -29,5 +29,5 @@ pub returns : goal.returns
 unfolding node_text
 returns c =
     let a = c.args in
-    then (then c.put_field-first.ensures c.put_field-second.ensures (omega (arith, node-one a.level a.position, c.requires)))
-    c.end_line.ensures (omega (arith, node-short (node a.level a.position), c.requires))
+    then (then c.put_field-first.ensures c.put_field-second.ensures (omega (arith, node-one a.target.level a.target.position, c.requires)))
+    c.end_line.ensures (omega (arith, node-short (node a.target.level a.target.position), c.requires))

@@ -15,4 +15,4 @@ pub returns : goal.returns
 unfolding refused_text
 returns c =
     let f = c.put_field-at in
-    then f.ensures c.end_line.ensures (omega (arith, refused-short c.args.number, c.requires))
+    rw (← c.number.ensures) (then f.ensures c.end_line.ensures (omega (arith, refused-short c.number.result, c.requires)))

@@ -2,4 +2,4 @@
 use Rattle.run.proofs.checks.store_short.Goals as goal
 
 pub returns : goal.returns
-returns c = rw c.store_size-size.ensures
+returns c = rw c.store_size.ensures

@@ -1,45 +1,26 @@
-use mathlib.Core.Path.{◌≡◌, refl}
-use borrow.Author.Rules.{rules}
-use native.Mathlib.Omega.{arith}
-use lib.ListN.{length}
-use Rattle.sealing.proofs.FileLaws.{laid_more, laid-whole, room_for}
+use Rattle.std.proofs.Common.{◌≡◌, arith, rules, length}
+use Rattle.sealing.proofs.FileLaws.{laid_more, laid-whole}
 use Rattle.sealing.proofs.opening_all.open_rest.Goals as goal
 
-pub loop-i-init : goal.loop-i-init
-loop-i-init g c = (omega (arith, c.requires.1), refl, λ is-root holds begun. begun)
-
-pub overflow_add-i : goal.overflow_add-i
-overflow_add-i g c = omega (arith, c.loop-i-test.true, c.requires.0.count)
-
-pub open_in_file-opened-requires : goal.open_in_file-opened-requires
-open_in_file-opened-requires g c =
-    let l = c.loop-i in
-    let run = c.args.run in
-    rw l.invariant.1
-    (room_for run.edition run.depth run.memory c.args.count (length c.args.store.now) (length c.args.file.now) _ c.requires.0
-    (omega arith) (omega (arith, c.loop-i-test.true)))
-
-pub save_opening-later-requires : goal.save_opening-later-requires
-save_opening-later-requires g c = c.requires.2
-
-pub loop-i-smaller : goal.loop-i-smaller
-loop-i-smaller g c = omega (arith, c.loop-i-test.true)
-
-pub loop-i-preserved : goal.loop-i-preserved
-loop-i-preserved g c =
-    let l = c.loop-i in
-    let run = c.args.run in
-    let size : length c.args.run.statement ≡ 32 = search rules in (
-      omega (arith, c.loop-i-test.true),
+pub loop-seal-preserved : goal.loop-seal-preserved
+loop-seal-preserved g c =
+    let l = c.loop-seal in
+    let seal = c.args.seal.now in
+    let run = seal.run in
+    let size : length run.statement ≡ 32 = search rules in
+    let opened = rw (l.invariant.0, l.invariant.1) at c.open_next.ensures in (
+      l.invariant.0,
+      l.invariant.1,
+      omega (arith, c.loop-seal-test.true, l.invariant.1),
       search rules,
-      laid_more run.edition run.statement c.args.root run.depth run.memory c.args.count c.args.done c.args.store.now
-          c.args.file.now
-          size c.requires.0.exists c.requires.0.file_fits l.i c.loop-i-test.true _ _ l.invariant.2 c.open_in_file-opened.ensures,
+      laid_more run.edition run.statement c.args.root run.depth run.memory seal.count seal.done c.args.store.now c.args.file.now
+          size c.requires.writable.exists c.requires.writable.file_fits l.seal.done (omega (arith, c.loop-seal-test.true, l.invariant.1)) _ _ l.invariant.4 opened,
     )
 
 pub returns : goal.returns
 returns g c =
-    let l = c.loop-i in
-    let run = c.args.run in
-    laid-whole run.edition run.statement c.args.root run.depth run.memory c.args.count c.args.done c.args.store.now
-    c.args.file.now l.i _ (omega (arith, l.invariant.0, c.loop-i-test.false)) l.invariant.2
+    let l = c.loop-seal in
+    let seal = c.args.seal.now in
+    let run = seal.run in
+    laid-whole run.edition run.statement c.args.root run.depth run.memory seal.count seal.done c.args.store.now c.args.file.now
+    l.seal.done _ (omega (arith, l.invariant.1, l.invariant.2, c.loop-seal-test.false)) l.invariant.4

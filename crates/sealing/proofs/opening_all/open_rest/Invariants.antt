@@ -1,14 +1,13 @@
--- `sealing::opening_all::open_rest` meets its contract: the invariant: the file has its head and the first i openings.
-use mathlib.Core.Path.{◌≡◌}
-use lib.ListN.{length}
-use Prim.Native.Nat.{◌-◌, ◌≤◌}
+-- `sealing::opening_all::open_rest` meets its contract: the invariant: the file has its head and the openings that are finished.
+use Rattle.std.proofs.Common.{◌≡◌, ◌-◌, ◌≤◌, length}
 use Rattle.sealing.proofs.FileLaws.{LaidTo}
 use Rattle.sealing.proofs.opening_all.open_rest.Given as goal
 
-abbrev pub invariant-loop-i : goal.invariant-loop-i
-invariant-loop-i g l =
-    (l.i ≤ l.count) × (length l.file ≡ length l.initial.file)
-    × LaidTo l.run.edition l.run.statement l.root l.run.depth l.run.memory l.count l.done l.store l.initial.file l.i l.file
+abbrev pub invariant-loop-seal : goal.invariant-loop-seal
+invariant-loop-seal g l =
+    (l.seal.run ≡ l.fn.seal.run) × (l.seal.count ≡ l.fn.seal.count) × (l.seal.done ≤ l.fn.seal.count) × (length l.file ≡ length l.fn.file)
+    × LaidTo l.fn.seal.run.edition l.fn.seal.run.statement l.root l.fn.seal.run.depth l.fn.seal.run.memory l.fn.seal.count l.fn.seal.done l.store
+    l.fn.file l.seal.done l.file
 
-abbrev pub decreases-loop-i : goal.decreases-loop-i
-decreases-loop-i g l = l.count - l.i
+abbrev pub decreases-loop-seal : goal.decreases-loop-seal
+decreases-loop-seal g l = l.seal.count - l.seal.done

@@ -1,29 +1,14 @@
 -- `sealing::saving::opening_end` meets its contract: the openings behind are no more than all of them.
--- the bytes of the openings behind opening i
 use Prim.Native.Nat.{ℕ, ◌-◌, ◌*◌, ◌≤◌}
-use native.Mathlib.Nat.{mul-le-mul, mul-le-mul_right}
+use native.Mathlib.Nat.{mul-le-mul_right}
 use native.Mathlib.Omega.{arith}
-use Rattle.base.specs.Limits.{max_depth, max_challenges, held_size}
 use Rattle.tree.specs.Openings.{opening_size}
 use Rattle.file_head.specs.Layout.{file_size}
 use Rattle.sealing.proofs.saving.opening_end.Goals as goal
-
-behind-few : (n t i : ℕ) → n ≤ max_depth → t ≤ max_challenges → (t - i) * opening_size n ≤ max_challenges * held_size
-behind-few n t i h k =
-    let few : t - i ≤ max_challenges = omega arith in
-    let small : opening_size n ≤ held_size = omega arith in
-    mul-le-mul few small
 
 behind-inside : (n t i : ℕ) → (t - i) * opening_size n ≤ file_size n t
 unfolding file_size
 behind-inside n t i = omega (arith, mul-le-mul_right {m = t - i} {n = t} (opening_size n) (omega arith))
 
-pub overflow_mul-result-2 : goal.overflow_mul-result-2
-overflow_mul-result-2 c =
-    let a = c.args in
-    omega (arith, behind-few a.depth a.count a.i (omega arith) (omega arith))
-
 pub overflow_sub-result-2 : goal.overflow_sub-result-2
-overflow_sub-result-2 c =
-    let a = c.args in
-    omega (arith, behind-inside a.depth a.count a.i, c.file_size.ensures)
+overflow_sub-result-2 c = let a = c.args in omega (arith, behind-inside a.depth a.count a.i, c.file_size.ensures)

@@ -1,27 +1,14 @@
-use Prim.Native.Nat.{◌*◌}
-use mathlib.Core.Path.{refl, ap, ◌∙◌}
-use native.Mathlib.Omega.{arith}
-use borrow.Author.Rules.{rules}
-use Rattle.sha256.specs.Padding.{words}
+use Rattle.std.proofs.Common.{◌∙◌, refl, arith}
 use Rattle.sha256.specs.Digest.{hash_after}
-use Rattle.sha256.proofs.Blocks.{hash_after-more, part-from}
+use Rattle.sha256.proofs.Blocks.{hash_after-more, block-from}
 use Rattle.sha256.proofs.absorb.absorb.Goals as goal
 
-pub loop-i-init : goal.loop-i-init
+pub loop-block-init : goal.loop-block-init
 unfolding hash_after
-loop-i-init c = (search rules, refl, refl)
+loop-block-init c = refl
 
-pub loop-i-preserved : goal.loop-i-preserved
-loop-i-preserved c =
-    let loop = c.loop-i in (
-      omega arith,
-      refl,
-      hash_after-more _ _ _ _ _ _
-          loop.invariant.2
-          (c.gather-b.ensures
-          ∙ ap (words 16) (part-from (64 * loop.i) c.args.bytes.now))
-          c.compress-v.ensures,
-    )
-
-pub returns : goal.returns
-returns c = c.loop-i.invariant.2 ∙ ap (hash_after _ _) (omega arith)
+pub loop-block-preserved : goal.loop-block-preserved
+loop-block-preserved c =
+    hash_after-more _ _ _ _ _ _ c.loop-block.invariant
+    (c.gather.ensures ∙ block-from _ _ _ c.as_chunks.ensures.front (omega arith))
+    c.compress-v.ensures

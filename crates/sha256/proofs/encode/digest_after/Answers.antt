@@ -1,16 +1,11 @@
 -- `sha256::encode::digest_after` meets its contract.
 use Prim.Native.Nat.{ℕ}
-use mathlib.Core.Path.{sym, ap, ◌∙◌}
+use mathlib.Core.Path.{ap, ◌∙◌}
 use mathlib.Core.List.{List}
-use lib.Seq.{length-take-le}
 use Rattle.sha256.specs.Padding.{blocks}
 use Rattle.sha256.specs.Digest.{hash_after, digest_of}
 use Rattle.sha256.proofs.Padded.{last-laid}
-use borrow.Author.Rules.{rules}
 use Rattle.sha256.proofs.encode.digest_after.Goals as goal
-
-pub slice_bounds-absorb-end : goal.slice_bounds-absorb-end
-slice_bounds-absorb-end c = sym (length-take-le _ _ (search rules))
 
 pub returns : goal.returns
 returns c =

@@ -1,43 +1,19 @@
 -- `sha256::encode::digest_bytes` meets its contract. The bytes of each word in turn.
-use mathlib.Core.List.{◌++◌}
+use Rattle.std.proofs.Common.{◌≡◌, ℕ, List, [], ◌∷◌, ◌++◌, get_or}
+use Rattle.std.proofs.Math.Nat.{div-div-eq-div-mul}
+use Rattle.std.specs.Int.{w32, to_be_bytes}
+use Rattle.base.specs.Bytes.{big_endian}
 use Rattle.sha256.specs.Digest.{digest_of}
 use Rattle.sha256.proofs.encode.digest_bytes.Goals as goal
+
+four : (b : List ℕ) (x : ℕ) → b ≡ to_be_bytes w32 x → get_or b 0 0 ∷ get_or b 1 0 ∷ get_or b 2 0 ∷ get_or b 3 0 ∷ [] ≡ big_endian 4 x
+unfolding big_endian
+four b x e = rw e (simp div-div-eq-div-mul)
 
 pub returns : goal.returns
 unfolding digest_of
 returns c =
     λ i.
-    c.bytes_of-a.ensures i ++ c.bytes_of-b.ensures i ++ c.bytes_of-c.ensures i ++ c.bytes_of-d.ensures i ++
-    c.bytes_of-e.ensures i ++ c.bytes_of-f.ensures i ++ c.bytes_of-g.ensures i ++ c.bytes_of-h.ensures i
-
-pub bytes_of-a-requires : goal.bytes_of-a-requires
-bytes_of-a-requires c =
-    tt
-
-pub bytes_of-b-requires : goal.bytes_of-b-requires
-bytes_of-b-requires c =
-    tt
-
-pub bytes_of-c-requires : goal.bytes_of-c-requires
-bytes_of-c-requires c =
-    tt
-
-pub bytes_of-d-requires : goal.bytes_of-d-requires
-bytes_of-d-requires c =
-    tt
-
-pub bytes_of-e-requires : goal.bytes_of-e-requires
-bytes_of-e-requires c =
-    tt
-
-pub bytes_of-f-requires : goal.bytes_of-f-requires
-bytes_of-f-requires c =
-    tt
-
-pub bytes_of-g-requires : goal.bytes_of-g-requires
-bytes_of-g-requires c =
-    tt
-
-pub bytes_of-h-requires : goal.bytes_of-h-requires
-bytes_of-h-requires c =
-    tt
+    four _ _ c.to_be_bytes-a.ensures i ++ four _ _ c.to_be_bytes-b.ensures i ++ four _ _ c.to_be_bytes-c.ensures i ++
+    four _ _ c.to_be_bytes-d.ensures i ++ four _ _ c.to_be_bytes-e.ensures i ++ four _ _ c.to_be_bytes-f.ensures i ++
+    four _ _ c.to_be_bytes-g.ensures i ++ four _ _ c.to_be_bytes-h.ensures i

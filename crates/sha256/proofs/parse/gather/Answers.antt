@@ -1,94 +1,26 @@
--- `sha256::parse::gather` meets its contract. Each word is read where `words-sixteen` says that it lies.
--- the entry, from the place after the eighth word
-use mathlib.Core.Path.{sym, ◌∙◌}
-use mathlib.Core.List.{[], ◌∷◌}
-use native.Mathlib.Nat.{le_trans}
-use lib.Dec.{lit≤}
-use Rattle.sha256.proofs.Gather.{words-sixteen}
+use Rattle.std.proofs.Common.{◌≡◌, ℕ, ◌+◌, ◌*◌, ◌/◌, ◌<◌, List, [], length, get_or, ◌∙◌, ap, sym, arith, rules}
+use Rattle.std.proofs.Math.ListN.{set, length-set}
+use Rattle.std.proofs.lemmas.List.FromFn.{fill_by_all}
+use Rattle.std.proofs.lemmas.List.Edits.{fill_by_more}
+use Rattle.sha256.specs.Padding.{word_at}
+use Rattle.sha256.proofs.Gather.{get_or-first_chunks, word-from, words-mapped}
 use Rattle.sha256.proofs.parse.gather.Goals as goal
+
+filled : (f : ℕ → ℕ) (xs : List ℕ) (n i y : ℕ) → length xs ≡ n → i < n → y ≡ f i → ((k : ℕ) → k < i → get_or xs k 0 ≡ f k)
+    → (length (set xs i y) ≡ n) × ((k : ℕ) → k < i + 1 → get_or (set xs i y) k 0 ≡ f k)
+filled f xs n i y l h e below = rw e (rw length-set l, fill_by_more f xs i 0 (omega arith) below)
+
+pub loop-i-preserved : goal.loop-i-preserved
+loop-i-preserved c =
+    let b = c.args.block.now in
+    let i = c.loop-i.i in
+    let whole : length b ≡ 64 = search rules in
+    let part = ap (λ (l : List (List ℕ)). get_or l i []) c.as_chunks.ensures.front ∙ get_or-first_chunks 4 (length b / 4) b i [] (omega arith) in
+    filled (λ k. word_at b (4 * k)) _ 16 i _ c.loop-i.invariant.0 c.loop-i-test.true
+    (c.from_be_bytes.ensures ∙ word-from b _ (4 * i) part)
+    c.loop-i.invariant.1
 
 pub returns : goal.returns
 returns c =
-    (λ i.
-    c.word_at.ensures i ∷
-    c.word_at-2.ensures i ∷
-    c.word_at-3.ensures i ∷
-    c.word_at-4.ensures i ∷
-    c.word_at-5.ensures i ∷
-    c.word_at-6.ensures i ∷
-    c.word_at-7.ensures i ∷
-    c.word_at-8.ensures i ∷
-    c.word_at-9.ensures i ∷
-    c.word_at-10.ensures i ∷
-    c.word_at-11.ensures i ∷
-    c.word_at-12.ensures i ∷
-    c.word_at-13.ensures i ∷
-    c.word_at-14.ensures i ∷
-    c.word_at-15.ensures i ∷
-    c.word_at-16.ensures i ∷
-    []) ∙
-    sym (words-sixteen _)
-
-pub word_at-requires : goal.word_at-requires
-word_at-requires c =
-    le_trans (lit≤ tt) c.requires
-
-pub word_at-requires-2 : goal.word_at-requires-2
-word_at-requires-2 c =
-    le_trans (lit≤ tt) c.requires
-
-pub word_at-requires-3 : goal.word_at-requires-3
-word_at-requires-3 c =
-    le_trans (lit≤ tt) c.requires
-
-pub word_at-requires-4 : goal.word_at-requires-4
-word_at-requires-4 c =
-    le_trans (lit≤ tt) c.requires
-
-pub word_at-requires-5 : goal.word_at-requires-5
-word_at-requires-5 c =
-    le_trans (lit≤ tt) c.requires
-
-pub word_at-requires-6 : goal.word_at-requires-6
-word_at-requires-6 c =
-    le_trans (lit≤ tt) c.requires
-
-pub word_at-requires-7 : goal.word_at-requires-7
-word_at-requires-7 c =
-    le_trans (lit≤ tt) c.requires
-
-pub word_at-requires-8 : goal.word_at-requires-8
-word_at-requires-8 c =
-    le_trans (lit≤ tt) c.requires
-
-pub word_at-requires-9 : goal.word_at-requires-9
-word_at-requires-9 c =
-    le_trans (lit≤ tt) c.requires
-
-pub word_at-requires-10 : goal.word_at-requires-10
-word_at-requires-10 c =
-    le_trans (lit≤ tt) (c).requires
-
-pub word_at-requires-11 : goal.word_at-requires-11
-word_at-requires-11 c =
-    le_trans (lit≤ tt) (c).requires
-
-pub word_at-requires-12 : goal.word_at-requires-12
-word_at-requires-12 c =
-    le_trans (lit≤ tt) (c).requires
-
-pub word_at-requires-13 : goal.word_at-requires-13
-word_at-requires-13 c =
-    le_trans (lit≤ tt) (c).requires
-
-pub word_at-requires-14 : goal.word_at-requires-14
-word_at-requires-14 c =
-    le_trans (lit≤ tt) (c).requires
-
-pub word_at-requires-15 : goal.word_at-requires-15
-word_at-requires-15 c =
-    le_trans (lit≤ tt) (c).requires
-
-pub word_at-requires-16 : goal.word_at-requires-16
-word_at-requires-16 c =
-    le_trans (lit≤ tt) (c).requires
+    let b = c.args.block.now in
+    fill_by_all (λ k. word_at b (4 * k)) c.loop-i.word-items 16 0 c.loop-i.invariant.0 (search rules) ∙ sym (words-mapped b)

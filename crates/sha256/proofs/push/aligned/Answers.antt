@@ -6,9 +6,6 @@ use borrow.Author.Rules.{rules}
 use Rattle.base.proofs.Copying.{written-sets}
 use Rattle.sha256.proofs.push.aligned.Goals as goal
 
-pub put-requires : goal.put-requires
-put-requires c = search rules
-
 pub returns : goal.returns
 returns c =
     rw (

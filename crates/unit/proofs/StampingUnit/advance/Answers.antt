@@ -1,57 +1,48 @@
--- `unit::StampingUnit::advance` meets its contract, by the answer: a unit that is not refused has its labels made in turn.
--- the call is not refused
-use mathlib.Core.Path.{◌≡◌, refl, ap, ◌∙◌}
+-- `unit::StampingUnit::advance` meets its contract: a unit that is not refused has its labels made in turn, and a refused call leaves it and
+-- the slice.
+use mathlib.Core.Path.{refl, sym, ap, ◌∙◌}
 use mathlib.Core.Logic.{inl}
 use Prim.Native.Nat.{min}
 use native.Mathlib.Omega.{arith}
-use lib.ListN.{length}
 use Rattle.base.proofs.RowLaws.{is-done, is-refused}
-use Rattle.unit.specs.Rows.{unit_row}
-use Rattle.unit.proofs.CallLaws.{labels-done, labels-refused, advanced-by, blocks-by, no_blocks, unchanged}
+use Rattle.unit.proofs.CallLaws.{labels-done, labels-refused, advanced-by, blocks-by, unchanged}
 use Rattle.unit.proofs.StampingUnit.advance.Goals as goal
 
-done : (c : goal.After-label_turns-arg-1) → let a = c.args in unit_row a.self (length a.store.now) ≡ 0
-done c = is-done _ _ c.plan_runs-plan.ensures.outcome_value c.in-Done.is
+pub plan_runs-requires : goal.plan_runs-requires
+plan_runs-requires c = inl refl
 
-pub label_turns-done-requires : goal.label_turns-done-requires
-label_turns-done-requires c =
-    let (planned, whole) = c.plan_runs-plan.ensures.planned (done c) in
-    record {
-      store_value = (done c, planned);
-      labels_bound = omega (arith, c.smaller-labels.ensures, whole);
-    }
-
-done-at-after-unit-1 : (c : goal.After-unit-1) → let a = c.args in unit_row a.self (length a.store.now) ≡ 0
-done-at-after-unit-1 c = is-done _ _ c.plan_runs-plan.ensures.outcome_value c.in-Done.is
-
-pub returns-in-Done : goal.returns-in-Done
-returns-in-Done c =
+pub returns-in_err-plan-clause-unit_after : goal.returns-in_err-plan-clause-unit_after
+returns-in_err-plan-clause-unit_after c =
     let a = c.args in
-    let e = c.label_turns-done.ensures in
-    let k =
-    c.smaller-labels.ensures ∙ ap (min a.budget) (c.plan_runs-plan.ensures.planned (done-at-after-unit-1 c)).1
-    ∙ labels-done a.self a.store.now a.budget (done-at-after-unit-1 c) in
-    record {
-      outcome_value = c.plan_runs-plan.ensures.outcome_value;
-      labels_value = k;
-      blocks_value = (blocks-by a.self a.store.now a.budget _ _ k e.blocks_value.0, e.blocks_value.1);
-      unit_value = (advanced-by a.self a.store.now a.budget _ _ _ k e.unit_value e.store_after).0;
-      store_after = (advanced-by a.self a.store.now a.budget _ _ _ k e.unit_value e.store_after).1;
-    }
+    (unchanged a.self.now a.store.now a.budget
+    (labels-refused a.self.now a.store.now a.budget (is-refused _ _ _ c.plan_runs.ensures.outcome_value c.in_err-plan.was))).0
 
-pub returns-in-Refused : goal.returns-in-Refused
-returns-in-Refused c =
+pub returns-in_err-plan-clause-store_after : goal.returns-in_err-plan-clause-store_after
+returns-in_err-plan-clause-store_after c =
     let a = c.args in
-    let row = c.plan_runs-plan.ensures.outcome_value in
-    let z = labels-refused a.self a.store.now a.budget (is-refused _ _ _ row c.in-Refused.is) in
+    (unchanged a.self.now a.store.now a.budget
+    (labels-refused a.self.now a.store.now a.budget (is-refused _ _ _ c.plan_runs.ensures.outcome_value c.in_err-plan.was))).1
+
+pub label_turns-blocks-requires : goal.label_turns-blocks-requires
+label_turns-blocks-requires c =
+    let (planned, whole) = c.in_ok-plan.ensures.planned in
     record {
-      outcome_value = row;
-      labels_value = z;
-      blocks_value = (no_blocks a.self a.store.now a.budget z, omega arith);
-      unit_value = (unchanged a.self a.store.now a.budget z).0;
-      store_after = (unchanged a.self a.store.now a.budget z).1;
+      store_value = (is-done _ _ _ c.plan_runs.ensures.outcome_value c.in_ok-plan.was, planned);
+      labels_bound = omega (arith, c.min-labels.ensures, whole);
     }
 
-pub plan_runs-plan-requires : goal.plan_runs-plan-requires
-plan_runs-plan-requires c =
-    inl refl
+pub returns : goal.returns
+returns c =
+    let u = c.args.self.now in
+    let s = c.args.store.now in
+    let b = c.args.budget in
+    let e = c.label_turns-blocks.ensures in
+    let done = is-done _ _ _ c.plan_runs.ensures.outcome_value c.in_ok-plan.was in
+    let k = c.min-labels.ensures ∙ ap (min b) c.in_ok-plan.ensures.planned.1 ∙ labels-done u s b done in
+    let (unit, store) = advanced-by u s b _ _ _ k e.unit_after e.store_after in
+    record {
+      outcome_value = sym done;
+      work_value = (k, blocks-by u s b _ _ k e.blocks_value.0, e.blocks_value.1);
+      unit_after = unit;
+      store_after = store;
+    }

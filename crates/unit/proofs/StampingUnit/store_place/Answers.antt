@@ -1,96 +1,97 @@
--- `unit::StampingUnit::store_place` meets its contract, by the answer.
--- the run is named, and it and those before it may be continued
-use mathlib.Core.Path.{◌≡◌, refl, sym, ◌∙◌}
+-- `unit::StampingUnit::store_place` meets its contract, by whether the run is named, and it and those before it may be continued.
+use mathlib.Core.Path.{◌≡◌, refl, sym, subst, ◌∙◌}
+use mathlib.Core.Bool.{false}
 use mathlib.Core.Logic.{inr}
-use Prim.Native.Nat.{◌-◌, ◌≤◌, ◌<◌}
+use Prim.Native.Nat.{ℕ, ◌-◌, ◌<◌}
 use native.Mathlib.Omega.{arith}
 use lib.ListN.{length}
+use Rattle.std.specs.Prelude.{Result, Ok, Err, Some, None, IfOk}
+use Rattle.std.specs.Result.{result_ok}
+use Rattle.base.specs.declared.refusal.Refusal.{Refusal}
 use Rattle.base.specs.Limits.{max_runs}
-use Rattle.base.proofs.RowLaws.{is-done, is-refused}
+use Rattle.base.specs.Number.{outcome_number}
+use Rattle.base.specs.Row.{is_done}
+use Rattle.base.proofs.RowLaws.{is-done, not_done}
+use Rattle.unit.specs.declared.StampingUnit.{StampingUnit}
 use Rattle.unit.specs.Rows.{place_row}
 use Rattle.unit.proofs.RowLaws.{named-done, memory-fits}
 use Rattle.unit.proofs.PlaceLaws.{place-offset, place-length, no_place}
 use Rattle.unit.proofs.StampingUnit.store_place.Goals as goal
 
--- it has a place in the arrays
+-- what an answer of which only the value is kept tells
+kept-ok : {A E : Type 0} (r : Result A E) (p : A) → result_ok r ≡ Some p → r ≡ Ok p
+kept-ok (Ok x) p e = cc
+kept-ok (Err x) p e = absurd (cc)
 
-done : (c : goal.After-runs-1) → let a = c.args in place_row a.self a.i (length a.store.now) ≡ 0
-done c = is-done _ _ c.plan_runs-plan.ensures.outcome_value c.in-Done.is
+kept-none : {A : Type 0} (r : Result A Refusal) (row : ℕ) → outcome_number r ≡ row → result_ok r ≡ None → is_done row ≡ false
+kept-none (Ok x) row e n = absurd (cc)
+kept-none (Err x) row e n = not_done x row e
 
-room : (c : goal.After-runs-1) → c.args.i - 1 < max_runs
-room c =
-    let a = c.args in
-    let (counted, named, _) = named-done a.self a.i a.i (length a.store.now) (done c) in
+if-kept : {A E : Type 0} (r : Result A E) (p : A) (P : A → Type 0) → r ≡ Ok p → IfOk r P → P p
+if-kept r p P e h = subst (λ (x : Result _ _). IfOk x P) e h
+
+room : (unit : StampingUnit) (i store : ℕ) → place_row unit i store ≡ 0 → i - 1 < max_runs
+room unit i store e =
+    let (counted, named, _) = named-done unit i i store e in
     omega (arith, counted.1, named.0, named.1)
 
-pub offset_bounds-runs-at : goal.offset_bounds-runs-at
-offset_bounds-runs-at c = omega (arith, room c)
+pub plan_runs-requires : goal.plan_runs-requires
+plan_runs-requires c = inr refl
 
-done-at-after-from-1 : (c : goal.After-from-1) → let a = c.args in place_row a.self a.i (length a.store.now) ≡ 0
-done-at-after-from-1 c = is-done _ _ c.plan_runs-plan.ensures.outcome_value c.in-Done.is
-
-room-at-after-from-1 : (c : goal.After-from-1) → c.args.i - 1 < max_runs
-room-at-after-from-1 c =
+pub returns-in_err-plan : goal.returns-in_err-plan
+returns-in_err-plan c =
     let a = c.args in
-    let (counted, named, _) = named-done a.self a.i a.i (length a.store.now) (done-at-after-from-1 c) in
-    omega (arith, counted.1, named.0, named.1)
+    let refused = kept-none _ _ c.plan_runs.ensures.outcome_value (sym c.ok.ensures.value ∙ c.in_err-plan.was) in
+    let (offset, size) = no_place a.self.now (length a.store.now) a.i refused in
+    rw c.from_residual.ensures record { there = sym refused; offset_value = sym offset; length_value = sym size }
 
-pub offset_bounds-from-at : goal.offset_bounds-from-at
-offset_bounds-from-at c = omega (arith, room-at-after-from-1 c)
+pub overflow_sub-at : goal.overflow_sub-at
+overflow_sub-at c =
+    let done = is-done _ _ _ c.plan_runs.ensures.outcome_value (kept-ok _ _ (sym c.ok.ensures.value ∙ c.in_ok-plan.was)) in
+    omega (arith, (named-done c.args.self.now c.args.i c.args.i (length c.args.store.now) done).1.0)
+
+pub offset_bounds-self-at : goal.offset_bounds-self-at
+offset_bounds-self-at c =
+    omega (
+      arith,
+      room c.args.self.now c.args.i (length c.args.store.now)
+          (is-done _ _ _ c.plan_runs.ensures.outcome_value (kept-ok _ _ (sym c.ok.ensures.value ∙ c.in_ok-plan.was))),
+    )
+
+pub bounds-self-at : goal.bounds-self-at
+bounds-self-at c =
+    room c.args.self.now c.args.i (length c.args.store.now)
+    (is-done _ _ _ c.plan_runs.ensures.outcome_value (kept-ok _ _ (sym c.ok.ensures.value ∙ c.in_ok-plan.was)))
+
+pub offset_bounds-plan-at : goal.offset_bounds-plan-at
+offset_bounds-plan-at c =
+    omega (
+      arith,
+      room c.args.self.now c.args.i (length c.args.store.now)
+          (is-done _ _ _ c.plan_runs.ensures.outcome_value (kept-ok _ _ (sym c.ok.ensures.value ∙ c.in_ok-plan.was))),
+    )
+
+pub bounds-plan-at : goal.bounds-plan-at
+bounds-plan-at c =
+    room c.args.self.now c.args.i (length c.args.store.now)
+    (is-done _ _ _ c.plan_runs.ensures.outcome_value (kept-ok _ _ (sym c.ok.ensures.value ∙ c.in_ok-plan.was)))
 
 pub store_size-requires : goal.store_size-requires
 store_size-requires c =
     let a = c.args in
-    let (_, named, each) = named-done a.self a.i a.i (length a.store.now) (done-at-after-from-1 c) in
-    memory-fits a.self.runs (length a.store.now) a.i (each a.i named.0 (omega arith))
+    let done = is-done _ _ _ c.plan_runs.ensures.outcome_value (kept-ok _ _ (sym c.ok.ensures.value ∙ c.in_ok-plan.was)) in
+    let (_, named, each) = named-done a.self.now a.i a.i (length a.store.now) done in
+    memory-fits a.self.now.runs (length a.store.now) a.i (each a.i named.0 (omega arith))
 
-done-at-after-store_size : (c : goal.After-store_size) → let a = c.args in place_row a.self a.i (length a.store.now) ≡ 0
-done-at-after-store_size c = is-done _ _ c.plan_runs-plan.ensures.outcome_value c.in-Done.is
-
-some : (c : goal.After-store_size) → 1 ≤ c.args.i
-some c =
+pub returns : goal.returns
+returns c =
     let a = c.args in
-    (named-done a.self a.i a.i (length a.store.now) (done-at-after-store_size c)).1.0
-
-pub returns-in-Done : goal.returns-in-Done
-returns-in-Done c =
-    let a = c.args in
-    let (planned, _) = c.plan_runs-plan.ensures.planned (done-at-after-store_size c) in
+    let so = kept-ok _ _ (sym c.ok.ensures.value ∙ c.in_ok-plan.was) in
+    let done = is-done _ _ _ c.plan_runs.ensures.outcome_value so in
+    let (planned, _) = if-kept _ _ _ so c.plan_runs.ensures.planned in
+    let (_, named, _) = named-done a.self.now a.i a.i (length a.store.now) done in
     record {
-      offset_value = planned.begins a.i (some c) (omega arith) ∙ sym (place-offset a.self (length a.store.now) a.i (done-at-after-store_size c));
-      length_value = c.store_size.ensures ∙ sym (place-length a.self (length a.store.now) a.i (done-at-after-store_size c));
+      there = rw done;
+      offset_value = planned.begins a.i named.0 (omega arith) ∙ sym (place-offset a.self.now (length a.store.now) a.i done);
+      length_value = c.store_size.ensures ∙ sym (place-length a.self.now (length a.store.now) a.i done);
     }
-
-pub returns-in-Refused : goal.returns-in-Refused
-returns-in-Refused c =
-    let a = c.args in
-    let (offset, size) =
-    no_place a.self (length a.store.now) a.i (is-refused _ _ _ c.plan_runs-plan.ensures.outcome_value c.in-Refused.is) in
-    record {
-      offset_value = sym offset;
-      length_value = sym size;
-    }
-
-pub plan_runs-plan-requires : goal.plan_runs-plan-requires
-plan_runs-plan-requires c =
-    inr refl
-
-done-at-in-done : (c : goal.In-Done) → let a = c.args in place_row a.self a.i (length a.store.now) ≡ 0
-done-at-in-done c = is-done _ _ c.plan_runs-plan.ensures.outcome_value c.in-Done.is
-
-some-at-in-done : (c : goal.In-Done) → 1 ≤ c.args.i
-some-at-in-done c =
-    let a = c.args in
-    (named-done a.self a.i a.i (length a.store.now) (done-at-in-done c)).1.0
-
-pub overflow_sub-at : goal.overflow_sub-at
-overflow_sub-at c =
-    some-at-in-done c
-
-pub bounds-runs-at : goal.bounds-runs-at
-bounds-runs-at c =
-    room c
-
-pub bounds-from-at : goal.bounds-from-at
-bounds-from-at c =
-    room-at-after-from-1 c

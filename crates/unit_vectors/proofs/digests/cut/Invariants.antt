@@ -1,9 +1,9 @@
-use Prim.Native.Nat.{◌≤◌, ◌-◌}
-use lib.ListN.{length}
+-- A portion has a byte at least, so each turn leaves fewer.
+use Rattle.std.proofs.Common.{◌≤◌, length}
 use Rattle.unit_vectors.proofs.digests.cut.Given as goal
 
-abbrev pub invariant-loop-at : goal.invariant-loop-at
-invariant-loop-at l = (l.at ≤ length l.message) × (1 ≤ l.width)
+abbrev pub invariant-loop-rest : goal.invariant-loop-rest
+invariant-loop-rest l = 1 ≤ l.width
 
-abbrev pub decreases-loop-at : goal.decreases-loop-at
-decreases-loop-at l = length l.message - l.at
+abbrev pub decreases-loop-rest : goal.decreases-loop-rest
+decreases-loop-rest l = length l.rest

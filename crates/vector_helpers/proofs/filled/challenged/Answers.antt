@@ -1,4 +1,4 @@
-use Rattle.std.proofs.Common.{arith, rules}
+use Rattle.std.proofs.Common.{◌∙◌, arith, rules}
 use Rattle.vector_helpers.proofs.WholeLaws.{leaves_none, leaves-more, leaves_all}
 use Rattle.vector_helpers.proofs.filled.challenged.Goals as goal
 
@@ -11,7 +11,7 @@ loop-i-preserved c =
     let l = c.loop-i in (
       omega arith,
       search rules,
-      leaves-more a.edition a.depth a.statement a.root l.leaves l.i _ (omega arith) l.invariant.2 c.challenge-picked.ensures.leaf_value,
+      leaves-more a.edition a.depth a.statement a.root l.leaves l.i _ (omega arith) l.invariant.2 (c.unwrap_or.ensures ∙ c.challenge.ensures.leaf_value),
     )
 
 pub returns : goal.returns

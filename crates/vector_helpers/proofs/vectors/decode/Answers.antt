@@ -1,35 +1,22 @@
-use Rattle.std.proofs.Common.{refl, arith, rules}
+use Rattle.std.proofs.Common.{◌≡◌, ◌/◌, min, length, ap, ◌∙◌, arith}
+use Rattle.base.specs.Bytes.{written}
+use Rattle.vector_helpers.specs.Text.{spelled}
 use Rattle.vector_helpers.proofs.TextLaws.{spelled_none, spelled-more}
 use Rattle.vector_helpers.proofs.vectors.decode.Goals as goal
 
 pub loop-i-init : goal.loop-i-init
-loop-i-init c = (omega arith, refl, omega arith, spelled_none c.args.text.now c.args.out.now)
-
-pub returns-then-text-i : goal.returns-then-text-i
-returns-then-text-i c =
-    let l = c.loop-i in
-    record {
-      value = (omega (arith, c.if-text-i.true), omega arith);
-      out_after = l.invariant.3;
-      out_len_unchanged = l.invariant.1;
-    }
+loop-i-init c = spelled_none c.args.text.now c.args.out.now
 
 pub loop-i-preserved : goal.loop-i-preserved
 loop-i-preserved c =
     let l = c.loop-i in
-    let a = c.args in (
-      omega arith,
-      search rules,
-      omega (arith, c.if-text-i.false),
-      spelled-more a.text.now a.out.now l.out l.i _ _ (omega arith) l.invariant.3
-          c.digit.ensures.0 c.digit-in-loop-i.ensures.0,
-    )
+    let a = c.args in
+    spelled-more a.text.now a.out.now l.out l.i _ _ (omega arith) l.invariant
+    c.digit.ensures.value c.digit-in-loop-i.ensures.value
 
 pub returns : goal.returns
 returns c =
-    let l = c.loop-i in
-    record {
-      value = (omega arith, omega arith);
-      out_after = l.invariant.3;
-      out_len_unchanged = l.invariant.1;
-    }
+    let text = c.args.text.now in
+    let out = c.args.out.now in
+    let all : c.loop-i.i ≡ min (length text / 2) (length out) = omega arith in
+    c.loop-i.invariant ∙ ap (λ k. written out 0 (spelled text k)) all

@@ -1,8 +1,7 @@
 -- `words::kinds::is_word` meets its contract.
-use mathlib.Core.Path.{sym, ap}
-use lib.ListN.{length}
-use Rattle.base.proofs.ListsLaws.{tells-bytes, test-differ}
+use Rattle.std.proofs.Common.{◌∙◌, nat_eq}
+use Rattle.base.proofs.ListsLaws.{same_by-pointwise}
 use Rattle.words.proofs.kinds.is_word.Goals as goal
 
-pub returns-then-word-name : goal.returns-then-word-name
-returns-then-word-name c = sym (test-differ tells-bytes _ _ (λ e. c.if-word-name.true (ap length e)))
+pub returns : goal.returns
+returns c = c.eq.ensures ∙ same_by-pointwise nat_eq c.args.word.now c.args.name.now

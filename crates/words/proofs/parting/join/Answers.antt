@@ -7,9 +7,6 @@ use Rattle.words.proofs.parting.join.Goals as goal
 pub returns-then-line-at : goal.returns-then-line-at
 returns-then-line-at c = let a = c.args in joins-none a.line.now a.word.now a.at (omega arith)
 
-pub returns-then-line-at-2 : goal.returns-then-line-at-2
-returns-then-line-at-2 c = let a = c.args in joins-none a.line.now a.word.now a.at (omega arith)
-
 pub returns : goal.returns
 returns c =
     let a = c.args in

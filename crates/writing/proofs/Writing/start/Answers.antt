@@ -1,5 +1,5 @@
--- `writing::Writing::start` meets its contract, by the answer.
--- a start that is done has room for its first opening
+-- `writing::Writing::start` meets its contract: a start that is done has room for its first opening, and a refused one leaves the file.
+use mathlib.Core.Path.{◌≡◌, sym, ap, ◌∙◌}
 use Prim.Native.Nat.{ℕ, ◌≤◌}
 use native.Mathlib.Omega.{arith}
 use Rattle.base.specs.Limits.{IsEdition, IsDepth, IsCount}
@@ -9,8 +9,6 @@ use Rattle.run_theory.proofs.StartLaws.{start-bounds}
 use Rattle.file_head.specs.Layout.{file_size}
 use Rattle.file_head.proofs.RowLaws.{done-head}
 use Rattle.writing.specs.Possible.{Room}
-use mathlib.Core.Path.{◌≡◌, ap, ◌∙◌}
-use lib.ListN.{length}
 use Rattle.writing.specs.Rows.{write_row}
 use Rattle.writing.specs.Steps.{Written}
 use Rattle.writing.proofs.RowLaws.{both-done, start-done, start-refused}
@@ -31,41 +29,22 @@ write-room edition n m t store file e =
       file_fits = head.3;
     }
 
--- the row's answer
-
-abbrev row : goal.After-write_first-arg-1 → ℕ
-row s = write_row s.args.edition s.args.depth s.args.memory s.args.count (length s.args.store.now) (length s.args.file.now)
-
-done : (c : goal.After-write_first-arg-1) → row c ≡ 0
-done c = is-done _ _ c.may_start-outcome.ensures c.in-Done.is
-
-pub write_first-writing-requires : goal.write_first-writing-requires
-write_first-writing-requires c = write-room _ _ _ _ _ _ (done c)
-
-abbrev row-at-after-slice_known-in-done-1 : goal.After-slice_known-in-Done-1 → ℕ
-row-at-after-slice_known-in-done-1 s = write_row s.args.edition s.args.depth s.args.memory s.args.count (length s.args.store.now) (length s.args.file.now)
-
-done-at-after-slice_known-in-done-1 : (c : goal.After-slice_known-in-Done-1) → row-at-after-slice_known-in-done-1 c ≡ 0
-done-at-after-slice_known-in-done-1 c = is-done _ _ c.may_start-outcome.ensures c.in-Done.is
-
-pub returns-in-Done : goal.returns-in-Done
-returns-in-Done c =
+pub returns-in_err-may_start-clause-file_after : goal.returns-in_err-may_start-clause-file_after
+returns-in_err-may_start-clause-file_after c =
     let a = c.args in
-    let e = start-done a.edition a.statement a.root a.depth a.memory a.count a.store.now a.file.now (done-at-after-slice_known-in-done-1 c) in
-    record {
-      outcome_value = c.may_start-outcome.ensures;
-      writing_value = c.write_first-writing.ensures.value ∙ ap (λ (s : Written). s.writing) e;
-      file_after = c.write_first-writing.ensures.file_after ∙ ap (λ (s : Written). s.file) e;
-    }
+    (start-refused a.tree.edition a.tree.statement a.root a.tree.depth a.memory a.count a.store.now a.file.now
+    (is-refused _ _ _ c.may_start.ensures c.in_err-may_start.was)).1
 
-pub returns-in-Refused : goal.returns-in-Refused
-returns-in-Refused c =
+pub write_first-requires : goal.write_first-requires
+write_first-requires c = write-room _ _ _ _ _ _ (is-done _ _ _ c.may_start.ensures c.in_ok-may_start.was)
+
+pub returns : goal.returns
+returns c =
     let a = c.args in
-    let (o, f) =
-    start-refused a.edition a.statement a.root a.depth a.memory a.count a.store.now a.file.now
-    (is-refused _ _ _ c.may_start-outcome.ensures c.in-Refused.is) in
+    let done = is-done _ _ _ c.may_start.ensures c.in_ok-may_start.was in
+    let e = start-done a.tree.edition a.tree.statement a.root a.tree.depth a.memory a.count a.store.now a.file.now done in
     record {
-      outcome_value = c.may_start-outcome.ensures;
-      writing_value = c.no_writing-writing.ensures ∙ o;
-      file_after = f;
+      outcome_value = sym done;
+      writing_value = c.write_first.ensures.value ∙ ap (λ (s : Written). s.writing) e;
+      file_after = c.write_first.ensures.file_after ∙ ap (λ (s : Written). s.file) e;
     }

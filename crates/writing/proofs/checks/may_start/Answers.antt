@@ -1,14 +1,13 @@
 -- `writing::checks::may_start` meets its contract: the edition does not exist, or refused as a run's start would be, or left to the head's
 -- row, whose edition and depth are known by then.
 use mathlib.Core.Path.{◌≡◌, sym, ◌∙◌}
-use mathlib.Core.Bool.{Bool, false}
-use mathlib.Core.List.{List}
+use mathlib.Core.Bool.{false}
 use Prim.Native.Nat.{ℕ}
 use Rattle.base.specs.Limits.{max_depth, IsDepth}
 use Rattle.base.specs.Row.{first_of, no_edition}
 use Rattle.base.proofs.Ranges.{within}
 use Rattle.base.proofs.RowLaws.{is-done}
-use Rattle.run.proofs.RowLaws.{start-depth, start-refuses, start-passes}
+use Rattle.run.proofs.RowLaws.{handed-on, start-depth, start-refuses, start-passes}
 use Rattle.file_head.specs.Layout.{head_row}
 use Rattle.writing.specs.Rows.{file_checks, write_row}
 use Rattle.writing.proofs.checks.may_start.Goals as goal
@@ -17,33 +16,23 @@ pub returns-then-beyond : goal.returns-then-beyond
 unfolding write_row
 returns-then-beyond c = rw (sym c.beyond.ensures ∙ c.if-beyond.true)
 
-exists : (c : goal.In-Refused) → no_edition c.args.edition ≡ false
-exists c = sym c.beyond.ensures ∙ c.if-beyond.false
-
-abbrev rest : goal.In-Refused → List (Bool × ℕ)
-rest s = file_checks s.args.depth s.args.count s.args.file
-
-pub returns-in-Refused : goal.returns-in-Refused
+pub returns-in_err-may_start : goal.returns-in_err-may_start
 unfolding write_row
-returns-in-Refused c =
-    rw (exists c)
-    (start-refuses _ _ _ _ _ (rest c) c.may_start-checked.ensures c.in-Refused.is)
+returns-in_err-may_start c =
+    let a = c.args in
+    let e = start-refuses _ _ _ _ _ (file_checks a.tree.now.depth a.count a.file) c.may_start.ensures c.in_err-may_start.was in
+    rw (sym c.beyond.ensures ∙ c.if-beyond.false) (handed-on _ _ c.from_residual.ensures.1 ∙ e)
 
-exists-at-after-may_write : (c : goal.After-may_write) → no_edition c.args.edition ≡ false
-exists-at-after-may_write c = sym c.beyond.ensures ∙ c.if-beyond.false
-
-abbrev rest-at-after-may_write : goal.After-may_write → List (Bool × ℕ)
-rest-at-after-may_write s = file_checks s.args.depth s.args.count s.args.file
-
-head-rest :
-    (s : goal.After-may_write) → no_edition s.args.edition ≡ false → IsDepth s.args.depth
-    → head_row s.args.edition s.args.depth s.args.count s.args.file ≡ first_of (rest-at-after-may_write s)
+head-rest : (edition n t file : ℕ) → no_edition edition ≡ false → IsDepth n → head_row edition n t file ≡ first_of (file_checks n t file)
 unfolding head_row
-head-rest s there depth = rw (there, within 1 max_depth s.args.depth depth)
+head-rest edition n t file there depth = rw (there, within 1 max_depth n depth)
 
-pub returns-in-Done : goal.returns-in-Done
+pub returns : goal.returns
 unfolding write_row
-returns-in-Done c =
-    let row = is-done _ _ c.may_start-checked.ensures c.in-Done.is in
-    rw (exists-at-after-may_write c)
-    (start-passes _ _ _ (rest-at-after-may_write c) _ row (c.may_write.ensures ∙ head-rest c (exists-at-after-may_write c) (start-depth _ _ _ row)))
+returns c =
+    let a = c.args in
+    let exists = sym c.beyond.ensures ∙ c.if-beyond.false in
+    let row = is-done _ _ _ c.may_start.ensures c.in_ok-may_start.was in
+    rw exists
+    (start-passes _ _ _ (file_checks a.tree.now.depth a.count a.file) _ row
+    (c.may_write.ensures ∙ head-rest a.tree.now.edition a.tree.now.depth a.count a.file exists (start-depth _ _ _ row)))

@@ -1,5 +1,0 @@
--- `capi::mastdock_check_file` meets its contract: it passes on.
-use Rattle.capi.proofs.files.mastdock_check_file.Goals as goal
-
-pub returns : goal.returns
-returns c = c.check_file_code.ensures

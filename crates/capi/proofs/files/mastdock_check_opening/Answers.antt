@@ -1,5 +1,0 @@
-use mathlib.Core.Path.{◌∙◌}
-use Rattle.capi.proofs.files.mastdock_check_opening.Goals as goal
-
-pub returns : goal.returns
-returns c = c.outcome_number.ensures ∙ c.check_opening-outcome.ensures

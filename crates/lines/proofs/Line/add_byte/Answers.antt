@@ -1,0 +1,43 @@
+-- A byte of a name, where there is room for it.
+use mathlib.Core.Path.{◌≡◌, sym, ◌∙◌}
+use mathlib.Core.List.{[], ◌∷◌}
+use lib.ListN.{length}
+use lib.Seq.{length-take-le}
+use borrow.Author.Tests.{ne_eqb}
+use borrow.Author.Rules.{rules}
+use native.Mathlib.Omega.{arith}
+use Rattle.lines.proofs.LineLaws.{byte_full, byte_added}
+use Rattle.lines.specs.declared.Line.{Line}
+use Rattle.lines.specs.Line.{line_of, hex_byte, shown_byte}
+use Rattle.lines.proofs.Line.add_byte.Goals as goal
+
+-- how much the line holds
+size_of : (line : Line) → length line.text ≡ 8192 → length (line_of line) ≡ line.length
+unfolding line_of
+size_of line size = length-take-le line.length line.text (omega (arith, line.in_room, size))
+
+pub returns-then-self-gt-NAME_ROOM : goal.returns-then-self-gt-NAME_ROOM
+returns-then-self-gt-NAME_ROOM c =
+    byte_full _ c.args.byte (omega (arith, size_of c.args.self (search rules), c.if-self-gt-NAME_ROOM.true))
+
+pub returns-then-is_control : goal.returns-then-is_control
+unfolding shown_byte
+returns-then-is_control c =
+    let shown : 92 ∷ 120 ∷ hex_byte c.args.byte ≡ shown_byte c.args.byte = rw (sym c.is_control.ensures ∙ c.if-is_control.true) in
+    c.add.ensures
+    ∙ byte_added _ _ c.args.byte (omega (arith, size_of c.args.self (search rules), c.if-self-gt-NAME_ROOM.false)) (c.escape.ensures ∙ shown)
+
+pub returns-then-byte-eq92 : goal.returns-then-byte-eq92
+unfolding shown_byte
+returns-then-byte-eq92 c =
+    let shown : 92 ∷ 92 ∷ [] ≡ shown_byte c.args.byte = rw c.if-byte-eq92.true in
+    c.add-then-byte-eq92.ensures
+    ∙ byte_added _ _ c.args.byte (omega (arith, size_of c.args.self (search rules), c.if-self-gt-NAME_ROOM.false)) shown
+
+pub returns-else-byte-eq92 : goal.returns-else-byte-eq92
+unfolding shown_byte
+returns-else-byte-eq92 c =
+    let shown : c.args.byte ∷ [] ≡ shown_byte c.args.byte =
+    rw (sym c.is_control.ensures ∙ c.if-is_control.false, ne_eqb _ 92 c.if-byte-eq92.false) in
+    c.add-else-byte-eq92.ensures
+    ∙ byte_added _ _ c.args.byte (omega (arith, size_of c.args.self (search rules), c.if-self-gt-NAME_ROOM.false)) shown

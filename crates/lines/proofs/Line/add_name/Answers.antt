@@ -1,0 +1,14 @@
+-- Byte by byte.
+use mathlib.Core.Path.{sym, ◌∙◌}
+use Rattle.lines.specs.Line.{line_of}
+use Rattle.lines.proofs.LineLaws.{name-turn, name-end}
+use Rattle.lines.proofs.Line.add_name.Goals as goal
+
+pub loop-byte-preserved : goal.loop-byte-preserved
+loop-byte-preserved c =
+    let l = c.loop-byte in
+    rw c.add_byte-line.ensures (sym (name-turn (line_of l.line) c.args.name.now l.byte-index c.loop-byte-test.true) ∙ l.invariant)
+
+pub returns : goal.returns
+returns c =
+    let l = c.loop-byte in sym (name-end (line_of l.line) c.args.name.now l.byte-index c.loop-byte-test.false) ∙ l.invariant

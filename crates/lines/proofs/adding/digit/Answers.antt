@@ -1,9 +1,0 @@
--- `lines::adding::digit` meets its contract.
-use borrow.Author.Tests.{lt-ltb, le-ltb}
-use Rattle.lines.proofs.adding.digit.Goals as goal
-
-pub returns-then-d-lt10 : goal.returns-then-d-lt10
-returns-then-d-lt10 c = rw (lt-ltb _ 10 c.if-d-lt10.true)
-
-pub returns : goal.returns
-returns c = rw (le-ltb _ 10 c.if-d-lt10.false)

@@ -1,2 +1,0 @@
--- LEFT: slice-aggregate-write-all : tie.Need-slice-aggregate-write-all
--- slice-aggregate-write-all c = sym (length-take-le _ _ (omega arith))
