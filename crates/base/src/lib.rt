@@ -41,8 +41,10 @@ pub fn put(dst: &mut [u8], at: usize, src: &[u8])
     requires { at + length src.now ≤ length dst.old }
     ensures { dst.new ≡ written dst.old at src.now }
 {
-    let end = at + src.len();
-    dst[at..end].copy_from_slice(src);
+    // Not copy_from_slice: it calls memmove, and the library for C needs no such name from outside.
+    for i in 0..src.len() {
+        dst[at + i] = src[i];
+    }
 }
 
 // A number in eight bytes, highest first.

@@ -1,0 +1,7 @@
+-- The first i bytes are copied.
+use mathlib.Core.Path.{◌≡◌}
+use lib.Seq.{paste}
+use Rattle.base.proofs.put.Given as goal
+
+abbrev pub invariant-loop-i : goal.invariant-loop-i
+invariant-loop-i l = l.dst ≡ paste l.initial.dst l.at l.src l.i
