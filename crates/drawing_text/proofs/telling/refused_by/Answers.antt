@@ -1,8 +1,8 @@
--- `drawing_text::telling::refused` meets its contract.
+-- `drawing_text::telling::refused_by` meets its contract.
 use Rattle.std.proofs.Common.{◌∙◌}
 use Rattle.lines.specs.Texts.{rejected_text}
 use Rattle.drawing_text.proofs.TellingLaws.{refusal-told}
-use Rattle.drawing_text.proofs.telling.refused.Goals as goal
+use Rattle.drawing_text.proofs.telling.refused_by.Goals as goal
 
 pub returns : goal.returns
 returns c =
