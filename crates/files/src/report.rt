@@ -45,7 +45,7 @@ fn take_portion(from: Stream<'_>, hash: &mut Hash, space: &mut [u8]) -> io::Resu
 
 // All is hashed if the last read gave nothing and did not fail.
 fn is_all(given: io::Result<usize>) -> bool
-    ensures { IsTrue result ↔ given ≡ Ok 0 }
+    ensures { IsTrue result ↔ (given ≡ Ok 0) }
 {
     match given {
         Ok(size) => size == 0,
