@@ -7,4 +7,4 @@ use Rattle.lines.proofs.Line.as_bytes.Goals as goal
 
 pub returns-clause-value : goal.returns-clause-value
 unfolding line_of
-returns-clause-value c = held _ _ _ (search rules) (omega (arith, c.min-end.ensures))
+returns-clause-value c = held c.args.self.now.text c.args.self.now.length _ (search rules) (omega (arith, c.min-end.ensures))
