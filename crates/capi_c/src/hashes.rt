@@ -1,6 +1,7 @@
 // SHA-256, in portions and in one call.
 ghost use Rattle.std.specs.Prelude.{◌≡◌};
-ghost use Rattle.sha256.specs.Portions.{new_hash, update_row, update_state, finish_row, finish_blocks, finish_digest, digest_row, digest_blocks, digest_answer};
+ghost use Rattle.sha256.specs.Portions.{new_hash, update_row, update_state, finish_row, finish_blocks, finish_digest, finish_state};
+ghost use Rattle.sha256.specs.Portions.{digest_row, digest_blocks, digest_answer};
 
 use capi::{HashDigest, HashFinished, HashUpdated};
 use sha256::Hash;
@@ -29,6 +30,7 @@ pub extern "C" fn mastdock_hash_finish(hash: Hash) -> HashFinished
     ensures blocks_value { result.blocks ≡ finish_blocks hash }
     ensures digest_value { result.digest ≡ finish_digest hash }
     ensures hash_value { result.hash ≡ hash }
+    ensures state_value { result.hash ≡ finish_state hash }
 {
     capi::mastdock_hash_finish(hash)
 }

@@ -6,10 +6,12 @@ use native.Mathlib.Omega.{arith}
 use mathlib.Core.Bool.{true}
 use mathlib.Core.List.{List, [], ◌∷◌, ◌++◌, append-nil}
 use borrow.Author.Tests.{lt-ltb}
-use lib.ListN.{length, take, set}
-use lib.Seq.{take-suc-set, append_snoc}
+use lib.ListN.{length, take, drop, set}
+use lib.Seq.{take-suc-set, append_snoc, drop-set-lt, drop-drop}
 use Rattle.base.specs.Choice.{every}
-use Rattle.base.specs.Limits.{max_depth}
+use Rattle.base.specs.Limits.{max_depth, max_challenges}
+use Rattle.base.specs.Bytes.{zeros}
+use Rattle.base.proofs.Zeros.{drop-zeros}
 use Rattle.chain_theory.specs.Planning.{is_leaf}
 use Rattle.chain_theory.proofs.Lists.{every-both}
 use Rattle.file_head.specs.Challenge.{challenge_leaf}
@@ -53,3 +55,15 @@ module _ (edition n : ℕ) (statement root : List ℕ) where
     leaves_all leaves i all e =
         let none : count - i ≡ 0 = omega arith in
         sym (append-nil (take count leaves)) ∙ (rw (none, all) at e)
+
+-- the places behind them stay zero
+pub zeros-more :
+    (leaves : List ℕ) (i leaf : ℕ) → i < max_challenges → drop i leaves ≡ zeros (max_challenges - i)
+    → drop (i + 1) (set leaves i leaf) ≡ zeros (max_challenges - (i + 1))
+zeros-more leaves i leaf h before =
+    let e : max_challenges - i - 1 ≡ max_challenges - (i + 1) = omega arith in
+    drop-set-lt (i + 1) leaves i leaf (omega arith)
+    ∙ sym (drop-drop 1 i leaves)
+    ∙ ap (λ (l : List ℕ). drop 1 l) before
+    ∙ drop-zeros (max_challenges - i) 1 (omega arith)
+    ∙ ap zeros e

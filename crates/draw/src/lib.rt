@@ -5,7 +5,7 @@ mod leaves; // leaves.rt: the leaves opened
 mod whole; // whole.rt: the chain or the clash
 
 use compare::Clash;
-pub use leaves::opened_leaves;
+pub use leaves::{challenge_leaves, opened_leaves};
 pub use whole::draw;
 
 // A chain, with its count of nodes, or the first pair of openings that disagrees, with both inputs.

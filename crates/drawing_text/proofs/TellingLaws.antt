@@ -1,5 +1,5 @@
 -- What is told of a drawing: its lines, their lengths, and one law for each return.
-use mathlib.Core.Path.{◌≡◌, refl}
+use mathlib.Core.Path.{◌≡◌, refl, sym, ap}
 use Prim.Native.Nat.{ℕ, ◌+◌, ◌*◌, ◌≤◌}
 use Prim.Native.String.{String}
 use native.Mathlib.Omega.{arith}
@@ -29,6 +29,43 @@ use Rattle.drawing_text.specs.Differ.{differ_text}
 use Rattle.drawing_text.specs.Verdict.{why_text, refusal_text, clash_lines, edition_text, wanted_text, no_chain_text, judged_text, verdict_text}
 use Rattle.drawing_text.proofs.TwoLines.{two}
 use Rattle.drawing_text.proofs.DifferLaws.{differ-short}
+
+-- a number and the refusal that is told as it is: the words, and whether what differs tells it
+pub told-known : (number k : ℕ) → number ≡ k → (words_for k plain_table ≡ words_for number plain_table) × (eqb k 9 ≡ eqb number 9)
+told-known number k e = rw e (refl, refl)
+
+pub words-other :
+    (number : ℕ) (line : List ℕ) → (number ≡ 1 → ⊥) → (number ≡ 8 → ⊥) → (number ≡ 10 → ⊥) → (number ≡ 11 → ⊥) → (number ≡ 12 → ⊥)
+    → (number ≡ 13 → ⊥) → (number ≡ 14 → ⊥) → (number ≡ 15 → ⊥)
+    → line ≡ ascii "the proof is refused\n" → line ≡ words_for number plain_table
+words-other number line a b c d e f g h l =
+    rw (
+      ne_eqb number 1 a,
+      ne_eqb number 8 b,
+      ne_eqb number 10 c,
+      ne_eqb number 11 d,
+      ne_eqb number 12 e,
+      ne_eqb number 13 f,
+      ne_eqb number 14 g,
+      ne_eqb number 15 h,
+    )
+    l
+
+pub told-other :
+    (number : ℕ) → (number ≡ 1 → ⊥) → (number ≡ 8 → ⊥) → (number ≡ 9 → ⊥) → (number ≡ 10 → ⊥) → (number ≡ 11 → ⊥) → (number ≡ 12 → ⊥)
+    → (number ≡ 13 → ⊥) → (number ≡ 14 → ⊥) → (number ≡ 15 → ⊥)
+    → (words_for 17 plain_table ≡ words_for number plain_table) × (eqb 17 9 ≡ eqb number 9)
+told-other number a b i c d e f g h = (words-other number (ascii "the proof is refused\n") a b c d e f g h refl, sym (ne_eqb number 9 i))
+
+pub plain-same : (number told size : ℕ) → words_for told plain_table ≡ words_for number plain_table → plain_text told size ≡ plain_text number size
+unfolding plain_text
+plain-same number told size e = ap (λ (w : List ℕ). pick (eqb size 0) (ascii "the proof file is empty\n") w) e
+
+pub why-same :
+    (number told size : ℕ) (found : Found) (n t : ℕ) → words_for told plain_table ≡ words_for number plain_table → eqb told 9 ≡ eqb number 9
+    → why_text told size found n t ≡ why_text number size found n t
+unfolding why_text
+why-same number told size found n t e f = λ i. pick (f i) (differ_text found n t) (plain-same number told size e i)
 
 short_table : List (ℕ × String) → Bool
 short_table [] = true

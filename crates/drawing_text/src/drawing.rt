@@ -9,7 +9,7 @@ ghost use Rattle.drawing_text.specs.Heads.{found_of};
 ghost use Rattle.drawing_text.specs.Text.{chain_text, ChainIn};
 
 use crate::heads::found_in;
-use crate::telling::{clash_lines, refused};
+use crate::telling::{clash_lines, refused_by};
 use base::{MAX_LEAVES, Rejection, put};
 use draw::{Drawing, opened_leaves};
 use file_head::read_head;
@@ -67,7 +67,10 @@ pub fn put_drawing(
         Ok(Drawing::Clash(clash)) => put_line(&clash_lines(clash), out),
         Err(rejection) => {
             let found = found_in(file, statement);
-            put_line(&refused(*rejection, file.len(), found, depth, count), out)
+            put_line(
+                &refused_by(*rejection, file.len(), found, depth, count),
+                out,
+            )
         }
     }
 }

@@ -5,7 +5,7 @@ ghost use Rattle.file_head.specs.Head.{numbers};
 ghost use Rattle.lines.specs.Line.{line_of};
 ghost use Rattle.drawing_text.specs.Info.{size_row, shape_refusal, numbers_text, labels_text, rest_text, known_from, known_text, end_text, info_text};
 
-use crate::sentences::plain;
+use crate::sentences::plain_refusal;
 use base::{Refusal, label_at, number};
 use file_head::{Head, read_head};
 use lines::{Line, fact, fact_bytes, rejected};
@@ -86,7 +86,7 @@ fn end_lines(shape: Result<(), Refusal>, size: usize) -> Line
 {
     match shape {
         Ok(()) => Line::new(),
-        Err(why) => plain(why, size).add_line(&rejected(number(why), 0)),
+        Err(why) => plain_refusal(why, size).add_line(&rejected(number(why), 0)),
     }
 }
 

@@ -12,9 +12,9 @@ mod telling; // telling.rt: the lines of a drawing
 pub use drawing::{put_chain, put_drawing};
 pub use facts::{check_shape, info};
 pub use heads::{found_in, larger};
-pub use sentences::plain;
+pub use sentences::{plain, plain_refusal};
 pub use status::{chain_status, info_status, verdict_status};
-pub use telling::{clash_lines, refused, verdict};
+pub use telling::{clash_lines, refused, refused_by, verdict};
 
 // Zeros where the head cannot be read: so `wanted_text` and `found_of` of specs/ say it, which tell such a file by its refusal alone.
 // What a file's head says: edition, depth and count, each 0 if it cannot be read, and whether the statement behind them is the report's.

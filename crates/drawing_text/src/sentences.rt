@@ -1,5 +1,5 @@
 // A refusal in plain words.
-ghost use Rattle.std.specs.Prelude.{◌≡◌, ◌≤◌, length};
+ghost use Rattle.std.specs.Prelude.{◌≡◌, ◌≤◌, eqb, length};
 ghost use Rattle.base.specs.Number.{number_of};
 ghost use Rattle.lines.specs.Line.{line_of};
 ghost use Rattle.drawing_text.specs.Plain.{words_for, plain_table, plain_text};
@@ -36,13 +36,39 @@ fn words_for(why: Refusal) -> Line
     }
 }
 
+// A refusal that is told as a number is: by words of its own, or by what differs. Any other number is told as `Input` is, by neither.
+pub fn told_as(number: u64) -> Refusal
+    ensures words { words_for (number_of result) plain_table ≡ words_for number plain_table }
+    ensures differs { eqb (number_of result) 9 ≡ eqb number 9 }
+{
+    match number {
+        1 => Refusal::Depth,
+        8 => Refusal::Count,
+        9 => Refusal::NotWanted,
+        10 => Refusal::BytesEnd,
+        11 => Refusal::NotShortest,
+        12 => Refusal::Edition,
+        13 => Refusal::BytesLeft,
+        14 => Refusal::LeafLabel,
+        15 => Refusal::Root,
+        _ => Refusal::Input,
+    }
+}
+
 // Of a file with so many bytes.
 #[tactic(auto, unfolding(crate::specs::Plain::plain_text))]
-pub fn plain(why: Refusal, size: usize) -> Line
+pub fn plain_refusal(why: Refusal, size: usize) -> Line
     ensures { line_of result ≡ plain_text (number_of why) size }
 {
     if size == 0 {
         return sentence(b"the proof file is empty\n");
     }
     words_for(why)
+}
+
+// The same, by document 01's number, or any other.
+pub fn plain(number: u64, size: usize) -> Line
+    ensures { line_of result ≡ plain_text number size }
+{
+    plain_refusal(told_as(number), size)
 }

@@ -6,7 +6,7 @@ ghost use Rattle.drawing_text.specs.Verdict.{why_text, refusal_text, edition_tex
 
 use crate::Found;
 use crate::differing::differ;
-use crate::sentences::{plain, sentence};
+use crate::sentences::{plain_refusal, sentence, told_as};
 use base::{Refusal, Rejection, number};
 use compare::Clash;
 use draw::Drawing;
@@ -19,17 +19,24 @@ fn why_refused(why: Refusal, size: usize, found: Found, depth: u64, count: u64) 
 {
     match why {
         Refusal::NotWanted => differ(found, depth, count),
-        _ => plain(why, size),
+        _ => plain_refusal(why, size),
     }
 }
 
 // A refusal: why, then its line.
-pub fn refused(rejection: Rejection, size: usize, found: Found, depth: u64, count: u64) -> Line
+pub fn refused_by(rejection: Rejection, size: usize, found: Found, depth: u64, count: u64) -> Line
     ensures { line_of result ≡ refusal_text (number_of rejection.refusal) rejection.opening size found depth count }
 {
     let refusal = number(rejection.refusal);
     let opening = u64::from(rejection.opening);
     why_refused(rejection.refusal, size, found, depth, count).add_line(&rejected(refusal, opening))
+}
+
+// The same, by document 01's number, or any other, and the opening's.
+pub fn refused(number: u64, opening: u64, size: usize, found: Found, depth: u64, count: u64) -> Line
+    ensures { line_of result ≡ refusal_text number opening size found depth count }
+{
+    why_refused(told_as(number), size, found, depth, count).add_line(&rejected(number, opening))
 }
 
 // The edition by which a file was accepted; nothing of one that is refused.
@@ -84,7 +91,7 @@ fn judged(
     match *drawing {
         Ok(Drawing::Chain(nodes)) => accepted(depth, count, nodes),
         Ok(Drawing::Clash(_)) => no_chain(depth, count),
-        Err(rejection) => refused(rejection, size, found, depth, count),
+        Err(rejection) => refused_by(rejection, size, found, depth, count),
     }
 }
 

@@ -1,5 +1,5 @@
 // The report's statement, hashed in portions.
-ghost use Rattle.std.specs.Prelude.{◌≡◌, take, IfOk, OnErr};
+ghost use Rattle.std.specs.Prelude.{◌≡◌, ◌↔◌, IsTrue, take, IfOk, OnErr};
 ghost use Rattle.base.specs.Number.{outcome_number};
 ghost use Rattle.sha256.specs.Portions.{update_row, update_state, finish_row, finish_digest};
 
@@ -19,10 +19,10 @@ pub struct Stated {
     pub statement: [u8; 32],
 }
 
-// The hash of all that was read, and how many bytes the last read gave.
+// The hash of all that was read, and the answer of the last portion.
 #[derive(Clone, Copy)]
 struct Taken {
-    last: usize,
+    last: io::Result<usize>,
     hash: Hash,
 }
 
@@ -43,17 +43,28 @@ fn take_portion(from: Stream<'_>, hash: &mut Hash, space: &mut [u8]) -> io::Resu
     }
 }
 
-// Hashes until a read gives nothing, in at most 2^64 − 1 portions.
+// All is hashed if the last read gave nothing and did not fail.
+fn is_all(given: io::Result<usize>) -> bool
+    ensures { IsTrue result ↔ (given ≡ Ok 0) }
+{
+    match given {
+        Ok(size) => size == 0,
+        Err(_) => false,
+    }
+}
+
+// Hashes until a read gives nothing, in at most 2^64 − 1 portions; good only if that read found the end.
 fn take_all(from: Stream<'_>) -> io::Result<Taken>
-    ensures { IfOk result (λ taken. taken.last ≡ 0) }
+    ensures { IfOk result (λ taken. taken.last ≡ Ok 0) }
 {
     let mut space = [0u8; 65536];
     let mut hash = Hash::new();
     for _ in 0..u64::MAX {
-        let last = take_portion(from, &mut hash, &mut space)?;
-        if last == 0 {
+        let last = take_portion(from, &mut hash, &mut space);
+        if is_all(last) {
             return Ok(Taken { last, hash });
         }
+        last?;
     }
     Err(too_large())
 }

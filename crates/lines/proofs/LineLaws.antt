@@ -1,16 +1,18 @@
 -- Parts added one after the other.
 use mathlib.Core.Path.{◌≡◌, refl, sym, ap, ◌∙◌}
-use Prim.Native.Nat.{ℕ, ◌+◌, ◌*◌, ◌-◌, ◌/◌, ◌%◌, ◌≤◌, ◌<◌}
+use Prim.Native.Nat.{ℕ, ◌+◌, ◌*◌, ◌-◌, ◌/◌, ◌%◌, ◌≤◌, ◌<◌, min}
 use native.Mathlib.Numerals.{add-one}
 use native.Mathlib.Omega.{arith}
 use mathlib.Core.Bool.{Bool, true, false}
+use mathlib.Core.Logic.{◌⊎◌, inl, inr}
 use mathlib.Core.List.{List, [], ◌∷◌, ◌++◌, append_assoc, append-nil}
-use lib.Dec.{ltb}
+use lib.Dec.{ltb, leb}
 use lib.ListN.{length, get_or, take, drop, length-append, drop_of_length-le}
-use lib.Seq.{take_at, drop-cons, length-take-le}
+use lib.Seq.{take_at, take_all, drop-cons, length-take-le}
 use borrow.Author.Tests.{le-leb, lt-leb}
 use Rattle.base.specs.Choice.{pick}
 use Rattle.base.specs.Bytes.{written}
+use Rattle.base.proofs.ChoiceLaws.{lt-or-le}
 use Rattle.decimal.specs.Ascii.{ascii}
 use Rattle.decimal.specs.Text.{decimal, field}
 use Rattle.decimal.proofs.Laying.{decimal-short}
@@ -32,11 +34,31 @@ laid text part after at l h k e =
     (length-append (take at text) part ∙ ap (λ (k : ℕ). k + length part) n))
 
 -- what does not fit changes nothing
+pub laid_none : (text part : List ℕ) (at : ℕ) → length text ≡ 8192 → 8192 < at → take at text ≡ added (take at text) part
+unfolding added
+laid_none text [] at l h = go (leb (length (take at text) + length {A = ℕ} []) 8192)
+  where
+    go : (t : Bool) → take at text ≡ pick t (take at text ++ []) (take at text)
+    go true = sym (append-nil (take at text))
+    go false = refl
+laid_none text (b ∷ part) at l h =
+    let whole : take at text ≡ text = take_all at text (omega arith) in
+    let size : length (take at text) ≡ 8192 = ap length whole ∙ l in
+    rw (lt-leb (length (take at text) + length (b ∷ part)) 8192 (omega arith))
+
 pub laid-full : (text part : List ℕ) (at : ℕ) → length text ≡ 8192 → at ≤ 8192 → 8192 - at < length part → take at text ≡ added (take at text) part
 unfolding added
 laid-full text part at l h k =
     let n : length (take at text) ≡ at = length-take-le at text (omega arith) in
     rw (lt-leb (length (take at text) + length part) 8192 (omega arith))
+
+-- what the line holds, however large its length is
+pub held : (text : List ℕ) (at end : ℕ) → length text ≡ 8192 → end ≡ min at 8192 → take end text ≡ take at text
+held text at end l e = go (lt-or-le 8192 at)
+  where
+    go : (8192 < at) ⊎ (at ≤ 8192) → take end text ≡ take at text
+    go (inl over) = take_all end text (omega arith) ∙ sym (take_all at text (omega arith))
+    go (inr within) = let same : end ≡ at = omega arith in ap (λ (k : ℕ). take k text) same
 
 -- hexadecimal
 pub hex-turn :

@@ -21,13 +21,14 @@ impl Line {
         }
     }
 
-    // What the line holds so far.
+    // What the line holds so far: all its text where its length is over it.
     #[tactic(auto, unfolding(crate::specs::Line::line_of))]
     pub fn as_bytes(&self) -> &[u8]
         ensures value { result.now ≡ line_of self.now }
         ensures bound { length result.now ≤ 8192 }
     {
-        &self.text[..self.length]
+        let end = self.length.min(ROOM);
+        &self.text[..end]
     }
 
     // A part after the line, or nothing where it does not fit.
@@ -35,6 +36,9 @@ impl Line {
         ensures { line_of result ≡ added (line_of self) part.now }
     {
         let at = self.length;
+        if ROOM < at {
+            return self;
+        }
         if ROOM - at < part.len() {
             return self;
         }

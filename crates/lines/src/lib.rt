@@ -1,8 +1,6 @@
 // Lines of text, built in a place of 8,192 bytes and written in one piece.
 #![tactic(auto)]
 
-ghost use Rattle.std.specs.Prelude.{◌≤◌};
-
 mod adding; // adding.rt: a line under way
 mod errors; // errors.rt: the system's errors in words
 mod saying; // saying.rt: lines to a stream
@@ -20,7 +18,6 @@ const ROOM: usize = 8192;
 // said of a failure must need no memory. Nor is it a text: a path that it shows need not be UTF-8.
 #[derive(Clone, Copy)]
 pub struct Line {
-    text: [u8; ROOM],
-    length: usize,
-    ghost in_room: { length ≤ 8192 },
+    pub text: [u8; ROOM],
+    pub length: usize,
 }

@@ -2,13 +2,16 @@
 ghost use Rattle.std.specs.Prelude.{MatchResult, ◌≡◌};
 ghost use Rattle.std.specs.declared.option.Option.TheVariants.{Some, None};
 
-use crate::Line;
 use crate::errors::in_words;
+use crate::{Line, ROOM};
 use descriptors::{Stream, write_all};
 use std::io;
 
-// Writes a line, or tells why it was not written whole.
+// Writes a line, or tells why it was not written whole. One whose length is over its room is not written.
 pub fn write_line(to: Stream<'_>, line: &Line) -> io::Result<()> {
+    if ROOM < line.length {
+        return Err(io::Error::from(io::ErrorKind::InvalidInput));
+    }
     write_all(to, line.as_bytes())
 }
 

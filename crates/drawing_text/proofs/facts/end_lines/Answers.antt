@@ -10,5 +10,5 @@ returns-in-Ok c = rw c.in-Ok.is (end_none 0 c.args.size _ refl c.new.ensures)
 
 pub returns-in-Err : goal.returns-in-Err
 returns-in-Err c =
-    rw c.in-Err.is (end_refused _ c.args.size (λ e. omega (arith, number-some c.in-Err.why, e)) c.add_line.ensures c.plain.ensures
+    rw c.in-Err.is (end_refused _ c.args.size (λ e. omega (arith, number-some c.in-Err.why, e)) c.add_line.ensures c.plain_refusal.ensures
     (c.rejected.ensures ∙ ap (λ k. rejected_text k 0) c.number.ensures))

@@ -1,10 +1,11 @@
 -- `drawing_text::telling::refused` meets its contract.
 use Rattle.std.proofs.Common.{◌∙◌}
-use Rattle.lines.specs.Texts.{rejected_text}
-use Rattle.drawing_text.proofs.TellingLaws.{refusal-told}
+use Rattle.drawing_text.proofs.TellingLaws.{refusal-told, why-same}
 use Rattle.drawing_text.proofs.telling.refused.Goals as goal
 
 pub returns : goal.returns
 returns c =
-    refusal-told _ _ _ _ _ _ c.add_line.ensures c.why_refused.ensures
-    (c.rejected.ensures ∙ (λ i. rejected_text (c.number-refusal.ensures i) (c.from-opening.ensures i)))
+    let a = c.args in
+    let told = c.told_as.ensures in
+    refusal-told _ _ _ _ _ _ c.add_line.ensures
+    (c.why_refused.ensures ∙ why-same a.number _ a.size a.found a.depth a.count told.words told.differs) c.rejected.ensures

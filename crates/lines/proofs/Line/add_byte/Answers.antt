@@ -1,8 +1,8 @@
 -- A byte of a name, where there is room for it.
 use mathlib.Core.Path.{◌≡◌, sym, ◌∙◌}
 use mathlib.Core.List.{[], ◌∷◌}
-use lib.ListN.{length}
-use lib.Seq.{length-take-le}
+use lib.ListN.{length, length-take}
+use Prim.Native.Nat.{◌≤◌, ◌<◌}
 use borrow.Author.Tests.{ne_eqb}
 use borrow.Author.Rules.{rules}
 use native.Mathlib.Omega.{arith}
@@ -12,27 +12,31 @@ use Rattle.lines.specs.Line.{line_of, hex_byte, shown_byte}
 use Rattle.lines.proofs.Line.add_byte.Goals as goal
 
 -- how much the line holds
-size_of : (line : Line) → length line.text ≡ 8192 → length (line_of line) ≡ line.length
+beyond : (line : Line) → length line.text ≡ 8192 → 8000 < line.length → 8000 < length (line_of line)
 unfolding line_of
-size_of line size = length-take-le line.length line.text (omega (arith, line.in_room, size))
+beyond line size h = omega (arith, length-take line.length line.text, size, h)
+
+within : (line : Line) → line.length ≤ 8000 → length (line_of line) ≤ 8000
+unfolding line_of
+within line h = omega (arith, length-take line.length line.text, h)
 
 pub returns-then-self-gt-NAME_ROOM : goal.returns-then-self-gt-NAME_ROOM
 returns-then-self-gt-NAME_ROOM c =
-    byte_full _ c.args.byte (omega (arith, size_of c.args.self (search rules), c.if-self-gt-NAME_ROOM.true))
+    byte_full _ c.args.byte (beyond c.args.self (search rules) c.if-self-gt-NAME_ROOM.true)
 
 pub returns-then-is_control : goal.returns-then-is_control
 unfolding shown_byte
 returns-then-is_control c =
     let shown : 92 ∷ 120 ∷ hex_byte c.args.byte ≡ shown_byte c.args.byte = rw (sym c.is_control.ensures ∙ c.if-is_control.true) in
     c.add.ensures
-    ∙ byte_added _ _ c.args.byte (omega (arith, size_of c.args.self (search rules), c.if-self-gt-NAME_ROOM.false)) (c.escape.ensures ∙ shown)
+    ∙ byte_added _ _ c.args.byte (within c.args.self c.if-self-gt-NAME_ROOM.false) (c.escape.ensures ∙ shown)
 
 pub returns-then-byte-eq92 : goal.returns-then-byte-eq92
 unfolding shown_byte
 returns-then-byte-eq92 c =
     let shown : 92 ∷ 92 ∷ [] ≡ shown_byte c.args.byte = rw c.if-byte-eq92.true in
     c.add-then-byte-eq92.ensures
-    ∙ byte_added _ _ c.args.byte (omega (arith, size_of c.args.self (search rules), c.if-self-gt-NAME_ROOM.false)) shown
+    ∙ byte_added _ _ c.args.byte (within c.args.self c.if-self-gt-NAME_ROOM.false) shown
 
 pub returns-else-byte-eq92 : goal.returns-else-byte-eq92
 unfolding shown_byte
@@ -40,4 +44,4 @@ returns-else-byte-eq92 c =
     let shown : c.args.byte ∷ [] ≡ shown_byte c.args.byte =
     rw (sym c.is_control.ensures ∙ c.if-is_control.false, ne_eqb _ 92 c.if-byte-eq92.false) in
     c.add-else-byte-eq92.ensures
-    ∙ byte_added _ _ c.args.byte (omega (arith, size_of c.args.self (search rules), c.if-self-gt-NAME_ROOM.false)) shown
+    ∙ byte_added _ _ c.args.byte (within c.args.self c.if-self-gt-NAME_ROOM.false) shown
