@@ -31,19 +31,26 @@ impl Line {
         &self.text[..end]
     }
 
-    // A part after the line, or nothing where it does not fit.
-    pub fn add(mut self, part: &[u8]) -> Line
-        ensures { line_of result ≡ added (line_of self) part.now }
+    // A part after the line, in its place, or nothing where it does not fit.
+    fn push(&mut self, part: &[u8])
+        ensures { line_of self.new ≡ added (line_of self.old) part.now }
     {
         let at = self.length;
         if ROOM < at {
-            return self;
+            return;
         }
         if ROOM - at < part.len() {
-            return self;
+            return;
         }
         put(&mut self.text, at, part);
         self.length = at + part.len();
+    }
+
+    // The same, of a line that is handed on.
+    pub fn add(mut self, part: &[u8]) -> Line
+        ensures { line_of result ≡ added (line_of self) part.now }
+    {
+        self.push(part);
         self
     }
 
@@ -75,23 +82,24 @@ impl Line {
     {
         let mut line = self;
         for byte in bytes {
-            line = line.add(&hex_byte(*byte));
+            line.push(&hex_byte(*byte));
         }
         line
     }
 
     // A byte of a name, shown so that no terminal obeys it.
-    fn add_byte(self, byte: u8) -> Line
-        ensures { line_of result ≡ added_byte (line_of self) byte }
+    fn push_byte(&mut self, byte: u8)
+        ensures { line_of self.new ≡ added_byte (line_of self.old) byte }
     {
         if NAME_ROOM < self.length {
-            self
-        } else if is_control(byte) {
-            self.add(&escape(byte))
+            return;
+        }
+        if is_control(byte) {
+            self.push(&escape(byte));
         } else if byte == b'\\' {
-            self.add(b"\\\\")
+            self.push(b"\\\\");
         } else {
-            self.add(&[byte])
+            self.push(&[byte]);
         }
     }
 
@@ -101,7 +109,7 @@ impl Line {
     {
         let mut line = self;
         for byte in name {
-            line = line.add_byte(*byte);
+            line.push_byte(*byte);
         }
         line
     }

@@ -29,7 +29,7 @@ loop-label-preserved c =
     let same : c.label_at-one.result ≡ c.in-Some.label.now = c.label_at-one.ensures ∙ take_all 32 c.in-Some.label.now (omega (arith, size)) in (
       omega (arith, s.0, c.loop-label.invariant.0),
       one-written _ _ _ _ _ _ _ _ _ w s.1.0 size c.requires.0 c.requires.1
-      (c.put.ensures ∙ ap (written c.loop-label.dst c.loop-label.to) same) (omega arith),
+          (c.put.ensures ∙ ap (written c.loop-label.dst c.loop-label.to) same) (omega arith),
     )
 
 pub returns : goal.returns

@@ -7,7 +7,7 @@ use Rattle.lines.proofs.Line.add_hex.Goals as goal
 pub loop-byte-preserved : goal.loop-byte-preserved
 loop-byte-preserved c =
     let l = c.loop-byte in
-    rw (c.add-line.ensures, c.hex_byte.ensures)
+    rw (c.push.ensures, c.hex_byte.ensures)
     (sym (hex-turn (line_of l.line) c.args.bytes.now l.byte-index c.loop-byte-test.true) ∙ l.invariant)
 
 pub returns : goal.returns

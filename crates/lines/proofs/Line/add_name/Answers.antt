@@ -7,7 +7,7 @@ use Rattle.lines.proofs.Line.add_name.Goals as goal
 pub loop-byte-preserved : goal.loop-byte-preserved
 loop-byte-preserved c =
     let l = c.loop-byte in
-    rw c.add_byte-line.ensures (sym (name-turn (line_of l.line) c.args.name.now l.byte-index c.loop-byte-test.true) ∙ l.invariant)
+    rw c.push_byte.ensures (sym (name-turn (line_of l.line) c.args.name.now l.byte-index c.loop-byte-test.true) ∙ l.invariant)
 
 pub returns : goal.returns
 returns c =

@@ -9,7 +9,7 @@ use native.Mathlib.Omega.{arith}
 use Rattle.lines.proofs.LineLaws.{byte_full, byte_added}
 use Rattle.lines.specs.declared.Line.{Line}
 use Rattle.lines.specs.Line.{line_of, hex_byte, shown_byte}
-use Rattle.lines.proofs.Line.add_byte.Goals as goal
+use Rattle.lines.proofs.Line.push_byte.Goals as goal
 
 -- how much the line holds
 beyond : (line : Line) → length line.text ≡ 8192 → 8000 < line.length → 8000 < length (line_of line)
@@ -22,26 +22,26 @@ within line h = omega (arith, length-take line.length line.text, h)
 
 pub returns-then-self-gt-NAME_ROOM : goal.returns-then-self-gt-NAME_ROOM
 returns-then-self-gt-NAME_ROOM c =
-    byte_full _ c.args.byte (beyond c.args.self (search rules) c.if-self-gt-NAME_ROOM.true)
+    byte_full _ c.args.byte (beyond c.args.self.now (search rules) c.if-self-gt-NAME_ROOM.true)
 
 pub returns-then-is_control : goal.returns-then-is_control
 unfolding shown_byte
 returns-then-is_control c =
     let shown : 92 ∷ 120 ∷ hex_byte c.args.byte ≡ shown_byte c.args.byte = rw (sym c.is_control.ensures ∙ c.if-is_control.true) in
-    c.add.ensures
-    ∙ byte_added _ _ c.args.byte (within c.args.self c.if-self-gt-NAME_ROOM.false) (c.escape.ensures ∙ shown)
+    c.push.ensures
+    ∙ byte_added _ _ c.args.byte (within c.args.self.now c.if-self-gt-NAME_ROOM.false) (c.escape.ensures ∙ shown)
 
 pub returns-then-byte-eq92 : goal.returns-then-byte-eq92
 unfolding shown_byte
 returns-then-byte-eq92 c =
     let shown : 92 ∷ 92 ∷ [] ≡ shown_byte c.args.byte = rw c.if-byte-eq92.true in
-    c.add-then-byte-eq92.ensures
-    ∙ byte_added _ _ c.args.byte (within c.args.self c.if-self-gt-NAME_ROOM.false) shown
+    c.push-then-byte-eq92.ensures
+    ∙ byte_added _ _ c.args.byte (within c.args.self.now c.if-self-gt-NAME_ROOM.false) shown
 
 pub returns-else-byte-eq92 : goal.returns-else-byte-eq92
 unfolding shown_byte
 returns-else-byte-eq92 c =
     let shown : c.args.byte ∷ [] ≡ shown_byte c.args.byte =
     rw (sym c.is_control.ensures ∙ c.if-is_control.false, ne_eqb _ 92 c.if-byte-eq92.false) in
-    c.add-else-byte-eq92.ensures
-    ∙ byte_added _ _ c.args.byte (within c.args.self c.if-self-gt-NAME_ROOM.false) shown
+    c.push-else-byte-eq92.ensures
+    ∙ byte_added _ _ c.args.byte (within c.args.self.now c.if-self-gt-NAME_ROOM.false) shown

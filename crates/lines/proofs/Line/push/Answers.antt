@@ -4,25 +4,25 @@ use lib.ListN.{length}
 use Rattle.lines.proofs.LineLaws.{laid, laid_none, laid-full}
 use Rattle.lines.specs.Line.{line_of}
 use borrow.Author.Rules.{rules}
-use Rattle.lines.proofs.Line.add.Goals as goal
+use Rattle.lines.proofs.Line.push.Goals as goal
 
 pub returns-then-at-gt-ROOM : goal.returns-then-at-gt-ROOM
 unfolding line_of
 returns-then-at-gt-ROOM c =
-    let line = c.args.self in
+    let line = c.args.self.now in
     let size : length line.text ≡ 8192 = search rules in
     laid_none line.text c.args.part.now line.length size c.if-at-gt-ROOM.true
 
 pub returns-then-at-part : goal.returns-then-at-part
 unfolding line_of
 returns-then-at-part c =
-    let line = c.args.self in
+    let line = c.args.self.now in
     let size : length line.text ≡ 8192 = search rules in
     laid-full line.text c.args.part.now line.length size c.if-at-gt-ROOM.false c.if-at-part.true
 
 pub returns : goal.returns
 unfolding line_of
 returns c =
-    let line = c.args.self in
+    let line = c.args.self.now in
     let size : length line.text ≡ 8192 = search rules in
     laid line.text c.args.part.now _ line.length size c.if-at-gt-ROOM.false c.if-at-part.false c.put.ensures
