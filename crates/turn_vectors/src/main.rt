@@ -14,5 +14,7 @@ fn main(rt: HostRuntime) {
     let to = rt.stdout();
     let mut text = [0u8; 65536];
     let size = read_whole(Stream::Input(rt.stdin()), &mut text).size;
-    let _ = each_vector(&text[..size], |line| line_calls(to, line));
+    each_vector(&text[..size], |line| {
+        let _ = line_calls(to, line);
+    });
 }

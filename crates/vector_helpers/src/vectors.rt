@@ -4,7 +4,6 @@ ghost use Rattle.base.specs.Bytes.{zeros, written};
 ghost use Rattle.vector_helpers.specs.Text.{end_from, is_comment, field_of, digit_value, spelled, decimal_from};
 
 use std::alloc::{AllocError, Global};
-use std::io;
 
 // The value of a hexadecimal digit.
 fn digit(byte: u8) -> u8
@@ -100,13 +99,12 @@ pub fn decimal(text: &[u8]) -> u64
 }
 
 // Does something with every line that has a vector.
-pub fn each_vector<F: FnMut(&[u8]) -> io::Result<()>>(text: &[u8], mut visit: F) -> io::Result<()>
+pub fn each_vector<F: FnMut(&[u8])>(text: &[u8], mut visit: F)
     requires { F.IsAlwaysCallable visit }
 {
     for line in text.split(|byte| *byte == b'\n') {
         if !is_comment(line) {
-            visit(line)?;
+            visit(line);
         }
     }
-    Ok(())
 }
