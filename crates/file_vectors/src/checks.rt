@@ -20,6 +20,14 @@ pub fn checked(to: Stdout, line: &[u8]) -> io::Result<()> {
     )
 }
 
+// The answer to so many of the bytes as a file of one opening of depth 1.
+fn front_answer(to: Stdout, bytes: &[u8], size: usize, statement: [u8; 32]) -> io::Result<()> {
+    match bytes.get(..size) {
+        Some(file) => answer(to, file, statement),
+        None => Ok(()),
+    }
+}
+
 // The answer to a file of one opening of depth 1.
 fn answer(to: Stdout, file: &[u8], statement: [u8; 32]) -> io::Result<()> {
     print!(to; " {}", check_file_code(file, statement, 1, 1))
@@ -43,14 +51,15 @@ fn every_bit(to: Stdout, file: &mut [u8], statement: [u8; 32]) -> io::Result<()>
 fn small(to: Stdout, line: &[u8]) -> io::Result<()> {
     let mut space = [0u8; 132];
     decode(field(line, 0), &mut space);
+    let mut file = [0u8; 131];
+    decode(field(line, 0), &mut file);
     let statement = digest(field(line, 1));
     print!(to; "lengths")?;
-    answer(to, &space[..131], statement)?;
-    answer(to, b"", statement)?;
-    answer(to, &space[..130], statement)?;
-    answer(to, &space, statement)?;
+    for size in [131, 0, 130, 132] {
+        front_answer(to, &space, size, statement)?;
+    }
     println!(to; "")?;
-    every_bit(to, &mut space[..131], statement)
+    every_bit(to, &mut file, statement)
 }
 
 // The line behind the comment.

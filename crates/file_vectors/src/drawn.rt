@@ -7,7 +7,9 @@ use draw::{Drawing, draw};
 use proof_file::check_file_code;
 use std::io;
 use std::io::Stdout;
-use vector_helpers::{Hex, Stamping, challenged, decimal, decode, field, hash, most, places_digest};
+use vector_helpers::{
+    Hex, Stamping, challenged, decimal, decode, field, hash, most, places_digest,
+};
 
 // Room for the longest file, and a byte more.
 fn file_space() -> [u8; 83269] {
