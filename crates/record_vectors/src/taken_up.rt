@@ -30,7 +30,7 @@ fn lay(bytes: &mut Vec<u8>, value: u64, more: u64) -> Result<(), AllocError>
     ensures { IfOk result (λ done. length bytes.new.items ≡ length bytes.old.items + more + 1) }
 {
     let mut rest = value;
-    for _ in 0..more {
+    for _group in 0..more {
         bytes.push(128 + (rest % 128) as u8)?;
         rest /= 128;
     }
