@@ -3,10 +3,9 @@ use base::label_at;
 use file_head::challenge;
 use opening::Opening;
 use sha256::Hash;
-use std::alloc::Global;
 use std::io;
 use std::io::Stdout;
-use vector_helpers::{Hex, Stamping, decoded, digest_of, field, hash, number, open_to_end};
+use vector_helpers::{Hex, Stamping, decimal, decode, digest_of, field, hash, open_to_end};
 
 // The digest of the openings of so many challenges, in their order.
 fn all(of: Stamping, root: [u8; 32], budget: u64, count: u64, store: &[u8]) -> [u8; 32] {
@@ -38,11 +37,12 @@ fn level(to: Stdout, of: Stamping, count: u64) -> io::Result<()> {
 }
 
 // A line of the shared files.
-pub fn challenged(to: Stdout, alloc: Global, edition: u64, line: &str) -> io::Result<()> {
-    let report = decoded(alloc, field(line, 0))?;
-    let statement = hash(&report);
-    let depth = number(line, 1);
-    let count = number(line, 2);
+pub fn challenged(to: Stdout, edition: u64, line: &[u8]) -> io::Result<()> {
+    let mut report = [0u8; 64];
+    let length = decode(field(line, 0), &mut report);
+    let statement = hash(&report[..length]);
+    let depth = decimal(field(line, 1));
+    let count = decimal(field(line, 2));
     for memory in 0..=depth {
         level(
             to,

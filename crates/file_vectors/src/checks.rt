@@ -3,21 +3,29 @@
 use base::outcome_number;
 use file_head::{challenge, write_head};
 use proof_file::check_file_code;
-use std::alloc::Global;
 use std::io;
 use std::io::Stdout;
-use vector_helpers::{Hex, decoded, digest, field, hash, number};
+use vector_helpers::{Hex, decimal, decode, digest, field, hash, line_end};
 
 // The depth and count wanted, and the answer.
-pub fn checked(to: Stdout, alloc: Global, line: &str) -> io::Result<()> {
-    let file = decoded(alloc, field(line, 0))?;
+pub fn checked(to: Stdout, line: &[u8]) -> io::Result<()> {
+    let mut space = [0u8; 1024];
+    let size = decode(field(line, 0), &mut space);
     let statement = digest(field(line, 1));
-    let depth = number(line, 2);
-    let count = number(line, 3);
+    let depth = decimal(field(line, 2));
+    let count = decimal(field(line, 3));
     println!(to;
         "vector {depth} {count} {}",
-        check_file_code(&file, statement, depth, count)
+        check_file_code(&space[..size], statement, depth, count)
     )
+}
+
+// The answer to so many of the bytes as a file of one opening of depth 1.
+fn front_answer(to: Stdout, bytes: &[u8], size: usize, statement: [u8; 32]) -> io::Result<()> {
+    match bytes.get(..size) {
+        Some(file) => answer(to, file, statement),
+        None => Ok(()),
+    }
 }
 
 // The answer to a file of one opening of depth 1.
@@ -39,22 +47,30 @@ fn every_bit(to: Stdout, file: &mut [u8], statement: [u8; 32]) -> io::Result<()>
     Ok(())
 }
 
-// The file of the first vector, behind the comment, whole, empty, a byte short and with a byte more; then with each bit changed.
-pub fn first(to: Stdout, alloc: Global, text: &str) -> io::Result<()> {
-    let line = text.lines().nth(1).unwrap_or("");
+// The file of the first vector whole, empty, a byte short and with a byte more; then with each bit changed.
+fn small(to: Stdout, line: &[u8]) -> io::Result<()> {
+    let mut space = [0u8; 132];
+    decode(field(line, 0), &mut space);
+    let mut file = [0u8; 131];
+    decode(field(line, 0), &mut file);
     let statement = digest(field(line, 1));
-    let mut file = decoded(alloc, field(line, 0))?;
-    let mut longer = decoded(alloc, field(line, 0))?;
-    longer.push(0)?;
     print!(to; "lengths")?;
-    answer(to, &file, statement)?;
-    answer(to, b"", statement)?;
-    if let [short @ .., _] = file.as_slice() {
-        answer(to, short, statement)?;
+    for size in [131, 0, 130, 132] {
+        front_answer(to, &space, size, statement)?;
     }
-    answer(to, &longer, statement)?;
     println!(to; "")?;
     every_bit(to, &mut file, statement)
+}
+
+// The line behind the comment.
+pub fn first(to: Stdout, text: &[u8]) -> io::Result<()> {
+    let comment = line_end(text, 0);
+    if comment < text.len() {
+        let end = line_end(text, comment + 1);
+        small(to, &text[comment + 1..end])
+    } else {
+        Ok(())
+    }
 }
 
 // The outcome of challenge i at depth n, and its leaf.

@@ -5,10 +5,11 @@ use base::{Rejection, number, outcome_number};
 use chain::plan;
 use draw::{Drawing, draw};
 use proof_file::check_file_code;
-use std::alloc::Global;
 use std::io;
 use std::io::Stdout;
-use vector_helpers::{Hex, Stamping, challenged, decoded, field, hash, places_digest};
+use vector_helpers::{
+    Hex, Stamping, challenged, decimal, decode, field, hash, most, places_digest,
+};
 
 // Room for the longest file, and a byte more.
 fn file_space() -> [u8; 83269] {
@@ -102,8 +103,9 @@ fn planned(to: Stdout, depth: u64, leaves: &[u64], places: usize) -> io::Result<
 fn level(to: Stdout, of: Stamping, count: u64, size: usize, places: usize) -> io::Result<()> {
     let mut space = file_space();
     let root = of.write_file(count, &mut space);
+    print!(to; "vector {}", of.edition)?;
     if let Some(behind) = space.get(size) {
-        println!(to; "vector {} {behind}", of.edition)?;
+        println!(to; " {behind}")?;
         let wanted = Wanted {
             statement: of.statement,
             depth: of.depth,
@@ -118,14 +120,15 @@ fn level(to: Stdout, of: Stamping, count: u64, size: usize, places: usize) -> io
     }
 }
 
-pub fn drawn_and_planned(to: Stdout, alloc: Global, edition: u64, line: &str) -> io::Result<()> {
-    let report = decoded(alloc, field(line, 0))?;
-    let statement = hash(&report);
-    let depth = vector_helpers::number(line, 1);
-    let count = vector_helpers::number(line, 2);
-    let size = vector_helpers::number(line, 3) as usize;
-    let places = vector_helpers::number(line, 5) as usize;
-    for memory in [depth.min(12), 8] {
+pub fn drawn_and_planned(to: Stdout, edition: u64, line: &[u8]) -> io::Result<()> {
+    let mut report = [0u8; 64];
+    let length = decode(field(line, 0), &mut report);
+    let statement = hash(&report[..length]);
+    let depth = decimal(field(line, 1));
+    let count = decimal(field(line, 2));
+    let size = decimal(field(line, 3)) as usize;
+    let places = decimal(field(line, 5)) as usize;
+    for memory in [most(depth), 8] {
         level(
             to,
             Stamping {

@@ -14,50 +14,70 @@ mod written; // written.rt: the shared files written again
 use challenged::challenged;
 use checks::checked;
 use compared::compared;
+use descriptors::{Stream, read_small, read_whole};
 use drawn::drawn_and_planned;
 use edges::edges;
-use std::alloc::Global;
 use std::io::Stdout;
-use std::{fs, io};
 use vector_helpers::each_vector;
 use written::written;
 
-// The files of an edition.
-fn shared_files(to: Stdout, alloc: Global, edition: u64, text: &str) -> io::Result<()> {
-    each_vector(text, |line| written(to, alloc, edition, line))?;
-    each_vector(text, |line| challenged(to, alloc, edition, line))
+// The files of an edition. What cannot be written, here and below, is passed over.
+fn shared_files(to: Stdout, edition: u64, text: &[u8]) {
+    each_vector(text, |line| {
+        let _ = written(to, edition, line);
+    });
+    each_vector(text, |line| {
+        let _ = challenged(to, edition, line);
+    });
 }
 
-// The checks, in which each proof says its edition.
-fn shared_checks(to: Stdout, alloc: Global, text: &str) -> io::Result<()> {
-    each_vector(text, |line| checked(to, alloc, line))
+// The files of edition 1 are the standard input, of which at most 65,536 bytes are read.
+fn first_files(to: Stdout, from: Stream<'_>) {
+    let mut text = [0u8; 65536];
+    let size = read_whole(from, &mut text).size;
+    shared_files(to, 1, &text[..size]);
 }
 
-fn shared_chains(to: Stdout, alloc: Global, edition: u64, text: &str) -> io::Result<()> {
-    each_vector(text, |line| drawn_and_planned(to, alloc, edition, line))
+// Those of edition 2 are a file of data; one that cannot be read counts as empty, here and below.
+fn second_files(rt: &HostRuntime, to: Stdout) {
+    let mut text = [0u8; 65536];
+    let size = read_small(rt, b"files-2", &mut text);
+    shared_files(to, 2, &text[..size]);
 }
 
-fn main(rt: HostRuntime) -> io::Result<()> {
+// The checks of a file of data, in which each proof says its edition; then, if asked for, every file that differs from the first of them in one
+// bit.
+fn shared_checks(rt: &HostRuntime, to: Stdout, name: &[u8], with_bits: bool) {
+    let mut text = [0u8; 65536];
+    let size = read_small(rt, name, &mut text);
+    each_vector(&text[..size], |line| {
+        let _ = checked(to, line);
+    });
+    if with_bits {
+        let _ = checks::first(to, &text[..size]);
+    }
+}
+
+fn shared_chains(rt: &HostRuntime, to: Stdout, edition: u64, name: &[u8]) {
+    let mut text = [0u8; 65536];
+    let size = read_small(rt, name, &mut text);
+    each_vector(&text[..size], |line| {
+        let _ = drawn_and_planned(to, edition, line);
+    });
+}
+
+fn main(rt: HostRuntime) {
     let to = rt.stdout();
-    let alloc = rt.alloc();
-    let first = io::read_to_string(alloc, rt.stdin())?;
-    shared_files(to, alloc, 1, first.as_str())?;
-    let second = fs::read_to_string(&rt, "files-2")?;
-    shared_files(to, alloc, 2, second.as_str())?;
-    edges(to)?;
-    for name in ["checks", "checks-2"] {
-        let text = fs::read_to_string(&rt, name)?;
-        shared_checks(to, alloc, text.as_str())?;
-        checks::first(to, alloc, text.as_str())?;
-    }
-    let numbers = fs::read_to_string(&rt, "checks-number")?;
-    shared_checks(to, alloc, numbers.as_str())?;
-    checks::rows(to)?;
-    for (edition, name) in [(1, "chains"), (2, "chains-2")] {
-        let text = fs::read_to_string(&rt, name)?;
-        shared_chains(to, alloc, edition, text.as_str())?;
-    }
-    compared(to, 1)?;
-    compared(to, 2)?;
-    compared::edges(to)
+    first_files(to, Stream::Input(rt.stdin()));
+    second_files(&rt, to);
+    let _ = edges(to);
+    shared_checks(&rt, to, b"checks", true);
+    shared_checks(&rt, to, b"checks-2", true);
+    shared_checks(&rt, to, b"checks-number", false);
+    let _ = checks::rows(to);
+    shared_chains(&rt, to, 1, b"chains");
+    shared_chains(&rt, to, 2, b"chains-2");
+    let _ = compared(to, 1);
+    let _ = compared(to, 2);
+    let _ = compared::edges(to);
 }

@@ -17,5 +17,9 @@ pub fn every_part(to: Stdout, file: &[u8], count: u64) -> io::Result<()> {
     for i in (1..=count).rev() {
         part(to, file, i)?;
     }
-    part(to, file, count.wrapping_add(1))
+    if count < 1000 {
+        part(to, file, count + 1)
+    } else {
+        Ok(())
+    }
 }

@@ -5,10 +5,9 @@ ghost use Rattle.std.specs.Prelude.{◌≤◌, length};
 use crate::parts::every_part;
 use base::{label_at, outcome_number};
 use proof_file::check_file_code;
-use std::alloc::Global;
 use std::io;
 use std::io::Stdout;
-use vector_helpers::{Hex, NO_WORK, Stamping, decoded, field, hash, number};
+use vector_helpers::{Hex, NO_WORK, Stamping, decimal, decode, field, hash};
 use writing::Writing;
 
 // Calls with one budget until no label is left, at most 1,000 calls; prints how many made labels, how many they made, and their blocks.
@@ -25,8 +24,8 @@ fn write_on(
         if work.labels == 0 {
             return print!(to; " {calls} {} {}", all.labels, all.blocks);
         }
-        all.labels = all.labels.wrapping_add(work.labels);
-        all.blocks = all.blocks.wrapping_add(work.blocks);
+        all.labels = all.labels.wrapping_add(work.labels % 1000000) % 1000000000;
+        all.blocks = all.blocks.wrapping_add(work.blocks % 1000000) % 1000000000;
     }
     Ok(())
 }
@@ -70,12 +69,14 @@ fn level(to: Stdout, of: Stamping, count: u64, size: usize) -> io::Result<()> {
 }
 
 // At the smallest memory level, a middle one and the greatest.
-pub fn written(to: Stdout, alloc: Global, edition: u64, line: &str) -> io::Result<()> {
-    let report = decoded(alloc, field(line, 0))?;
-    let statement = hash(&report);
-    let depth = number(line, 1);
-    let count = number(line, 2);
-    let file = decoded(alloc, field(line, 3))?;
+pub fn written(to: Stdout, edition: u64, line: &[u8]) -> io::Result<()> {
+    let mut report = [0u8; 64];
+    let length = decode(field(line, 0), &mut report);
+    let statement = hash(&report[..length]);
+    let depth = decimal(field(line, 1));
+    let count = decimal(field(line, 2));
+    let mut file = [0u8; 1024];
+    let size = decode(field(line, 3), &mut file);
     for memory in [0, depth / 2, depth] {
         level(
             to,
@@ -86,8 +87,8 @@ pub fn written(to: Stdout, alloc: Global, edition: u64, line: &str) -> io::Resul
                 memory,
             },
             count,
-            file.len(),
+            size,
         )?;
     }
-    every_part(to, &file, count)
+    every_part(to, &file[..size], count)
 }

@@ -7,73 +7,107 @@ mod meanwhile; // meanwhile.rt: what can happen between the start of a run and i
 mod plans; // plans.rt: the planning program
 mod streams; // streams.rt: answers apart from complaints, and streams that cannot be written
 
-use acts::{act, word};
+ghost use Rattle.std.specs.Prelude.{◌≡◌, length};
+
+use acts::act;
 use compare::{Clash, Pair};
-use descriptors::{Stream, create, open_read, write_all};
-use std::alloc::{AllocError, Global};
+use descriptors::{Stream, create, read_small, write_all};
 use std::fs::Permissions;
 use std::os::unix::fs::PermissionsExt;
-use std::{fs, io};
+use words::{join, word};
 
 // Standard output.
 pub fn output(rt: &HostRuntime) -> Stream<'static> {
     Stream::Output(rt.stdout())
 }
 
-// The words, each ended by a byte 0, in place of the blanks between them.
-fn parted(alloc: Global, words: &str) -> Result<Vec<u8>, AllocError> {
-    let mut line = Vec::new(alloc);
-    for byte in words.as_bytes() {
-        line.push(if *byte == b' ' { 0 } else { *byte })?;
-    }
-    line.push(0)?;
-    Ok(line)
+// Bytes on standard output. What cannot be written, here and elsewhere, is passed over, and all that follows is done.
+pub fn say(rt: &HostRuntime, bytes: &[u8]) {
+    let _ = write_all(output(rt), bytes);
 }
 
-// The program called with a line of words, and its status.
-fn call(rt: &HostRuntime, line: &[u8], out: Stream<'_>, err: Stream<'_>) -> io::Result<()> {
+// Each blank becomes a byte 0, and so does the byte after the words; how many bytes that are, or 0 where the line has no room for them.
+fn part_words(words: &[u8], line: &mut [u8]) -> usize
+    ensures { length line.new ≡ length line.old }
+{
+    if line.len() <= words.len() {
+        return 0;
+    }
+    for i in 0..words.len() {
+        line[i] = if words[i] == b' ' { 0 } else { words[i] };
+    }
+    line[words.len()] = 0;
+    words.len() + 1
+}
+
+// The front of some bytes; none where there are not so many.
+pub fn front(bytes: &[u8], size: usize) -> &[u8] {
+    bytes.get(..size).unwrap_or(&[])
+}
+
+// The bytes from a place on; none where there is no such place.
+pub fn rest(bytes: &[u8], from: usize) -> &[u8] {
+    bytes.get(from..).unwrap_or(&[])
+}
+
+// The program called with a line of words, each ended by a byte 0, and its status.
+fn call(rt: &HostRuntime, line: &[u8], out: Stream<'_>, err: Stream<'_>) {
     let status = commands::command(rt, line, Stream::Input(rt.stdin()), out, err);
-    println!(rt; "status {status}")
+    let _ = println!(rt; "status {status}");
 }
 
 // The program called with words that are parted by blanks, and what it tells on two streams.
-pub fn run_on(rt: &HostRuntime, words: &str, out: Stream<'_>, err: Stream<'_>) -> io::Result<()> {
-    println!(rt; "> mastdock {words}")?;
-    let line = parted(rt.alloc(), words)?;
-    call(rt, &line, out, err)
+pub fn run_on(rt: &HostRuntime, words: &str, out: Stream<'_>, err: Stream<'_>) {
+    let _ = println!(rt; "> mastdock {words}");
+    let mut line = [0u8; 256];
+    let size = part_words(words.as_bytes(), &mut line);
+    call(rt, front(&line, size), out, err);
 }
 
-pub fn run(rt: &HostRuntime, words: &str) -> io::Result<()> {
-    run_on(rt, words, output(rt), output(rt))
+pub fn run(rt: &HostRuntime, words: &str) {
+    run_on(rt, words, output(rt), output(rt));
 }
 
-// A line of the scenarios.
-fn run_line(rt: &HostRuntime, text: &str) -> io::Result<()> {
-    println!(rt; "> {text}")?;
-    if word(text, 0) == "mastdock" {
-        let line = parted(rt.alloc(), text)?;
-        call(rt, line.get(9..).unwrap_or(&[]), output(rt), output(rt))
+// A line of the scenarios; one of 256 bytes or more is only shown.
+fn run_line(rt: &HostRuntime, text: &[u8]) {
+    say(rt, b"> ");
+    say(rt, text);
+    say(rt, b"\n");
+    let mut place = [0u8; 256];
+    let size = part_words(text, &mut place);
+    let line = front(&place, size);
+    if word(line, 0) == b"mastdock".as_slice() {
+        call(rt, rest(line, 9), output(rt), output(rt));
     } else {
-        act(rt, text)
+        act(rt, text, line);
     }
 }
 
-// The scenarios of the file of that name.
-fn run_file(rt: &HostRuntime) -> io::Result<()> {
-    let text = fs::read_to_string(rt, "scenarios")?;
-    for line in text.lines() {
-        run_line(rt, line)?;
+// The scenarios of the file of that name, of which at most 65,536 bytes are read.
+fn run_file(rt: &HostRuntime) {
+    let mut place = [0u8; 65536];
+    let size = read_small(rt, b"scenarios", &mut place);
+    let text = &place[..size];
+    if text.is_empty() {
+        return;
     }
-    Ok(())
+    for line in text
+        .strip_suffix(b"\n")
+        .unwrap_or(text)
+        .split(|byte| *byte == b'\n')
+    {
+        run_line(rt, line);
+    }
 }
 
 // Seals a report of a path.
-fn run_path(rt: &HostRuntime, path: &[u8]) -> io::Result<()> {
-    let mut line = Vec::new(rt.alloc());
-    line.extend_from_slice(b"seal\0")?;
-    line.extend_from_slice(path)?;
-    line.extend_from_slice(b"\0x.proof\x003\0")?;
-    call(rt, &line, output(rt), output(rt))
+fn run_path(rt: &HostRuntime, path: &[u8]) {
+    let mut line = [0u8; 8192];
+    let mut size = 0;
+    for word in [&b"seal"[..], path, b"x.proof", b"3"] {
+        size = join(&mut line, size, word);
+    }
+    call(rt, front(&line, size), output(rt), output(rt));
 }
 
 // A new file of some bytes.
@@ -89,25 +123,25 @@ fn too_much() -> [u8; 262469] {
 }
 
 fn make_files(rt: &HostRuntime) {
-    make(rt, b"locked", b"a report that nobody may read\n");
-    if let Ok(file) = open_read(rt, b"locked") {
+    if let Ok(file) = create(rt, b"locked") {
+        let _ = write_all(Stream::File(&file), b"a report that nobody may read\n");
         let _ = file.set_permissions(Permissions::from_mode(0));
     }
     make(rt, b"large.proof", &too_much());
 }
 
 // Too long for the system, which takes 255 bytes between two slashes, and for the program; and bytes that a terminal would obey.
-fn paths(rt: &HostRuntime) -> io::Result<()> {
-    println!(rt; "> a path of 256 bytes, and one of 4091")?;
-    run_path(rt, &[b'a'; 256])?;
-    run_path(rt, &[b'a'; 4091])?;
-    println!(rt; "> control characters and a backslash in a path")?;
-    run_path(rt, b"none\x1b[31m\n\x7f\\")
+fn paths(rt: &HostRuntime) {
+    say(rt, b"> a path of 256 bytes, and one of 4091\n");
+    run_path(rt, &[b'a'; 256]);
+    run_path(rt, &[b'a'; 4091]);
+    say(rt, b"> control characters and a backslash in a path\n");
+    run_path(rt, b"none\x1b[31m\n\x7f\\");
 }
 
 // No proof whose openings clash is known: the lines are shown with made-up inputs.
-fn clash(rt: &HostRuntime) -> io::Result<()> {
-    println!(rt; "> a clash")?;
+fn clash(rt: &HostRuntime) {
+    say(rt, b"> a clash\n");
     let pair = Pair {
         first: 2,
         second: 5,
@@ -119,26 +153,28 @@ fn clash(rt: &HostRuntime) -> io::Result<()> {
         second: [171u8; 105],
     };
     commands::say_clash(&clash, output(rt));
-    Ok(())
 }
 
 // The words of this program's own arguments, which are one too many.
-fn surplus(rt: &HostRuntime) -> io::Result<()> {
-    println!(rt; "> this program's arguments: seal report x.proof 3 2 1 4")?;
+fn surplus(rt: &HostRuntime) {
+    say(
+        rt,
+        b"> this program's arguments: seal report x.proof 3 2 1 4\n",
+    );
     let status = commands::run_arguments(rt, Stream::Input(rt.stdin()), output(rt), output(rt));
-    println!(rt; "status {status}")
+    let _ = println!(rt; "status {status}");
 }
 
-fn main(host: HostRuntime) -> io::Result<()> {
+fn main(host: HostRuntime) {
     let rt = &host;
-    plans::plans(rt)?;
+    plans::plans(rt);
     make_files(rt);
-    surplus(rt)?;
-    run_file(rt)?;
-    paths(rt)?;
-    clash(rt)?;
-    streams::apart(rt)?;
-    streams::not_written(rt)?;
-    meanwhile::all(rt)?;
-    streams::closed(rt)
+    surplus(rt);
+    run_file(rt);
+    paths(rt);
+    clash(rt);
+    streams::apart(rt);
+    streams::not_written(rt);
+    meanwhile::all(rt);
+    streams::closed(rt);
 }

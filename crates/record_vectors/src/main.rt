@@ -6,18 +6,18 @@ mod taken_up; // taken_up.rt: bytes read, which are a record or not
 mod written; // written.rt: records written and read back, and the edges of each refusal
 
 use paused::paused;
-use std::io;
 use taken_up::{editions, taken_up};
 use written::{no_edition, written};
 
-fn main(rt: HostRuntime) -> io::Result<()> {
+// What cannot be written is passed over.
+fn main(rt: HostRuntime) {
     let to = rt.stdout();
-    written(to, 1)?;
-    written(to, 2)?;
-    no_edition(to)?;
-    paused(to, 1)?;
-    paused(to, 2)?;
-    taken_up(to, rt.alloc(), 1)?;
-    taken_up(to, rt.alloc(), 2)?;
-    editions(to, rt.alloc())
+    let _ = written(to, 1);
+    let _ = written(to, 2);
+    let _ = no_edition(to);
+    let _ = paused(to, 1);
+    let _ = paused(to, 2);
+    let _ = taken_up(to, rt.alloc(), 1);
+    let _ = taken_up(to, rt.alloc(), 2);
+    let _ = editions(to, rt.alloc());
 }

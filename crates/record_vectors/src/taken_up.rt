@@ -1,5 +1,7 @@
 // Bytes read: every cut of three records and bytes more than they have, and numbers at the edges of each refusal, in their shortest form and
 // in longer ones. Only the answers are printed.
+ghost use Rattle.std.specs.Prelude.{◌≡◌, ◌+◌, length, IfOk};
+
 use crate::written::{read_front, state};
 use base::{MAX_RECORD, outcome_number};
 use run_record::write_record;
@@ -24,9 +26,11 @@ fn cuts(to: Stdout, edition: u64, depth: u64, memory: u64, made: u64) -> io::Res
 }
 
 // Lays a number in so many groups more than one, whether it needs them or not.
-fn lay(bytes: &mut Vec<u8>, value: u64, more: u64) -> Result<(), AllocError> {
+fn lay(bytes: &mut Vec<u8>, value: u64, more: u64) -> Result<(), AllocError>
+    ensures { IfOk result (λ done. length bytes.new.items ≡ length bytes.old.items + more + 1) }
+{
     let mut rest = value;
-    for _ in 0..more {
+    for _group in 0..more {
         bytes.push(128 + (rest % 128) as u8)?;
         rest /= 128;
     }

@@ -15,9 +15,9 @@ use openings::{opening_edges, openings};
 use run_edges::run_edges;
 use runs::runs;
 use std::io;
+use std::io::Stdout;
 
-fn main(rt: HostRuntime) -> io::Result<()> {
-    let to = rt.stdout();
+fn every_vector(to: Stdout) -> io::Result<()> {
     digests(to)?;
     runs(to)?;
     run_edges(to)?;
@@ -27,4 +27,9 @@ fn main(rt: HostRuntime) -> io::Result<()> {
     checked(to, 1, 2)?;
     checked(to, 2, 1)?;
     blocks(to)
+}
+
+// What cannot be written is passed over.
+fn main(rt: HostRuntime) {
+    let _ = every_vector(rt.stdout());
 }

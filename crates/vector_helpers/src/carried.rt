@@ -7,11 +7,13 @@ ghost use Rattle.opening.specs.Steps as opens;
 ghost use Rattle.opening.specs.Names.{open_of};
 ghost use Rattle.vector_helpers.specs.Whole.{run_parts};
 
+use crate::show::{IsSame, named_hex};
 use base::big_endian;
 use labelling::Work;
 use opening::Opening;
 use run::Run;
 use sha256::{Hash, digest};
+use std::io::Stdout;
 
 // What a call did that was refused.
 pub const NO_WORK: Work = Work {
@@ -28,6 +30,21 @@ pub fn hash(bytes: &[u8]) -> [u8; 32]
         Ok(hashed) => hashed.digest,
         Err(_) => [0u8; 32],
     }
+}
+
+// Writes a text, and the digest after it.
+pub fn named_digest(to: Stdout, name: &[u8], bytes: &[u8]) {
+    named_hex(to, name, &hash(bytes));
+}
+
+// Writes whether the bytes still have the digest that they had before.
+pub fn flag_digest(to: Stdout, before: [u8; 32], bytes: &[u8]) {
+    let _ = print!(to; " {}", IsSame(before == hash(bytes)));
+}
+
+// Writes the digest with a blank before it.
+pub fn digest_column(to: Stdout, bytes: &[u8]) {
+    named_digest(to, b" ", bytes);
 }
 
 // The digest of all that a hash has taken; 32 zero bytes if that is too many bytes.

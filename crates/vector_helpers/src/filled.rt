@@ -1,5 +1,5 @@
 // The leaves of a file's challenges, and digests of chains. For the programs of the gate.
-ghost use Rattle.std.specs.Prelude.{◌≡◌, map};
+ghost use Rattle.std.specs.Prelude.{◌≡◌, min, map};
 ghost use Rattle.base.specs.Limits.{max_challenges};
 ghost use Rattle.base.specs.Bytes.{big_endian};
 ghost use Rattle.sha256.specs.Portions.{new_hash, updated_all, finish_digest};
@@ -9,6 +9,13 @@ use crate::carried::digest_of;
 use base::{MAX_LEAVES, big_endian};
 use file_head::challenge;
 use sha256::Hash;
+
+// The greatest memory level that there is room for.
+pub fn most(depth: u64) -> u64
+    ensures { result ≡ min depth 12 }
+{
+    depth.min(12)
+}
 
 // The leaves of challenges 1 to 200.
 pub fn challenged(

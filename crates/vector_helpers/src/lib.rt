@@ -8,9 +8,12 @@ mod show; // show.rt: bytes and sameness printed
 mod stamping; // stamping.rt: what is stamped, and its store and file
 mod vectors; // vectors.rt: the fields of a line of vectors
 
-pub use carried::{NO_WORK, digest_of, hash, hash_run, open_to_end, run_to_end};
-pub use filled::{challenged, places_digest};
+pub use carried::{
+    NO_WORK, digest_column, digest_of, flag_digest, hash, hash_run, named_digest, open_to_end,
+    run_to_end,
+};
+pub use filled::{challenged, most, places_digest};
 pub use levels::{EDITIONS, LEVEL_EDGES, LevelEdge, level_edge};
-pub use show::{Hex, IsSame};
+pub use show::{Hex, IsSame, named_hex};
 pub use stamping::Stamping;
-pub use vectors::{decoded, digest, each_vector, field, is_comment, number};
+pub use vectors::{decimal, decode, decoded, digest, each_vector, field, is_comment, line_end};

@@ -1,5 +1,6 @@
 // Lines for the programs of the gate, whose output is compared with a stored one.
 use std::fmt;
+use std::io::Stdout;
 
 // Bytes, which print in hexadecimal.
 #[derive(Clone, Copy)]
@@ -22,4 +23,10 @@ impl fmt::Display for IsSame {
     fn fmt<W: fmt::Write>(&self, f: &mut fmt::Formatter<W>) -> fmt::Result {
         f.write_str(if self.0 { "same" } else { "changed" })
     }
+}
+
+// Writes a text, and bytes in hexadecimal after it. What cannot be written is passed over.
+pub fn named_hex(to: Stdout, name: &[u8], bytes: &[u8]) {
+    let _ = to.write_all(name);
+    let _ = print!(to; "{}", Hex(bytes));
 }

@@ -1,6 +1,4 @@
-use Rattle.std.proofs.Common.{◌≡◌, ◌/◌, min, length, ap, ◌∙◌, arith}
-use Rattle.base.specs.Bytes.{written}
-use Rattle.vector_helpers.specs.Text.{spelled}
+use Rattle.std.proofs.Common.{arith}
 use Rattle.vector_helpers.proofs.TextLaws.{spelled_none, spelled-more}
 use Rattle.vector_helpers.proofs.vectors.decode.Goals as goal
 
@@ -13,10 +11,3 @@ loop-i-preserved c =
     let a = c.args in
     spelled-more a.text.now a.out.now l.out l.i _ _ (omega arith) l.invariant
     c.digit.ensures.value c.digit-in-loop-i.ensures.value
-
-pub returns : goal.returns
-returns c =
-    let text = c.args.text.now in
-    let out = c.args.out.now in
-    let all : c.loop-i.i ≡ min (length text / 2) (length out) = omega arith in
-    c.loop-i.invariant ∙ ap (λ k. written out 0 (spelled text k)) all
