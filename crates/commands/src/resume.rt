@@ -1,4 +1,6 @@
 // A seal gone on with from its checkpoint.
+ghost use Rattle.lines.specs.Line.{IsInRoom};
+
 use crate::seal::empty_store;
 use crate::sealed::seal_from;
 use crate::{REFUSED, UNTRIED};
@@ -13,7 +15,9 @@ use std::fs::File;
 use std::rt::{Clock, Files};
 use words::SealOrder;
 
-fn sentence(text: &[u8]) -> Line {
+fn sentence(text: &[u8]) -> Line
+    ensures { IsInRoom result }
+{
     Line::new().add(text)
 }
 

@@ -2,7 +2,7 @@
 ghost use Rattle.std.specs.Prelude.{◌≡◌, ◌+◌, ◌≤◌, length};
 ghost use Rattle.base.specs.Number.{outcome_number};
 ghost use Rattle.file_head.specs.Head.{numbers};
-ghost use Rattle.lines.specs.Line.{line_of};
+ghost use Rattle.lines.specs.Line.{IsInRoom, line_of};
 ghost use Rattle.drawing_text.specs.Info.{size_row, shape_refusal, numbers_text, labels_text, rest_text, known_from, known_text, end_text, info_text};
 
 use crate::sentences::plain_refusal;
@@ -33,7 +33,8 @@ pub fn check_shape(file: &[u8]) -> Result<(), Refusal>
 }
 
 fn numbers_lines(edition: u64, n: u64, t: u64) -> Line
-    ensures { line_of result ≡ numbers_text edition n t }
+    ensures value { line_of result ≡ numbers_text edition n t }
+    ensures in_room { IsInRoom result }
 {
     fact(b"edition ", edition)
         .add_line(&fact(b"depth ", n))
@@ -43,7 +44,8 @@ fn numbers_lines(edition: u64, n: u64, t: u64) -> Line
 // Statement and root.
 fn labels_lines(file: &[u8], at: usize) -> Line
     requires { (at ≤ 6) × (at + 64 ≤ length file.now) }
-    ensures { line_of result ≡ labels_text file.now at }
+    ensures value { line_of result ≡ labels_text file.now at }
+    ensures in_room { IsInRoom result }
 {
     let statement = label_at(file, at);
     let root = label_at(file, at + 32);
@@ -53,7 +55,8 @@ fn labels_lines(file: &[u8], at: usize) -> Line
 // Statement and root where the size is what the numbers ask for, and the size.
 fn rest_lines(file: &[u8], whole: usize, at: usize) -> Line
     requires { (at ≤ 6) × (at + 64 ≤ whole) }
-    ensures { line_of result ≡ rest_text file.now whole at }
+    ensures value { line_of result ≡ rest_text file.now whole at }
+    ensures in_room { IsInRoom result }
 {
     let size = fact(b"size ", file.len() as u64);
     if file.len() == whole {
@@ -64,7 +67,8 @@ fn rest_lines(file: &[u8], whole: usize, at: usize) -> Line
 
 // What a head that can be read says.
 fn known_lines(file: &[u8], head: &Head) -> Line
-    ensures { line_of result ≡ known_from file.now (numbers head.now.edition head.now.depth head.now.count head.now.end) }
+    ensures value { line_of result ≡ known_from file.now (numbers head.now.edition head.now.depth head.now.count head.now.end) }
+    ensures in_room { IsInRoom result }
 {
     let whole = head.file_length();
     numbers_lines(head.edition, head.depth, head.count).add_line(&rest_lines(file, whole, head.end))
@@ -72,7 +76,8 @@ fn known_lines(file: &[u8], head: &Head) -> Line
 
 #[tactic(auto, unfolding(crate::specs::Info::known_text))]
 fn known(file: &[u8]) -> Line
-    ensures { line_of result ≡ known_text file.now }
+    ensures value { line_of result ≡ known_text file.now }
+    ensures in_room { IsInRoom result }
 {
     match read_head(file) {
         Ok(head) => known_lines(file, &head),
@@ -82,7 +87,8 @@ fn known(file: &[u8]) -> Line
 
 // A refusal in plain words and by its number; nothing where there is none.
 fn end_lines(shape: Result<(), Refusal>, size: usize) -> Line
-    ensures { line_of result ≡ end_text (outcome_number shape) size }
+    ensures value { line_of result ≡ end_text (outcome_number shape) size }
+    ensures in_room { IsInRoom result }
 {
     match shape {
         Ok(()) => Line::new(),
@@ -92,7 +98,8 @@ fn end_lines(shape: Result<(), Refusal>, size: usize) -> Line
 
 // All that `info` prints of a file.
 pub fn info(file: &[u8]) -> Line
-    ensures { line_of result ≡ info_text file.now }
+    ensures value { line_of result ≡ info_text file.now }
+    ensures in_room { IsInRoom result }
 {
     let end = end_lines(check_shape(file), file.len());
     known(file).add_line(&end)

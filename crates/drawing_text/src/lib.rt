@@ -8,6 +8,8 @@ mod heads; // heads.rt: what a file's head says
 mod sentences; // sentences.rt: a refusal in plain words
 mod status; // status.rt: the exit status
 mod telling; // telling.rt: the lines of a drawing
+#[cfg(test)]
+mod tests; // tests.rt: a refusal by its number
 
 pub use drawing::{put_chain, put_drawing};
 pub use facts::{check_shape, info};

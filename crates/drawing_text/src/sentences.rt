@@ -1,7 +1,7 @@
 // A refusal in plain words.
 ghost use Rattle.std.specs.Prelude.{◌≡◌, ◌≤◌, eqb, length};
 ghost use Rattle.base.specs.Number.{number_of};
-ghost use Rattle.lines.specs.Line.{line_of};
+ghost use Rattle.lines.specs.Line.{IsInRoom, line_of};
 ghost use Rattle.drawing_text.specs.Plain.{words_for, plain_table, plain_text};
 
 use base::Refusal;
@@ -10,14 +10,16 @@ use lines::Line;
 // A line of one text.
 pub fn sentence(text: &[u8]) -> Line
     requires { length text.now ≤ 1000 }
-    ensures { line_of result ≡ text.now }
+    ensures value { line_of result ≡ text.now }
+    ensures in_room { IsInRoom result }
 {
     Line::new().add(text)
 }
 
 // A refusal that is not told by what differs.
 fn words_for(why: Refusal) -> Line
-    ensures { line_of result ≡ words_for (number_of why) plain_table }
+    ensures value { line_of result ≡ words_for (number_of why) plain_table }
+    ensures in_room { IsInRoom result }
 {
     match why {
         Refusal::Depth => sentence(b"the proof's depth is not 1 to 40\n"),
@@ -58,7 +60,8 @@ pub fn told_as(number: u64) -> Refusal
 // Of a file with so many bytes.
 #[tactic(auto, unfolding(crate::specs::Plain::plain_text))]
 pub fn plain_refusal(why: Refusal, size: usize) -> Line
-    ensures { line_of result ≡ plain_text (number_of why) size }
+    ensures value { line_of result ≡ plain_text (number_of why) size }
+    ensures in_room { IsInRoom result }
 {
     if size == 0 {
         return sentence(b"the proof file is empty\n");
@@ -68,7 +71,8 @@ pub fn plain_refusal(why: Refusal, size: usize) -> Line
 
 // The same, by document 01's number, or any other.
 pub fn plain(number: u64, size: usize) -> Line
-    ensures { line_of result ≡ plain_text number size }
+    ensures value { line_of result ≡ plain_text number size }
+    ensures in_room { IsInRoom result }
 {
     plain_refusal(told_as(number), size)
 }

@@ -1,7 +1,7 @@
 // The lines that are told of a drawing.
 ghost use Rattle.std.specs.Prelude.{◌≡◌};
 ghost use Rattle.base.specs.Number.{number_of};
-ghost use Rattle.lines.specs.Line.{line_of};
+ghost use Rattle.lines.specs.Line.{IsInRoom, line_of};
 ghost use Rattle.drawing_text.specs.Verdict.{why_text, refusal_text, edition_text, wanted_text, no_chain_text, judged_text, verdict_text, clash_lines};
 
 use crate::Found;
@@ -15,7 +15,8 @@ use lines::{Line, accepted, clash, fact, fact_bytes, rejected};
 // Why a file of so many bytes is refused: what differs from the depth and count wanted, else in plain words.
 #[tactic(auto, unfolding(crate::specs::Verdict::why_text))]
 fn why_refused(why: Refusal, size: usize, found: Found, depth: u64, count: u64) -> Line
-    ensures { line_of result ≡ why_text (number_of why) size found depth count }
+    ensures value { line_of result ≡ why_text (number_of why) size found depth count }
+    ensures in_room { IsInRoom result }
 {
     match why {
         Refusal::NotWanted => differ(found, depth, count),
@@ -25,7 +26,8 @@ fn why_refused(why: Refusal, size: usize, found: Found, depth: u64, count: u64) 
 
 // A refusal: why, then its line.
 pub fn refused_by(rejection: Rejection, size: usize, found: Found, depth: u64, count: u64) -> Line
-    ensures { line_of result ≡ refusal_text (number_of rejection.refusal) rejection.opening size found depth count }
+    ensures value { line_of result ≡ refusal_text (number_of rejection.refusal) rejection.opening size found depth count }
+    ensures in_room { IsInRoom result }
 {
     let refusal = number(rejection.refusal);
     let opening = u64::from(rejection.opening);
@@ -34,14 +36,16 @@ pub fn refused_by(rejection: Rejection, size: usize, found: Found, depth: u64, c
 
 // The same, by document 01's number, or any other, and the opening's.
 pub fn refused(number: u64, opening: u64, size: usize, found: Found, depth: u64, count: u64) -> Line
-    ensures { line_of result ≡ refusal_text number opening size found depth count }
+    ensures value { line_of result ≡ refusal_text number opening size found depth count }
+    ensures in_room { IsInRoom result }
 {
     why_refused(told_as(number), size, found, depth, count).add_line(&rejected(number, opening))
 }
 
 // The edition by which a file was accepted; nothing of one that is refused.
 fn edition_line(drawing: &Result<Drawing, Rejection>, edition: u64) -> Line
-    ensures { line_of result ≡ edition_text drawing.now edition }
+    ensures value { line_of result ≡ edition_text drawing.now edition }
+    ensures in_room { IsInRoom result }
 {
     match drawing {
         Ok(_) => fact(b"edition ", edition),
@@ -51,7 +55,8 @@ fn edition_line(drawing: &Result<Drawing, Rejection>, edition: u64) -> Line
 
 // How much work is wanted.
 fn wanted(depth: u64, count: u64) -> Line
-    ensures { line_of result ≡ wanted_text depth count }
+    ensures value { line_of result ≡ wanted_text depth count }
+    ensures in_room { IsInRoom result }
 {
     if depth == 0 {
         return Line::new();
@@ -61,7 +66,8 @@ fn wanted(depth: u64, count: u64) -> Line
 
 // A clash: the pair and the level, and both inputs.
 pub fn clash_lines(found: &Clash) -> Line
-    ensures { line_of result ≡ clash_lines found.now }
+    ensures value { line_of result ≡ clash_lines found.now }
+    ensures in_room { IsInRoom result }
 {
     let pair = found.pair;
     clash(pair.first, pair.second, pair.level)
@@ -71,7 +77,8 @@ pub fn clash_lines(found: &Clash) -> Line
 
 // An accepted file whose openings clash.
 fn no_chain(depth: u64, count: u64) -> Line
-    ensures { line_of result ≡ no_chain_text depth count }
+    ensures value { line_of result ≡ no_chain_text depth count }
+    ensures in_room { IsInRoom result }
 {
     sentence(
         b"two openings clash, so there is no chain; 'mastdock chain' shows both inputs\n",
@@ -86,7 +93,8 @@ fn judged(
     found: Found,
     size: usize,
 ) -> Line
-    ensures { line_of result ≡ judged_text drawing.now depth count found size }
+    ensures value { line_of result ≡ judged_text drawing.now depth count found size }
+    ensures in_room { IsInRoom result }
 {
     match *drawing {
         Ok(Drawing::Chain(nodes)) => accepted(depth, count, nodes),
@@ -103,7 +111,8 @@ pub fn verdict(
     found: Found,
     size: usize,
 ) -> Line
-    ensures { line_of result ≡ verdict_text drawing.now depth count found size }
+    ensures value { line_of result ≡ verdict_text drawing.now depth count found size }
+    ensures in_room { IsInRoom result }
 {
     edition_line(drawing, found.edition)
         .add_line(&wanted(depth, count))

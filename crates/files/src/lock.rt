@@ -1,5 +1,7 @@
 // PROOF.lock: the processes that worked on this proof, a line for each, in the order in which they came. The first that still works holds
 // the name. A line is appended by one write, so of two that come at once one stands before the other, and both see the same order.
+ghost use Rattle.lines.specs.Line.{IsInRoom};
+
 use crate::Name;
 use crate::names::remove;
 use crate::part::empty_file;
@@ -19,7 +21,9 @@ pub enum NotHeld {
     Failed,
 }
 
-fn stat_path(number: u64) -> Line {
+fn stat_path(number: u64) -> Line
+    ensures { IsInRoom result }
+{
     Line::new().add_field(b"/proc/", number).add(b"/stat")
 }
 
@@ -29,7 +33,9 @@ fn works<R: Files<File = File>>(rt: &R, process: Process) -> bool {
 }
 
 // The line feed before it ends a line that a power cut broke off.
-fn process_line(process: Process) -> Line {
+fn process_line(process: Process) -> Line
+    ensures { IsInRoom result }
+{
     Line::new()
         .add_field(b"\n", process.number)
         .add_field(b" ", process.start)

@@ -1,5 +1,5 @@
 -- A line under way, in a place of 8,192 bytes.
-use Rattle.std.specs.Prelude.{ℕ, ◌+◌, ◌/◌, ◌%◌, Bool, List, [], ◌∷◌, ◌++◌, ltb, leb, eqb, length, take}
+use Rattle.std.specs.Prelude.{ℕ, ◌+◌, ◌/◌, ◌%◌, ◌≤◌, Bool, List, [], ◌∷◌, ◌++◌, ltb, leb, eqb, length, take}
 use Rattle.base.specs.Choice.{pick}
 use Rattle.base.specs.Row.{either}
 use Rattle.lines.specs.Digits.{hex_digit_ascii}
@@ -7,6 +7,10 @@ use Rattle.lines.specs.declared.Line.{Line}
 
 abbrev pub room : ℕ
 room = 8192
+
+-- its length is within its place. Every line that begins empty is so, whatever is added to it; the fields are public, so another may be longer
+abbrev pub IsInRoom : Line → Type 0
+IsInRoom l = l.length ≤ room
 
 -- what the line holds so far
 unfoldable pub line_of : Line → List ℕ

@@ -1,7 +1,7 @@
 // A line under way, and what is added to it.
 ghost use Rattle.std.specs.Prelude.{◌≡◌, [], ◌∷◌, ◌<◌, ◌≤◌, length};
 ghost use Rattle.decimal.specs.Text.{decimal};
-ghost use Rattle.lines.specs.Line.{line_of, added, hex_byte, added_hex, is_control, added_byte, added_name};
+ghost use Rattle.lines.specs.Line.{IsInRoom, line_of, added, hex_byte, added_hex, is_control, added_byte, added_name};
 ghost use Rattle.lines.specs.Digits.{hex_digit_ascii};
 
 use crate::{Line, ROOM};
@@ -13,7 +13,8 @@ const NAME_ROOM: usize = 8000;
 impl Line {
     #[tactic(auto, unfolding(crate::specs::Line::line_of))]
     pub fn new() -> Line
-        ensures { line_of result ≡ [] }
+        ensures value { line_of result ≡ [] }
+        ensures in_room { IsInRoom result }
     {
         Line {
             text: [0u8; ROOM],
@@ -33,7 +34,8 @@ impl Line {
 
     // A part after the line, in its place, or nothing where it does not fit.
     fn push(&mut self, part: &[u8])
-        ensures { line_of self.new ≡ added (line_of self.old) part.now }
+        ensures value { line_of self.new ≡ added (line_of self.old) part.now }
+        ensures in_room { IsInRoom self.old → IsInRoom self.new }
     {
         let at = self.length;
         if ROOM < at {
@@ -48,7 +50,8 @@ impl Line {
 
     // The same, of a line that is handed on.
     pub fn add(mut self, part: &[u8]) -> Line
-        ensures { line_of result ≡ added (line_of self) part.now }
+        ensures value { line_of result ≡ added (line_of self) part.now }
+        ensures in_room { IsInRoom self → IsInRoom result }
     {
         self.push(part);
         self
@@ -56,14 +59,16 @@ impl Line {
 
     // Another line after it, or nothing where that does not fit.
     pub fn add_line(self, part: &Line) -> Line
-        ensures { line_of result ≡ added (line_of self) (line_of part.now) }
+        ensures value { line_of result ≡ added (line_of self) (line_of part.now) }
+        ensures in_room { IsInRoom self → IsInRoom result }
     {
         self.add(part.as_bytes())
     }
 
     // A number in decimal.
     pub fn add_number(self, x: u64) -> Line
-        ensures { line_of result ≡ added (line_of self) (decimal x) }
+        ensures value { line_of result ≡ added (line_of self) (decimal x) }
+        ensures in_room { IsInRoom self → IsInRoom result }
     {
         let digits = decimal::spell(x);
         self.add(&digits.text[digits.start..])
@@ -71,14 +76,16 @@ impl Line {
 
     // A name and a number.
     pub fn add_field(self, name: &[u8], x: u64) -> Line
-        ensures { line_of result ≡ added (added (line_of self) name.now) (decimal x) }
+        ensures value { line_of result ≡ added (added (line_of self) name.now) (decimal x) }
+        ensures in_room { IsInRoom self → IsInRoom result }
     {
         self.add(name).add_number(x)
     }
 
     // Bytes in hexadecimal.
     pub fn add_hex(self, bytes: &[u8]) -> Line
-        ensures { line_of result ≡ added_hex (line_of self) bytes.now }
+        ensures value { line_of result ≡ added_hex (line_of self) bytes.now }
+        ensures in_room { IsInRoom self → IsInRoom result }
     {
         let mut line = self;
         for byte in bytes {
@@ -89,7 +96,8 @@ impl Line {
 
     // A byte of a name, shown so that no terminal obeys it.
     fn push_byte(&mut self, byte: u8)
-        ensures { line_of self.new ≡ added_byte (line_of self.old) byte }
+        ensures value { line_of self.new ≡ added_byte (line_of self.old) byte }
+        ensures in_room { IsInRoom self.old → IsInRoom self.new }
     {
         if NAME_ROOM < self.length {
             return;
@@ -105,7 +113,8 @@ impl Line {
 
     // A name, as far as it leaves room for the rest of a message.
     pub fn add_name(self, name: &[u8]) -> Line
-        ensures { line_of result ≡ added_name (line_of self) name.now }
+        ensures value { line_of result ≡ added_name (line_of self) name.now }
+        ensures in_room { IsInRoom self → IsInRoom result }
     {
         let mut line = self;
         for byte in name {

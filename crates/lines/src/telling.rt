@@ -1,6 +1,6 @@
 // How far a run is, how fast it is, and how long it takes.
 ghost use Rattle.std.specs.Prelude.{◌≡◌};
-ghost use Rattle.lines.specs.Line.{line_of};
+ghost use Rattle.lines.specs.Line.{IsInRoom, line_of};
 ghost use Rattle.lines.specs.Texts.{percent_of, duration_text, share_text, pace_text, progress_text, forecast_text, anew_text, resumed_text, opening_text};
 
 use crate::Line;
@@ -25,7 +25,8 @@ fn percent(made: u64, all: u64) -> u64
 
 // Seconds, in two units at most.
 pub fn duration(seconds: u64) -> Line
-    ensures { line_of result ≡ duration_text seconds }
+    ensures value { line_of result ≡ duration_text seconds }
+    ensures in_room { IsInRoom result }
 {
     // No match on ranges: a proof cannot name which of them was taken.
     let line = Line::new();
@@ -48,7 +49,8 @@ pub fn duration(seconds: u64) -> Line
 
 // How many labels are made, of how many, and so how many in a hundred.
 fn share(made: u64, all: u64) -> Line
-    ensures { line_of result ≡ share_text made all }
+    ensures value { line_of result ≡ share_text made all }
+    ensures in_room { IsInRoom result }
 {
     Line::new()
         .add_field(b"labels ", made)
@@ -59,7 +61,8 @@ fn share(made: u64, all: u64) -> Line
 
 // How many labels are made a second, and how long the rest takes.
 fn pace(rate: u64, left: u64) -> Line
-    ensures { line_of result ≡ pace_text rate left }
+    ensures value { line_of result ≡ pace_text rate left }
+    ensures in_room { IsInRoom result }
 {
     Line::new()
         .add_field(b", ", rate)
@@ -70,7 +73,8 @@ fn pace(rate: u64, left: u64) -> Line
 
 // How far labelling is; the pace where it is known.
 pub fn progress(made: u64, all: u64, rate: u64, left: u64) -> Line
-    ensures { line_of result ≡ progress_text made all rate left }
+    ensures value { line_of result ≡ progress_text made all rate left }
+    ensures in_room { IsInRoom result }
 {
     let told = share(made, all);
     if rate == 0 {
@@ -82,7 +86,8 @@ pub fn progress(made: u64, all: u64, rate: u64, left: u64) -> Line
 
 // How long a depth takes at a pace.
 pub fn forecast(depth: u64, seconds: u64, rate: u64) -> Line
-    ensures { line_of result ≡ forecast_text depth seconds rate }
+    ensures value { line_of result ≡ forecast_text depth seconds rate }
+    ensures in_room { IsInRoom result }
 {
     Line::new()
         .add_field(b"depth ", depth)
@@ -94,7 +99,8 @@ pub fn forecast(depth: u64, seconds: u64, rate: u64) -> Line
 
 // A memory level that makes more labels anew for the openings than the tree has.
 pub fn anew(memory: u64, anew: u64, tree: u64) -> Line
-    ensures { line_of result ≡ anew_text memory anew tree }
+    ensures value { line_of result ≡ anew_text memory anew tree }
+    ensures in_room { IsInRoom result }
 {
     Line::new()
         .add_field(b"memory level ", memory)
@@ -105,7 +111,8 @@ pub fn anew(memory: u64, anew: u64, tree: u64) -> Line
 
 // A run goes on at a label.
 pub fn resumed_at(made: u64, all: u64) -> Line
-    ensures { line_of result ≡ resumed_text made all }
+    ensures value { line_of result ≡ resumed_text made all }
+    ensures in_room { IsInRoom result }
 {
     Line::new()
         .add_field(b"going on from label ", made)
@@ -114,7 +121,8 @@ pub fn resumed_at(made: u64, all: u64) -> Line
 
 // A run goes on with an opening.
 pub fn resumed_opening(opening: u64, challenges: u64) -> Line
-    ensures { line_of result ≡ opening_text opening challenges }
+    ensures value { line_of result ≡ opening_text opening challenges }
+    ensures in_room { IsInRoom result }
 {
     Line::new()
         .add_field(b"going on with opening ", opening)

@@ -1,6 +1,6 @@
 // The lines that the program prints.
 ghost use Rattle.std.specs.Prelude.{◌≡◌, ◌≤◌, length};
-ghost use Rattle.lines.specs.Line.{line_of};
+ghost use Rattle.lines.specs.Line.{IsInRoom, line_of};
 ghost use Rattle.lines.specs.Texts.{fact_text, bytes_text, accepted_text, rejected_text, clash_text};
 
 use crate::Line;
@@ -8,7 +8,8 @@ use crate::Line;
 // A name and a number.
 pub fn fact(name: &[u8], x: u64) -> Line
     requires { length name.now ≤ 1000 }
-    ensures { line_of result ≡ fact_text name.now x }
+    ensures value { line_of result ≡ fact_text name.now x }
+    ensures in_room { IsInRoom result }
 {
     Line::new().add_field(name, x).add(b"\n")
 }
@@ -16,13 +17,15 @@ pub fn fact(name: &[u8], x: u64) -> Line
 // A name and bytes in hexadecimal.
 pub fn fact_bytes(name: &[u8], bytes: &[u8]) -> Line
     requires { (length name.now ≤ 1000) × (length bytes.now ≤ 1000) }
-    ensures { line_of result ≡ bytes_text name.now bytes.now }
+    ensures value { line_of result ≡ bytes_text name.now bytes.now }
+    ensures in_room { IsInRoom result }
 {
     Line::new().add(name).add_hex(bytes).add(b"\n")
 }
 
 pub fn accepted(depth: u64, challenges: u64, nodes: u64) -> Line
-    ensures { line_of result ≡ accepted_text depth challenges nodes }
+    ensures value { line_of result ≡ accepted_text depth challenges nodes }
+    ensures in_room { IsInRoom result }
 {
     Line::new()
         .add_field(b"accepted depth ", depth)
@@ -32,7 +35,8 @@ pub fn accepted(depth: u64, challenges: u64, nodes: u64) -> Line
 }
 
 pub fn rejected(number: u64, opening: u64) -> Line
-    ensures { line_of result ≡ rejected_text number opening }
+    ensures value { line_of result ≡ rejected_text number opening }
+    ensures in_room { IsInRoom result }
 {
     Line::new()
         .add_field(b"refused ", number)
@@ -41,7 +45,8 @@ pub fn rejected(number: u64, opening: u64) -> Line
 }
 
 pub fn clash(first: u64, second: u64, level: u64) -> Line
-    ensures { line_of result ≡ clash_text first second level }
+    ensures value { line_of result ≡ clash_text first second level }
+    ensures in_room { IsInRoom result }
 {
     Line::new()
         .add_field(b"clash openings ", first)

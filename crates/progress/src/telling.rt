@@ -1,5 +1,6 @@
 // What is told, and when.
 ghost use Rattle.std.specs.Prelude.{◌≡◌, false};
+ghost use Rattle.lines.specs.Line.{IsInRoom};
 
 use crate::{Labels, Progress};
 use descriptors::{Stream, is_terminal, milliseconds};
@@ -50,7 +51,9 @@ impl<'a> Progress<'a> {
     }
 
     // Back to the line's start, and all behind it erased.
-    fn anew(&self) -> Line {
+    fn anew(&self) -> Line
+        ensures { IsInRoom result }
+    {
         if self.terminal {
             Line::new().add(b"\r\x1b[K")
         } else {

@@ -2,7 +2,7 @@
 use Rattle.drawing_text.proofs.InfoLaws.{numbers-told}
 use Rattle.drawing_text.proofs.facts.numbers_lines.Goals as goal
 
-pub returns : goal.returns
-returns c =
-    numbers-told _ _ _ c.add_line.ensures c.add_line-2.ensures c.fact.ensures
-    c.fact-2.ensures c.fact-3.ensures
+pub returns-clause-value : goal.returns-clause-value
+returns-clause-value c =
+    numbers-told _ _ _ c.add_line.ensures.value c.add_line-2.ensures.value c.fact.ensures.value
+    c.fact-2.ensures.value c.fact-3.ensures.value

@@ -7,12 +7,12 @@ pub labels_lines-requires : goal.labels_lines-requires
 labels_lines-requires c =
     (c.requires.0, omega (arith, c.requires.1, c.if-file-whole.true))
 
-pub returns-then-file-whole : goal.returns-then-file-whole
-returns-then-file-whole c =
-    rest-whole c.args.file.now c.args.whole c.args.at c.requires.1 c.if-file-whole.true c.add_line.ensures
-    c.labels_lines.ensures c.fact-size.ensures
+pub returns-then-file-whole-clause-value : goal.returns-then-file-whole-clause-value
+returns-then-file-whole-clause-value c =
+    rest-whole c.args.file.now c.args.whole c.args.at c.requires.1 c.if-file-whole.true c.add_line.ensures.value
+    c.labels_lines.ensures.value c.fact-size.ensures.value
 
-pub returns : goal.returns
-returns c =
+pub returns-clause-value : goal.returns-clause-value
+returns-clause-value c =
     let a = c.args in
-    rest-other a.file.now a.whole a.at _ c.if-file-whole.false c.fact-size.ensures
+    rest-other a.file.now a.whole a.at _ c.if-file-whole.false c.fact-size.ensures.value

@@ -2,5 +2,5 @@
 use Rattle.drawing_text.proofs.TwoLines.{one}
 use Rattle.drawing_text.proofs.sentences.sentence.Goals as goal
 
-pub returns : goal.returns
-returns c = one c.new.ensures c.add.ensures c.requires
+pub returns-clause-value : goal.returns-clause-value
+returns-clause-value c = one c.new.ensures.value c.add.ensures.value c.requires

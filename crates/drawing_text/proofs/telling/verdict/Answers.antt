@@ -2,7 +2,7 @@
 use Rattle.drawing_text.proofs.TellingLaws.{verdict-told}
 use Rattle.drawing_text.proofs.telling.verdict.Goals as goal
 
-pub returns : goal.returns
-returns c =
-    verdict-told _ _ _ _ _ c.add_line.ensures c.add_line-2.ensures c.edition_line.ensures c.wanted.ensures
-    c.judged.ensures
+pub returns-clause-value : goal.returns-clause-value
+returns-clause-value c =
+    verdict-told _ _ _ _ _ c.add_line.ensures.value c.add_line-2.ensures.value c.edition_line.ensures.value c.wanted.ensures.value
+    c.judged.ensures.value

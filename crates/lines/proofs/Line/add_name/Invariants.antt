@@ -1,8 +1,11 @@
--- The invariant: what is left to show gives the same line.
+-- The invariant: what is left to show gives the same line, and a line in its room stays there.
 use mathlib.Core.Path.{◌≡◌}
 use lib.ListN.{drop}
-use Rattle.lines.specs.Line.{line_of, added_name}
+use Rattle.lines.specs.Line.{IsInRoom, line_of, added_name}
 use Rattle.lines.proofs.Line.add_name.Given as goal
 
 abbrev pub invariant-loop-byte : goal.invariant-loop-byte
-invariant-loop-byte l = added_name (line_of l.line) (drop l.byte-index l.name) ≡ added_name (line_of l.initial.line) l.name
+invariant-loop-byte l = record {
+  same : added_name (line_of l.line) (drop l.byte-index l.name) ≡ added_name (line_of l.initial.line) l.name;
+  in_room : IsInRoom l.initial.line → IsInRoom l.line;
+}

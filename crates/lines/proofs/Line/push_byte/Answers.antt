@@ -20,28 +20,28 @@ within : (line : Line) → line.length ≤ 8000 → length (line_of line) ≤ 80
 unfolding line_of
 within line h = omega (arith, length-take line.length line.text, h)
 
-pub returns-then-self-gt-NAME_ROOM : goal.returns-then-self-gt-NAME_ROOM
-returns-then-self-gt-NAME_ROOM c =
+pub returns-then-self-gt-NAME_ROOM-clause-value : goal.returns-then-self-gt-NAME_ROOM-clause-value
+returns-then-self-gt-NAME_ROOM-clause-value c =
     byte_full _ c.args.byte (beyond c.args.self.now (search rules) c.if-self-gt-NAME_ROOM.true)
 
-pub returns-then-is_control : goal.returns-then-is_control
+pub returns-then-is_control-clause-value : goal.returns-then-is_control-clause-value
 unfolding shown_byte
-returns-then-is_control c =
+returns-then-is_control-clause-value c =
     let shown : 92 ∷ 120 ∷ hex_byte c.args.byte ≡ shown_byte c.args.byte = rw (sym c.is_control.ensures ∙ c.if-is_control.true) in
-    c.push.ensures
+    c.push.ensures.value
     ∙ byte_added _ _ c.args.byte (within c.args.self.now c.if-self-gt-NAME_ROOM.false) (c.escape.ensures ∙ shown)
 
-pub returns-then-byte-eq92 : goal.returns-then-byte-eq92
+pub returns-then-byte-eq92-clause-value : goal.returns-then-byte-eq92-clause-value
 unfolding shown_byte
-returns-then-byte-eq92 c =
+returns-then-byte-eq92-clause-value c =
     let shown : 92 ∷ 92 ∷ [] ≡ shown_byte c.args.byte = rw c.if-byte-eq92.true in
-    c.push-then-byte-eq92.ensures
+    c.push-then-byte-eq92.ensures.value
     ∙ byte_added _ _ c.args.byte (within c.args.self.now c.if-self-gt-NAME_ROOM.false) shown
 
-pub returns-else-byte-eq92 : goal.returns-else-byte-eq92
+pub returns-else-byte-eq92-clause-value : goal.returns-else-byte-eq92-clause-value
 unfolding shown_byte
-returns-else-byte-eq92 c =
+returns-else-byte-eq92-clause-value c =
     let shown : c.args.byte ∷ [] ≡ shown_byte c.args.byte =
     rw (sym c.is_control.ensures ∙ c.if-is_control.false, ne_eqb _ 92 c.if-byte-eq92.false) in
-    c.push-else-byte-eq92.ensures
+    c.push-else-byte-eq92.ensures.value
     ∙ byte_added _ _ c.args.byte (within c.args.self.now c.if-self-gt-NAME_ROOM.false) shown

@@ -4,8 +4,9 @@ use Rattle.lines.proofs.LineLaws.{three_laid}
 use Rattle.lines.specs.Texts.{anew_text}
 use Rattle.lines.proofs.telling.anew.Goals as goal
 
-pub returns : goal.returns
+pub returns-clause-value : goal.returns-clause-value
 unfolding anew_text
-returns c =
-    three_laid _ _ _ _ _ _ _ c.new.ensures c.add_field.ensures c.add_field-2.ensures c.add_field-3.ensures c.add.ensures (omega arith)
+returns-clause-value c =
+    three_laid _ _ _ _ _ _ _
+    c.new.ensures.value c.add_field.ensures.value c.add_field-2.ensures.value c.add_field-3.ensures.value c.add.ensures.value (omega arith)
     (omega arith) (omega arith) (omega arith)

@@ -8,14 +8,14 @@ use Rattle.lines.specs.Line.{added}
 use Rattle.lines.specs.Texts.{progress_text}
 use Rattle.lines.proofs.telling.progress.Goals as goal
 
-pub returns-then-rate-eq0 : goal.returns-then-rate-eq0
+pub returns-then-rate-eq0-clause-value : goal.returns-then-rate-eq0-clause-value
 unfolding progress_text
-returns-then-rate-eq0 c = rw (eq-eqb _ 0 c.if-rate-eq0.true) (c.share-told.ensures ∙ sym (append-nil _))
+returns-then-rate-eq0-clause-value c = rw (eq-eqb _ 0 c.if-rate-eq0.true) (c.share-told.ensures.value ∙ sym (append-nil _))
 
-pub returns-else-rate-eq0 : goal.returns-else-rate-eq0
+pub returns-else-rate-eq0-clause-value : goal.returns-else-rate-eq0-clause-value
 unfolding progress_text
-returns-else-rate-eq0 c =
+returns-else-rate-eq0-clause-value c =
     let a = c.args in
     rw (ne_eqb _ 0 c.if-rate-eq0.false)
-    (more _ 100 (record { out = c.share-told.ensures; size = share-short a.made a.all })
-    (c.add_line.ensures ∙ ap (added _) c.pace.ensures) (pace-short a.rate a.left) (omega arith)).out
+    (more _ 100 (record { out = c.share-told.ensures.value; size = share-short a.made a.all })
+    (c.add_line.ensures.value ∙ ap (added _) c.pace.ensures.value) (pace-short a.rate a.left) (omega arith)).out

@@ -6,8 +6,8 @@ use Rattle.lines.proofs.LineLaws.{first-field, more-field}
 use Rattle.lines.specs.Texts.{opening_text}
 use Rattle.lines.proofs.telling.resumed_opening.Goals as goal
 
-pub returns : goal.returns
+pub returns-clause-value : goal.returns-clause-value
 unfolding opening_text
-returns c =
-    (more-field _ _ (first-field _ _ c.new.ensures c.add_field.ensures (omega arith)) c.add_field-2.ensures (omega arith) (omega arith)).out
+returns-clause-value c =
+    (more-field _ _ (first-field _ _ c.new.ensures.value c.add_field.ensures.value (omega arith)) c.add_field-2.ensures.value (omega arith) (omega arith)).out
     ∙ sym (append-nil _)
